@@ -218,16 +218,26 @@ static int write_to(int file, int signal)
     return out->fault;
 }
 
+// Whether it is the file that the recorder's rings lie in.
+static bool is_own_file(const struct stat *found)
+{
+    const struct stat *own = &flight_recorder.file_found;
+    return flight_recorder.file && found->st_dev == own->st_dev && found->st_ino == own->st_ino;
+}
+
 // Writes a new file of another name, the path and a ~, which gets the path's name when it is whole. So what is at the
 // path is whole, even if the process is killed meanwhile. One that isn't whole stays only if there is none at the path.
 static int write_new(const char *path, bool has_file, int signal)
 {
     static char other[PATH_MAX];
+    struct stat found;
     size_t len = strnlen(path, sizeof other);
     if (len + 2 > sizeof other)
         return ENAMETOOLONG;
     memcpy(other, path, len);
     memcpy(other + len, "~", 2);
+    if (!lstat(other, &found) && is_own_file(&found))
+        return EEXIST;
     (void)unlink(other);
     int file = open_file(other, O_CREAT | O_EXCL);
     if (file < 0)
@@ -245,8 +255,7 @@ static int write_dump(const char *path, int signal)
 {
     struct stat found;
     bool is_there = !stat(path, &found);
-    const struct stat *own = flight_recorder.file ? &flight_recorder.file_found : NULL;
-    if (is_there && own && found.st_dev == own->st_dev && found.st_ino == own->st_ino)
+    if (is_there && is_own_file(&found))
         return EEXIST;
     if (!is_there || S_ISREG(found.st_mode))
         return write_new(path, is_there, signal);

@@ -4,6 +4,7 @@
 #include "recorder.h"
 
 #include <fcntl.h>
+#include <stdlib.h>
 #include <sys/mman.h>
 
 static uint64_t *word(size_t at)
@@ -134,12 +135,19 @@ void flight_drop_file(const char *path)
     (void)unlink(path);
 }
 
-// (A TRACE that the fork interrupted goes on in the child, as well: its stores are the child's alone.)
+// Puts memory of this process alone in the file's place.
+static bool replace_file(int protection)
+{
+    int flags = MAP_PRIVATE | MAP_ANONYMOUS | MAP_FIXED | MAP_NORESERVE;
+    return mmap(flight_recorder.file, flight_recorder.file_len, protection, flags, -1, 0) != MAP_FAILED;
+}
+
+// (A TRACE that the fork interrupted goes on in the child, as well: its stores are the child's alone. If there is no
+// memory for them, they end the child, and whatever happens, they don't go to its parent's file.)
 void flight_leave_file(void)
 {
-    int flags = MAP_PRIVATE | MAP_ANONYMOUS | MAP_FIXED;
-    if (flight_recorder.file)
-        (void)mmap(flight_recorder.file, flight_recorder.file_len, PROT_READ | PROT_WRITE, flags, -1, 0);
+    if (flight_recorder.file && !replace_file(PROT_READ | PROT_WRITE) && !replace_file(PROT_NONE))
+        _exit(EXIT_FAILURE);
     flight_recorder.file = NULL;
 }
 

@@ -21,6 +21,8 @@ pthread_mutex_t flight_lock = PTHREAD_MUTEX_INITIALIZER;
 static pthread_once_t once = PTHREAD_ONCE_INIT;
 static pthread_key_t key;
 static int no_key; // why there is none
+// The signals that a thread which forks had blocked.
+static _Thread_local __attribute__((tls_model("initial-exec"))) sigset_t unforked;
 
 // ---- Leases.
 
@@ -210,6 +212,18 @@ int flight_name(const char *name)
 
 // ---- Start and stop.
 
+// A fork begins. Until the child has left the file, no handler may record there: the C library lets signals arrive in
+// the child before it calls start_child.
+static void before_fork(void)
+{
+    block_signals(&unforked);
+}
+
+static void after_fork(void)
+{
+    unblock_signals(&unforked);
+}
+
 // The child of a fork has this thread alone, which has no slot: the rings may be amid calls of threads that are gone.
 static void start_child(void)
 {
@@ -221,12 +235,13 @@ static void start_child(void)
     flight_recorder.memory = NULL;
     flight_leave_file();
     (void)pthread_mutex_init(&flight_lock, NULL);
+    after_fork();
 }
 
 static void start_process(void)
 {
     no_key = pthread_key_create(&key, leave);
-    (void)pthread_atfork(NULL, NULL, start_child);
+    (void)pthread_atfork(before_fork, after_fork, start_child);
 }
 
 // The key is made early, since the C library takes no memory for the values of a process's first keys alone: the first

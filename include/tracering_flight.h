@@ -25,13 +25,14 @@
 // that blocks it, a dump lacks those newest events, and says how many. The signal's handler interrupts calls that wait:
 // nanosleep, poll and others then answer EINTR. The signal belongs to the recorder until flight_stop.
 //
-// Files. With `file`, all that a dump would have lies in that file from flight_start on. So after SIGKILL, a crash, or
-// whatever else ends the process, `tracering-flight show FILE` shows each event whose TRACE had returned, unless it was
-// overwritten, and counted; it may also be called while the program runs. Then no crash needs to be handled:
-// flight_dump_on_crash is for programs without a file. A TRACE takes no longer, but where the kernel writes the file
-// back to a disk its first store to a page may wait for that: a file in /dev/shm isn't written anywhere. A crash of the
-// machine leaves what was written back. The file has room for the sites of some 10,000 TRACE; the arguments of further
-// ones are shown as bytes. Of a forked child nothing is in its parent's file.
+// Files. With `file`, all that a first dump would have lies in that file from flight_start on. So after SIGKILL, a
+// crash, or whatever else ends the process, `tracering-flight show FILE` shows each event whose TRACE had returned, but
+// for those that it counts: overwritten, refused, or taken by an earlier flight_dump, whose file alone has them. It may
+// also be called while the program runs. Then no crash needs to be handled, but the file doesn't say which signal ended
+// the process: flight_dump_on_crash is for programs without a file. A TRACE takes no longer, but where the kernel
+// writes the file back to a disk its first store to a page may wait for that: a file in /dev/shm isn't written
+// anywhere. A crash of the machine leaves what was written back. The file has room for the sites of some 10,000 TRACE;
+// the arguments of further ones are shown as bytes. Of a forked child nothing is in its parent's file.
 //
 // Arguments. Integers, enumerations, floating numbers, pointers and texts, 8 at most. A `char *` is copied if its
 // conversion is %s: to its end, its precision or 255 bytes, whichever comes first. For %p its address is recorded, as
@@ -83,7 +84,7 @@ struct flight_config {
 };
 
 // Starts the recorder: all its memory is taken here. Null stands for all defaults.
-// If there is something at the path of `file`, it is named PATH~ first, and what had that name is gone: so a program
+// If there is a file at the path of `file`, it is named PATH~ first, and what had that name is gone: so a program
 // that is begun anew keeps what it left. The new file is readable by its owner alone, and its blocks are allocated.
 // EALREADY: it runs already. EINVAL: a number is out of its range, or `signal` is one of those of a crash. EBUSY: the
 // program has a handler of `signal`. EEXIST: what is at the path of `file` is no regular file. ENOMEM. And what
@@ -91,8 +92,9 @@ struct flight_config {
 // (LeakSanitizer doesn't look into all of this memory: unless flight_stop is called, it reports the rings as lost.)
 int flight_start(const struct flight_config *config);
 
-// Stops it and releases its memory. Its file says so, and stays. No thread may be amid a TRACE; one that ends, or
-// answers a dump late, is waited for, up to five seconds.
+// Stops it and releases its memory. Its file says so, and stays; of each ring the page that is written is closed, which
+// in a full ring overwrites the oldest page. No thread may be amid a TRACE; one that ends, or answers a dump late, is
+// waited for, up to five seconds.
 // ENODEV: none runs. EBUSY: a dump is made. ETIMEDOUT: such a thread wasn't done by then, and the recorder goes on.
 int flight_stop(void);
 
@@ -103,8 +105,9 @@ int flight_stop(void);
 // pipe or another file at PATH that holds no bytes is written as it is. Processes that dump at once need paths of their
 // own.
 // All signals of the thread are blocked meanwhile. A request to cancel the thread isn't acted on.
-// ENODEV: no recorder runs. EBUSY: another dump is made. EEXIST: the recorder's file is there. And what open, write,
-// close and rename answer: then the next dump has the same events, as many of them as `keep` says, and the newer ones.
+// ENODEV: no recorder runs. EBUSY: another dump is made. EEXIST: the recorder's file is there, or at PATH~. And what
+// open, write, close and rename answer: then the next dump has the same events, as many of them as `keep` says, and the
+// newer ones.
 int flight_dump(const char *path);
 
 // From now on SIGSEGV, SIGBUS, SIGILL, SIGFPE, SIGABRT and SIGTERM dump to this path, which is copied, and then do what

@@ -11,24 +11,23 @@
 // `tracering recover ring.0` prints what was written. examples/c_recorder/survive.c is a program to copy.
 //
 // Regions. A ring of N pages of S bytes of data has N + 1 slots in its region, one for each page and one for the
-// reader's. Records are written there and nowhere else: a call on such a ring takes no longer than on any other. A slot
-// says how much of it is whole in one word, its commit. That is zero from before the page's first byte until the first
-// of its records is whole, and is stored whenever the last frame is completed: so what a kill interrupts is there
-// whole, or not at all. docs/FORMATS.md, "Regions", has the bytes.
+// reader's. Records are written there and nowhere else: a call on such a ring takes no longer than on any other, but
+// that the first store to a page of a file which the kernel writes back to its disk may wait for that. A slot says how
+// much of it is whole in one word, its commit. That is zero from before the page's first byte until the first of its
+// records is whole, and is stored whenever the last frame is completed: so what a kill interrupts is there whole, or
+// not at all. docs/FORMATS.md, "Regions", has the bytes.
 //
-// Survivors. Each record that was complete when nothing was begun, unless its page was overwritten, or given to the
-// reader: of these the last page is there until the reader's next take. Records that are nested in one that was never
-// completed are lost with it. A file's bytes are
-// those of the machine's page cache: they outlive the process, and a crash of the machine only if they were written back
-// (msync).
+// Survivors. What is left is each record that was complete when nothing was begun, unless its page was overwritten, or
+// given to the reader; the page that was given last is there until the reader's next take. Records that are nested in
+// one that was never completed are lost with it. A file's bytes are those of the machine's page cache: they outlive the
+// process, and a crash of the machine only if they were written back (msync).
 //
 // Order. That the stores of a call are seen in their order is tested, and not proved: after a kill it follows from the
 // order of instructions, and another thread sees it on x86-64, which stores in order.
 //
 // Lengths are in bytes. A region begins at a multiple of 64 bytes, as all that is mapped here does. It stays mapped
-// until both ends of its ring are freed or settled; one that was abandoned is never freed, and its region can't be used
-// again. After that it may be read, unmapped, or have another ring. A forked child makes no call on a ring of its
-// parent's.
+// until both ends of its ring are freed or settled; then it may be unmapped, or have another ring. An end that was
+// abandoned is never freed, and its region can't be used again. A forked child makes no call on a ring of its parent's.
 #ifndef TRACERING_REGION_H
 #define TRACERING_REGION_H
 
@@ -64,13 +63,13 @@ size_t tracering_region_size(size_t pages, size_t size);
 int32_t tracering_raw_new_in(struct tracering_held *, struct tracering_held *, uint32_t, size_t, size_t, uint64_t,
     void *, size_t);
 
-// A new ring, as `tracering_new` makes it, whose pages lie in the `len` bytes from `region` on. What was there before is
-// gone. All other memory of the ring is malloc's. `stream` is an id for its records, one for each ring and each run
+// A new ring, as `tracering_new` makes it, whose pages lie in the `len` bytes from `region` on. What was there before
+// is gone. All other memory of the ring is malloc's. `stream` is an id for its records, one for each ring and each run
 // (docs/FORMATS.md, "Streams of parcels"). The region becomes one last, when all else is stored: a process that is
 // killed in this call leaves none.
 // IN_USE, BAD_CPU, BAD_SIZE as new answers them. BAD_REGION: there are fewer bytes than `tracering_region_size` says,
 // they begin at no multiple of TRACERING_REGION_ALIGN, or an end of another ring in them isn't freed. Then nothing is
-// changed. NO_MEMORY: the handles aren't changed, and the bytes may be, and are no region.
+// changed. NO_MEMORY: the handles aren't changed; the bytes may be, and then are no region.
 static inline int32_t tracering_new_in(struct tracering_writer *w, struct tracering_reader *r, uint32_t cpu,
     size_t pages, size_t size, uint64_t stream, void *region, size_t len)
 {
@@ -92,8 +91,8 @@ static inline int32_t tracering_new_in(struct tracering_writer *w, struct tracer
 
 // A new file of this name, of mode 0600, mapped as shared; its blocks are allocated, so that no write finds the disk
 // full. If there is a file of this name, it is named PATH~ first, and what had that name is gone: so a program that is
-// begun anew keeps what it left when it was killed. What is there and is no regular file is left alone (EEXIST). EINVAL:
-// `len` is 0. ENOSPC and others: there is no new file then, but the former one may be PATH~ already.
+// begun anew keeps what it left when it was killed. What is there and is no regular file is left alone (EEXIST).
+// EINVAL: `len` is 0. ENOSPC and others: there is no new file then, but the former one may be PATH~ already.
 void *tracering_region_file(const char *path, size_t len);
 
 // A new object of POSIX shared memory, of mode 0600; `name` begins with a slash. On Linux it is the file /dev/shm/NAME,
@@ -107,8 +106,8 @@ void *tracering_region_shared(const char *name, size_t len);
 void *tracering_region_huge(size_t len, bool *is_huge);
 
 // The file, or the object of shared memory on Linux, of this name, mapped to be read only; `len` is set to how many
-// bytes it has. It may be a region that another process writes: copy that first (`tracering_region_copy`). EINVAL: it has
-// none, or is no regular file.
+// bytes it has. It may be a region that another process writes: copy that first (`tracering_region_copy`). EINVAL: it
+// has none, or is no regular file.
 const void *tracering_region_open(const char *path, size_t *len);
 
 // Unmaps what one of these mapped: 0, or -1 and sets errno. EBUSY: an end of a ring in it isn't freed. The file or
@@ -122,21 +121,22 @@ int tracering_region_unmap(const void *region, size_t len);
 int32_t tracering_region_about(const void *region, size_t len, struct tracering_region *about);
 
 // Copies the region of a ring that another thread or process writes, as it is now, so that the copy can be read; the
-// writer isn't held up. Each slot's copy is whole: it has the records that were complete when it was copied. A slot that
-// was overwritten meanwhile is empty in the copy. All records that were complete before the call are in the copy, but
-// for pages that were overwritten before or meanwhile.
-// `copy` has room for as many bytes as the region has (`len` of `tracering_region_about`). BAD_REGION: as there, or the
-// region begins at no multiple of TRACERING_REGION_ALIGN. NO_ROOM: `copy_len` is too small. Then nothing is copied.
+// writer isn't held up. Each slot's copy is whole: it has the records that were complete when it was copied. A slot
+// that was overwritten meanwhile is empty in the copy. All records that were complete before the call are in the copy,
+// but for pages that were overwritten, or given to the reader, before or meanwhile.
+// `copy` has room for as many bytes as the region has (`len` of `tracering_region_about`). NO_ROOM: `copy_len` is too
+// small. BAD_REGION: as there, or the region begins at no multiple of TRACERING_REGION_ALIGN; then nothing is copied,
+// as with NO_ROOM. Or another ring, of another stream, was made there meanwhile; then the copy is no region.
 int32_t tracering_region_copy(const void *region, size_t len, void *copy, size_t copy_len);
 
 // What slot `slot` (from 0 on) of a copy, or of a region that nothing writes any more, has: `bytes` is set to where in
 // the region its parcel begins, with nothing missing before it, and `bytes_len` to how many bytes that has:
-// `tracering_collector_add` and `tracering_pack` take it. The slots are in no order of time, and the page that the reader
-// was given last may be among them.
-// EMPTY: it has no record, or only such as end below `taken`: they were taken before, or are overwritten. END: there are
-// fewer slots. BAD_REGION: as `tracering_region_about`. BAD_CPU, BAD_IMAGE_SIZE, MISSED_DIFFERS: the slot is damaged: it
-// has another CPU than the region, commits more bytes than a page has, or says that records were missed. (What else may
-// be damaged, the call that takes the parcel answers.) If it answers anything but DONE, nothing is set.
+// `tracering_collector_add` and `tracering_pack` take it. The slots are in no order of time, and the page that the
+// reader was given last may be among them.
+// EMPTY: it has nothing, or is a page that ends below `taken`: that was taken before, or is overwritten. END: there are
+// fewer slots. BAD_REGION: as `tracering_region_about`. BAD_CPU, BAD_IMAGE_SIZE, MISSED_DIFFERS: the slot is damaged:
+// it has another CPU than the region, commits more bytes than a page has, or says that records were missed. (What else
+// may be damaged, the call that takes the parcel answers.) If it answers anything but DONE, nothing is set.
 int32_t tracering_region_slot(const void *region, size_t len, size_t slot, const void **bytes, size_t *bytes_len);
 
 #ifdef __cplusplus

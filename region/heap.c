@@ -16,95 +16,96 @@ void rattle_dealloc(void *at, size_t size, size_t align);
 
 // A region that has bodies, or an entry that another one may use. Entries are never released, so that a thread which
 // looks at them needs no lock. Of one that is being changed, or was, nobody holds a body.
-struct home {
-    struct home *next;
+struct used_region {
+    struct used_region *next;
     _Atomic uint64_t changes; // odd amid a change of the two below
     _Atomic uintptr_t begin, end;
     _Atomic size_t holders; // the bodies, and who is filling the region; 0: the entry is free
 };
 
-static _Atomic(struct home *) homes;
+static _Atomic(struct used_region *) used_regions;
 // How many regions have bodies.
-static _Atomic size_t lived_in;
+static _Atomic size_t used_count;
 
 static _Thread_local __attribute__((tls_model("initial-exec"))) struct filling *current;
 
 // The stores are seen in this order.
-static void set_bounds(struct home *home, uintptr_t begin, uintptr_t end)
+static void set_bounds(struct used_region *region, uintptr_t begin, uintptr_t end)
 {
-    uint64_t changes = atomic_load_explicit(&home->changes, memory_order_relaxed);
-    atomic_store_explicit(&home->changes, changes + 1, memory_order_relaxed);
-    atomic_store_explicit(&home->begin, begin, memory_order_release);
-    atomic_store_explicit(&home->end, end, memory_order_release);
-    atomic_store_explicit(&home->changes, changes + 2, memory_order_release);
+    uint64_t changes = atomic_load_explicit(&region->changes, memory_order_relaxed);
+    atomic_store_explicit(&region->changes, changes + 1, memory_order_relaxed);
+    atomic_store_explicit(&region->begin, begin, memory_order_release);
+    atomic_store_explicit(&region->end, end, memory_order_release);
+    atomic_store_explicit(&region->changes, changes + 2, memory_order_release);
 }
 
 // Whether it has a byte between the two. Of an entry that is changed meanwhile it is not known, and no.
-static bool touches(struct home *home, uintptr_t begin, uintptr_t end)
+static bool touches(struct used_region *region, uintptr_t begin, uintptr_t end)
 {
-    uint64_t changes = atomic_load_explicit(&home->changes, memory_order_acquire);
-    uintptr_t first = atomic_load_explicit(&home->begin, memory_order_acquire);
-    uintptr_t after = atomic_load_explicit(&home->end, memory_order_acquire);
-    bool is_stable = !(changes & 1) && atomic_load_explicit(&home->changes, memory_order_relaxed) == changes;
+    uint64_t changes = atomic_load_explicit(&region->changes, memory_order_acquire);
+    uintptr_t first = atomic_load_explicit(&region->begin, memory_order_acquire);
+    uintptr_t after = atomic_load_explicit(&region->end, memory_order_acquire);
+    bool is_stable = !(changes & 1) && atomic_load_explicit(&region->changes, memory_order_relaxed) == changes;
     return is_stable && first < end && begin < after;
 }
 
-static struct home *find(uintptr_t begin, uintptr_t end, const struct home *but)
+static struct used_region *find(uintptr_t begin, uintptr_t end, const struct used_region *but)
 {
-    struct home *home = atomic_load_explicit(&homes, memory_order_acquire);
-    while (home && (home == but || !touches(home, begin, end)))
-        home = home->next;
-    return home;
+    struct used_region *region = atomic_load_explicit(&used_regions, memory_order_acquire);
+    while (region && (region == but || !touches(region, begin, end)))
+        region = region->next;
+    return region;
 }
 
 // An entry of which nobody else knows, held once.
-static struct home *claim(void)
+static struct used_region *claim(void)
 {
-    for (struct home *home = atomic_load_explicit(&homes, memory_order_acquire); home; home = home->next) {
+    struct used_region *region = atomic_load_explicit(&used_regions, memory_order_acquire);
+    for (; region; region = region->next) {
         size_t none = 0;
-        if (atomic_compare_exchange_strong(&home->holders, &none, 1))
-            return home;
+        if (atomic_compare_exchange_strong(&region->holders, &none, 1))
+            return region;
     }
-    struct home *home = calloc(1, sizeof *home);
-    if (!home)
+    region = calloc(1, sizeof *region);
+    if (!region)
         return NULL;
-    atomic_init(&home->holders, 1);
-    home->next = atomic_load(&homes);
-    while (!atomic_compare_exchange_weak(&homes, &home->next, home)) {
+    atomic_init(&region->holders, 1);
+    region->next = atomic_load(&used_regions);
+    while (!atomic_compare_exchange_weak(&used_regions, &region->next, region)) {
     }
-    return home;
+    return region;
 }
 
 // One holder less. The last one is alone with the entry.
-static void leave(struct home *home)
+static void leave(struct used_region *region)
 {
-    size_t holders = atomic_load(&home->holders);
+    size_t holders = atomic_load(&region->holders);
     while (holders > 1)
-        if (atomic_compare_exchange_weak(&home->holders, &holders, holders - 1))
+        if (atomic_compare_exchange_weak(&region->holders, &holders, holders - 1))
             return;
-    set_bounds(home, 0, 0);
-    atomic_fetch_sub(&lived_in, 1);
-    atomic_store(&home->holders, 0);
+    set_bounds(region, 0, 0);
+    atomic_fetch_sub(&used_count, 1);
+    atomic_store(&region->holders, 0);
 }
 
-bool tracering_heap_is_lived_in(const void *begin, size_t len)
+bool tracering_heap_has_bodies(const void *begin, size_t len)
 {
-    return atomic_load(&lived_in) && find((uintptr_t)begin, (uintptr_t)begin + len, NULL);
+    return atomic_load(&used_count) && find((uintptr_t)begin, (uintptr_t)begin + len, NULL);
 }
 
 int tracering_heap_begin(struct filling *filling, void *begin, size_t len)
 {
-    struct home *home = claim();
-    if (!home)
+    struct used_region *region = claim();
+    if (!region)
         return 0;
-    set_bounds(home, (uintptr_t)begin, (uintptr_t)begin + len);
+    set_bounds(region, (uintptr_t)begin, (uintptr_t)begin + len);
     // (Of two threads that fill the same memory, the one that counts itself later sees the other.)
-    atomic_fetch_add(&lived_in, 1);
-    if (find((uintptr_t)begin, (uintptr_t)begin + len, home)) {
-        leave(home);
+    atomic_fetch_add(&used_count, 1);
+    if (find((uintptr_t)begin, (uintptr_t)begin + len, region)) {
+        leave(region);
         return -1;
     }
-    filling->home = home;
+    filling->region = region;
     current = filling;
     return 1;
 }
@@ -112,10 +113,11 @@ int tracering_heap_begin(struct filling *filling, void *begin, size_t len)
 void tracering_heap_end(struct filling *filling)
 {
     current = NULL;
-    leave(filling->home);
+    leave(filling->region);
 }
 
-// The next slot, if a body is what is asked for. (No other text of one byte's alignment has exactly that length.)
+// The next slot, if a body is what is asked for. (Nothing else of one byte's alignment that is asked for meanwhile has
+// exactly that length.)
 static void *next_slot(size_t size, size_t align)
 {
     struct filling *filling = current;
@@ -124,14 +126,14 @@ static void *next_slot(size_t size, size_t align)
     void *slot = filling->next;
     filling->next += filling->stride;
     filling->left--;
-    atomic_fetch_add(&filling->home->holders, 1);
+    atomic_fetch_add(&filling->region->holders, 1);
     memset(slot, 0, filling->stride);
     return slot;
 }
 
-static struct home *home_of(const void *at)
+static struct used_region *region_of(const void *at)
 {
-    if (!atomic_load_explicit(&lived_in, memory_order_relaxed))
+    if (!atomic_load_explicit(&used_count, memory_order_relaxed))
         return NULL;
     return find((uintptr_t)at, (uintptr_t)at + 1, NULL);
 }
@@ -144,9 +146,9 @@ struct given tracering_heap_alloc(size_t size, size_t align)
 
 void tracering_heap_dealloc(void *at, size_t size, size_t align)
 {
-    struct home *home = home_of(at);
-    if (home)
-        leave(home);
+    struct used_region *region = region_of(at);
+    if (region)
+        leave(region);
     else
         rattle_dealloc(at, size, align);
 }
@@ -154,13 +156,13 @@ void tracering_heap_dealloc(void *at, size_t size, size_t align)
 // (No body grows. If one did, it would move to malloc's memory.)
 struct given tracering_heap_realloc(void *at, size_t old_size, size_t size, size_t align)
 {
-    struct home *home = home_of(at);
-    if (!home)
+    struct used_region *region = region_of(at);
+    if (!region)
         return rattle_realloc(at, old_size, size, align);
     struct given moved = rattle_alloc(size, align);
     if (moved.is_given) {
         memcpy(moved.at, at, old_size < size ? old_size : size);
-        leave(home);
+        leave(region);
     }
     return moved;
 }

@@ -18,7 +18,7 @@ struct filling {
     size_t stride; // how many bytes from slot to slot
     size_t body;   // how many bytes are asked for
     size_t left;
-    struct home *home;
+    struct used_region *region;
 };
 
 // From here on the thread's bodies are the slots of this memory: 1. 0: there is no memory to note that; -1: a ring lies
@@ -27,7 +27,7 @@ int tracering_heap_begin(struct filling *filling, void *begin, size_t len);
 void tracering_heap_end(struct filling *filling);
 
 // Whether a body lies in this memory.
-bool tracering_heap_is_lived_in(const void *begin, size_t len);
+bool tracering_heap_has_bodies(const void *begin, size_t len);
 
 // What the proved code calls.
 struct given tracering_heap_alloc(size_t size, size_t align);

@@ -19,6 +19,20 @@ static void put_word(void *at, size_t word, uint64_t value)
     memcpy((unsigned char *)at + word * sizeof value, &value, sizeof value);
 }
 
+// Each load is done before the next one. (The writer stores plainly, or lets this thread see no value before it is
+// stored: on x86-64 all stores are seen in their order.)
+static uint64_t load(const uint64_t *at)
+{
+    return __atomic_load_n(at, __ATOMIC_ACQUIRE);
+}
+
+// Reads the words of a region's header. (Where a ring can write, they are loaded.)
+static void read_header(const void *region, uint64_t *header)
+{
+    for (size_t word = 0; word < HEADER_WORDS; word++)
+        header[word] = is_aligned(region) ? load((const uint64_t *)region + word) : word_at(region, word);
+}
+
 // Whether the words of a header are a region's that has no more than `len` bytes.
 static bool is_header(const uint64_t *header, size_t len)
 {
@@ -45,18 +59,11 @@ int32_t tracering_region_about(const void *region, size_t len, struct tracering_
     uint64_t header[HEADER_WORDS];
     if (len < TRACERING_REGION_HEADER)
         return TRACERING_BAD_REGION;
-    memcpy(header, region, sizeof header);
+    read_header(region, header);
     if (!is_header(header, len))
         return TRACERING_BAD_REGION;
     describe(header, about);
     return TRACERING_DONE;
-}
-
-// Each load is done before the next one. (The writer stores plainly, or lets this thread see no value before it is
-// stored: on x86-64 all stores are seen in their order.)
-static uint64_t load(const uint64_t *at)
-{
-    return __atomic_load_n(at, __ATOMIC_ACQUIRE);
 }
 
 // Whether what this commit says was there is there still. (tools/survive plants here, and below.)
@@ -169,6 +176,20 @@ static void copy_slots(const struct slots *slots)
     while (!has_page(slots) && newest_fill(slots) && ++tries < MOST_TRIES);
 }
 
+// Whether the ring is still the one of this header: another one that is made in the region takes the magic away before
+// it stores anything else, and has another stream.
+static bool is_same_ring(const uint64_t *region, const uint64_t *header)
+{
+#ifdef PLANT_RING_NOT_LOOKED_AGAIN
+    (void)region, (void)header;
+#else
+    for (size_t word = 0; word < TAKEN_WORD; word++)
+        if (load(region + word) != header[word])
+            return false;
+#endif
+    return true;
+}
+
 int32_t tracering_region_copy(const void *region, size_t len, void *copy, size_t copy_len)
 {
     if (!(region && copy))
@@ -177,18 +198,19 @@ int32_t tracering_region_copy(const void *region, size_t len, void *copy, size_t
         return TRACERING_BAD_REGION;
     const uint64_t *from = region;
     uint64_t header[HEADER_WORDS];
-    for (size_t word = 0; word < HEADER_WORDS; word++)
-        header[word] = load(from + word);
+    read_header(region, header);
     if (!is_header(header, len))
         return TRACERING_BAD_REGION;
     struct slots slots = {region, copy, header[PAGES_WORD] + 1, header[SIZE_WORD]};
     if (copy_len < slot_offset(slots.size, slots.count))
         return TRACERING_NO_ROOM;
+    memset(copy, 0, TRACERING_REGION_HEADER);
     copy_slots(&slots);
     // (`ended` was loaded before all slots, and `taken` after them: neither says of a record that has no slot here that
     // it never was, or was never taken.)
     header[TAKEN_WORD] = load(from + TAKEN_WORD);
-    memset(copy, 0, TRACERING_REGION_HEADER);
+    if (!is_same_ring(from, header))
+        return TRACERING_BAD_REGION;
     memcpy(copy, header, sizeof header);
     return TRACERING_DONE;
 }
@@ -203,26 +225,61 @@ static int32_t fault_of(const unsigned char *slot, const struct tracering_region
     return word_at(slot, SLOT_MISSED) ? TRACERING_MISSED_DIFFERS : TRACERING_DONE;
 }
 
-// How many bytes a record word takes, of which so many are left: 0 if it isn't whole, or ends the page.
-static size_t word_len(const unsigned char *data, size_t left)
+// The data of a slot, of which some words are read: what is left, and the time and the number after these words.
+struct words {
+    const unsigned char *data;
+    size_t left;
+    uint64_t time, end;
+};
+
+enum { PADDING_TYPE = 29, EXTEND_TYPE, STAMP_TYPE };
+
+// How many bytes a word takes, by its first four bytes and the four that may follow them; 0: none is so long.
+static uint64_t word_len(uint32_t first, uint32_t second)
 {
-    uint32_t words[2] = {0, 0};
-    memcpy(words, data, left < sizeof words ? left : sizeof words);
-    uint32_t type = words[0] & 31;
-    bool has_length = type == 0 || (type == 29 && words[0] >> 5);
-    size_t len = type > 29 ? 8 : has_length ? 4 + (size_t)words[1] : type == 29 ? 0 : 4 + 4 * (size_t)type;
-    return left < 4 || len > left || (has_length && len < 8) ? 0 : len;
+    uint32_t type = first & 31;
+    if (type > PADDING_TYPE)
+        return 8;
+    if (type != 0 && type != PADDING_TYPE)
+        return 4 + 4 * type;
+    return second >= 4 && second % 4 == 0 ? 4 + (uint64_t)second : 0;
 }
 
-// The number after the last record of a slot, as far as its words can be read.
-static uint64_t end_of(const unsigned char *slot)
+// Reads the next word; whether it is whole, and the time and the number after it fit 64 bits.
+static bool read_word(struct words *words)
 {
-    const unsigned char *data = slot + TRACERING_HEADER;
-    size_t left = word_at(slot, SLOT_COMMIT);
-    uint64_t end = word_at(slot, SLOT_FIRST);
-    for (size_t len; (len = word_len(data, left)); data += len, left -= len)
-        end += (data[0] & 31) < 29;
-    return end;
+    uint32_t two[2] = {0, 0};
+    memcpy(two, words->data, words->left < sizeof two ? words->left : sizeof two);
+    uint32_t type = two[0] & 31, delta = two[0] >> 5;
+    uint64_t len = word_len(two[0], two[1]), time = delta + ((uint64_t)two[1] << 27), added = 0;
+    if (words->left < 4 || !len || len > words->left)
+        return false;
+    words->data += len;
+    words->left -= len;
+    if (type == STAMP_TYPE)
+        words->time = time;
+    else if (type != PADDING_TYPE)
+        added = type == EXTEND_TYPE ? time : delta;
+    return !__builtin_add_overflow(words->time, added, &words->time)
+        && !__builtin_add_overflow(words->end, type < PADDING_TYPE, &words->end);
+}
+
+// Whether a padding without a delta is next, which ends the page whatever follows.
+static bool is_end(const struct words *words)
+{
+    static const unsigned char padding[] = {PADDING_TYPE, 0, 0, 0};
+    return !words->left || (words->left >= sizeof padding && !memcmp(words->data, padding, sizeof padding));
+}
+
+// Whether a slot is a page, and the number after its last record is below this one.
+static bool ends_below(const unsigned char *slot, uint64_t number)
+{
+    struct words words = {slot + TRACERING_HEADER, word_at(slot, SLOT_COMMIT), word_at(slot, SLOT_TIME),
+        word_at(slot, SLOT_FIRST)};
+    while (!is_end(&words))
+        if (!read_word(&words))
+            return false;
+    return words.end < number;
 }
 
 int32_t tracering_region_slot(const void *region, size_t len, size_t slot, const void **bytes, size_t *bytes_len)
@@ -239,9 +296,9 @@ int32_t tracering_region_slot(const void *region, size_t len, size_t slot, const
     if (!word_at(at, SLOT_COMMIT))
         return TRACERING_EMPTY;
     code = fault_of(at, &about);
-    // (What ends below `taken` was taken before the last page that was, or is overwritten: its page stays as it was until
-    // it is used again.)
-    if (code == TRACERING_DONE && end_of(at) < about.taken)
+    // (A page that ends below `taken` was taken before the last page that was, or is overwritten: it stays as it was
+    // until its slot is used again.)
+    if (code == TRACERING_DONE && ends_below(at, about.taken))
         return TRACERING_EMPTY;
     if (code == TRACERING_DONE) {
         *bytes = at;

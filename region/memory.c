@@ -5,6 +5,8 @@
 
 #include <errno.h>
 #include <fcntl.h>
+#include <pthread.h>
+#include <signal.h>
 #include <stdio.h>
 #include <stdlib.h>
 #include <string.h>
@@ -24,11 +26,23 @@ static void *mapped(size_t len, int protection, int flags, int file)
     return region == MAP_FAILED ? NULL : region;
 }
 
+// Allocates the blocks of a file, with all signals blocked: a file system may answer EINTR where one has come, and
+// begin anew when it is asked again, so that a timer's signals would hold up a large file for ever.
+static int allocate(int file, size_t len)
+{
+    sigset_t all, before;
+    sigfillset(&all);
+    (void)pthread_sigmask(SIG_SETMASK, &all, &before);
+    int fault = posix_fallocate(file, 0, (off_t)len);
+    (void)pthread_sigmask(SIG_SETMASK, &before, NULL);
+    return fault;
+}
+
 // Allocates and maps a file that is new. It is closed in any case.
 static void *map_new(int file, size_t len)
 {
     void *region = NULL;
-    int fault = len ? posix_fallocate(file, 0, (off_t)len) : EINVAL;
+    int fault = len ? allocate(file, len) : EINVAL;
     if (!fault && !(region = mapped(len, PROT_READ | PROT_WRITE, MAP_SHARED, file)))
         fault = errno;
     close(file);
@@ -160,7 +174,7 @@ int tracering_region_unmap(const void *region, size_t len)
         errno = EINVAL;
         return -1;
     }
-    if (tracering_heap_is_lived_in(region, len)) {
+    if (tracering_heap_has_bodies(region, len)) {
         errno = EBUSY;
         return -1;
     }

@@ -63,7 +63,9 @@ int32_t tracering_raw_new_in(struct tracering_held *w, struct tracering_held *r,
     if (begun <= 0)
         return begun ? TRACERING_BAD_REGION : TRACERING_NO_MEMORY;
     uint64_t *header = region;
+    // (Before all that follows: whoever copies the former ring sees by it that there is another one.)
     __atomic_store_n(&header[MAGIC_WORD], 0, __ATOMIC_RELEASE);
+    __atomic_signal_fence(__ATOMIC_SEQ_CST);
     code = make(w, r, cpu, pages, size, &filling);
     if (code == TRACERING_DONE)
         store_header(header, cpu, pages, size, stream);

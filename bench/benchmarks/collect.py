@@ -31,10 +31,10 @@ def kept_pages(file, cpu):
         yield page[16:], size, records[-1][0] - time if records else 0, len(records)
 
 
-def capture(file, cpu):
-    """A long capture: its pages, and how many records they have."""
+def capture(file, cpu, length=CPU_BYTES // PAGE):
+    """A long capture: its pages, so many of them, and how many records they have."""
     kept, pages, time, records = [*kept_pages(file, cpu)], [], 1 << 32, 0
-    while len(pages) * PAGE < CPU_BYTES:
+    while len(pages) < length:
         rest, size, span, number = kept[len(pages) % len(kept)]
         pages.append(struct.pack("<QQ", time, size) + rest)
         time += span + GAP

@@ -13,7 +13,6 @@ from lib import count, tables
 from lib.programs import Failure, rival, staged
 
 NEEDS = ("rt", "rustc", "valgrind", "/usr/bin/time")
-STEPS = ("read", "add", "list", "halves", "merge")
 # What is measured: which step takes how much more than which.
 MORE = (("Adding", "add", "read"), ("Listing", "list", "add"), ("Merging", "merge", "halves"))
 GENUINE, FORGED = ("in-order", "reverse", "shuffled"), ("forged", "overlapping")
@@ -47,12 +46,13 @@ class Collectors:
                 self.alike("tell", load)
         return SEEDS * len(COMPARED)
 
-    def measure(self, program, many):
-        """The instructions and the bytes of memory that each of MORE takes of a record, or of a forged parcel."""
-        counts = {step: count.callgrind([program, step], self.file) for step in STEPS}
-        memory = {step: count.most_memory([program, step], self.file, os.devnull)[1] for step in STEPS}
+    def measure(self, program, many, more=MORE):
+        """The instructions and the bytes of memory that each of these takes of a record, or of a forged parcel."""
+        steps = {step for _, *steps in more for step in steps}
+        counts = {step: count.callgrind([program, step], self.file) for step in steps}
+        memory = {step: count.most_memory([program, step], self.file, os.devnull)[1] for step in steps}
         return {
-            what: [(found[step] - found[before]) / many for found in (counts, memory)] for what, step, before in MORE
+            what: [(found[step] - found[before]) / many for found in (counts, memory)] for what, step, before in more
         }
 
 

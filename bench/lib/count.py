@@ -62,7 +62,7 @@ def most_memory(command, source, sink):
     A child of this process itself would report at least as much memory as this process has.
     """
     timed = ["/usr/bin/time", "--quiet", "-f", "%M", *command]
-    with open(source, "rb") as given, open(sink, "wb") as taken:
+    with fed(source) as given, open(sink, "wb") as taken:
         done = subprocess.run(timed, stdin=given, stdout=taken, stderr=subprocess.PIPE, check=False)
     return done.returncode, int(done.stderr.split()[-1]) * 1024
 

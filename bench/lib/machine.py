@@ -17,6 +17,8 @@ TOOLS = {
     "/usr/bin/time": ("the package time", None),
     "trace-cmd": ("the package trace-cmd", ["dpkg-query", "-W", "trace-cmd"]),
     "nats-server": ("the packages nats-server and libnats-dev", ["nats-server", "--version"]),
+    "taskset": ("the package util-linux", None),
+    "chrt": ("the package util-linux", None),
     "apt-get": ("Debian's own", None),
     "dpkg-deb": ("Debian's own", None),
 }

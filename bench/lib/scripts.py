@@ -19,14 +19,15 @@ def per_page(length, size=4080):
     return size // (slot + (4 if slot <= 112 else 8))
 
 
-def writes(records, length):
-    """Writes of payloads of this length; each page is closed, taken and delivered when it is full."""
+def writes(records, length, pages=16, collectors=1):
+    """Writes of payloads of this length; each page is closed, taken and delivered to each collector when it is full."""
     rng = random.Random(length)
-    lines = [header()]
+    lines = [header(pages, collectors=collectors)]
     for number in range(records):
         lines.append(b"c0 w %d %s\n" % (1_000_000 + 100 * number, payload(rng, length)))
         if (number + 1) % per_page(length) == 0 or number + 1 == records:
-            lines.append(b"c0 c\nc0 t\nd 0 c0 %d\n" % (number // per_page(length)))
+            lines.append(b"c0 c\nc0 t\n")
+            lines += [b"d %d c0 %d\n" % (collector, number // per_page(length)) for collector in range(collectors)]
     return b"".join(lines)
 
 
@@ -43,18 +44,35 @@ def nested(records):
     return b"".join(lines)
 
 
-def many_cpus(records):
-    """64 CPUs in turn, and 4 collectors to which each page is delivered; payloads of 8 bytes."""
+def many_cpus(records, cpus=64, collectors=4):
+    """So many CPUs in turn, and collectors to which each page is delivered; payloads of 8 bytes."""
     rng = random.Random(64)
-    lines = [header(cpus=64, collectors=4)]
+    lines = [header(cpus=cpus, collectors=collectors)]
     full = per_page(8)
     for number in range(records):
-        cpu, at = number % 64, number // 64
+        cpu, at = number % cpus, number // cpus
         lines.append(b"c%d w %d %s\n" % (cpu, 1_000_000 + 100 * number, payload(rng, 8)))
-        if (at + 1) % full == 0 or number + 64 >= records:
+        if (at + 1) % full == 0 or number + cpus >= records:
             lines.append(b"c%d c\nc%d t\n" % (cpu, cpu))
-            lines += [b"d %d c%d %d\n" % (collector, cpu, at // full) for collector in range(4)]
+            lines += [b"d %d c%d %d\n" % (collector, cpu, at // full) for collector in range(collectors)]
     return b"".join(lines)
+
+
+def full_ring(pages):
+    """A ring of so many pages, all of them full before the first is taken; each is delivered."""
+    rng = random.Random(pages)
+    lines = [header(pages)]
+    lines += [b"c0 w %d %s\n" % (moment, payload(rng, 8)) for moment in range(pages * per_page(8))]
+    lines += [b"c0 c\n", *(b"c0 t\nd 0 c0 %d\n" % fill for fill in range(pages))]
+    return b"".join(lines)
+
+
+def shuffled(fills):
+    """So many pages of one record each, all of them taken before the first is delivered, in any order."""
+    order = [*range(fills)]
+    random.Random(fills).shuffle(order)
+    taken = [b"c0 w %d 0011223344556677\nc0 c\nc0 t\n" % moment for moment in range(fills)]
+    return b"".join([header(2, 32), *taken, *(b"d 0 c0 %d\n" % fill for fill in order)])
 
 
 def deliveries(lines):

@@ -382,17 +382,29 @@ static void forks(void)
 }
 
 static pid_t child = -1;
+static rlim_t most_data = RLIM_INFINITY; // of the child
+static int wait_pipe[2];
 
-// Forks amid a TRACE, and both go on with that.
+// Forks amid a TRACE, and both go on with that: the child when its parent has recorded all.
 static uint64_t fork_amid(void)
 {
     static uint64_t now;
-    if (++now == 40)
-        child = fork();
+    struct rlimit before, least;
+    char byte;
+    if (++now != 40)
+        return now;
+    want(!pipe(wait_pipe) && !getrlimit(RLIMIT_DATA, &before), "no pipe", 0);
+    least = (struct rlimit){most_data, before.rlim_max};
+    want(!setrlimit(RLIMIT_DATA, &least), "no limit", 0);
+    child = fork();
+    want(!setrlimit(RLIMIT_DATA, &before), "no limit any more", 0);
+    if (!child)
+        want(read(wait_pipe[0], &byte, 1) == 1, "no byte", 0);
     return now;
 }
 
-static void amid_body(void)
+// How the child ends. (The file isn't stopped: that would commit once more what the parent recorded.)
+static int amid_ends(void)
 {
     struct flight_config config = {.clock = FLIGHT_CALLER, .now = fork_amid, .file = path};
     int status;
@@ -401,16 +413,97 @@ static void amid_body(void)
         record(each, each + 1);
     if (!child)
         _exit(0);
-    want(waitpid(child, &status, 0) == child && !status, "no end", (uint64_t)child);
-    want(!flight_stop(), "no stop", 0);
+    want(write(wait_pipe[1], "", 1) == 1 && waitpid(child, &status, 0) == child, "no end", (uint64_t)child);
+    return status;
+}
+
+static void amid_body(void)
+{
+    want(!amid_ends(), "no good end", 0);
+}
+
+// (A child without memory for its stores dies of them. Valgrind gives it the memory all the same.)
+static void amid_without_memory_body(void)
+{
+    most_data = 4096;
+    (void)amid_ends();
 }
 
 static void amid(void)
 {
-    run_well(amid_body);
+    static void (*const bodies[])(void) = {amid_body, amid_without_memory_body};
+    for (size_t each = 0; each < sizeof bodies / sizeof *bodies; each++) {
+        run_well(bodies[each]);
+        list(path);
+        want(listed.count == 100 && !lost(), "the parent's file", listed.count);
+        want_text(99, "event 99 of it");
+    }
+}
+
+static pid_t parent;
+
+static void record_in_child(int signal)
+{
+    (void)signal;
+    if (getpid() != parent)
+        TRACE("a handler of a child");
+}
+
+// Sends the signal to all of a group without an end.
+static pid_t start_sender(pid_t group)
+{
+    pid_t sender = fork();
+    if (sender)
+        return sender;
+    (void)prctl(PR_SET_PDEATHSIG, SIGKILL);
+    want(!setpgid(0, 0), "no group", 0);
+    for (;;)
+        (void)kill(-group, SIGUSR1);
+}
+
+static void signalled_body(void)
+{
+    struct sigaction action = {.sa_handler = record_in_child, .sa_flags = SA_RESTART};
+    parent = getpid();
+    want(!setpgid(0, 0) && !sigaction(SIGUSR1, &action, NULL), "no group", 0);
+    start(path);
+    record(0, 10);
+    pid_t sender = start_sender(parent);
+    want(sender > 0, "no process", 0);
+    for (int each = 0; each < 100; each++) {
+        int status;
+        pid_t forked = fork();
+        want(forked >= 0, "no process", (uint64_t)each);
+        if (!forked)
+            _exit(0);
+        want(waitpid(forked, &status, 0) == forked && !status, "no end", (uint64_t)each);
+    }
+    (void)kill(sender, SIGKILL);
+    want(waitpid(sender, NULL, 0) == sender && !flight_stop(), "no stop", 0);
+}
+
+// A signal that is there when a child begins is handled when the child has left the file.
+static void signalled(void)
+{
+    run_well(signalled_body);
     list(path);
-    want(listed.count == 100 && !lost() && listed.dump.process.has_ended, "the parent's file", listed.count);
-    want_text(99, "event 99 of it");
+    want(listed.count == 10 && !lost() && listed.dump.process.has_ended, "the parent's file", listed.count);
+}
+
+static void own_aside_body(void)
+{
+    start(aside);
+    record(0, 3);
+    want(flight_dump(path) == EEXIST && !access(aside, F_OK), "a dump beside the file", 0);
+    (void)raise(SIGKILL);
+}
+
+// A dump that would be written in the file's place, before it gets its own name.
+static void own_aside(void)
+{
+    (void)run(own_aside_body);
+    list(aside);
+    want(listed.count == 3 && !lost(), "the file", listed.count);
 }
 
 static void crash_body(void)
@@ -431,8 +524,8 @@ static void crash(void)
 
 int main(int argc, char **argv)
 {
-    static void (*const cases[])(void) = {begin_again, cancelled, refusals, dumps, counts, full, forks, amid,
-        crash};
+    static void (*const cases[])(void) = {begin_again, cancelled, refusals, dumps, own_aside, counts, full, forks, amid,
+        signalled, crash};
     want(argc == 2, "usage: flight_file_checks FOLDER", 0);
     struct rlimit none = {0, 0};
     (void)setrlimit(RLIMIT_CORE, &none);

@@ -1,6 +1,6 @@
-// What a region has to have after its writer was killed, or as a live copy of it was made: the account of the tools that
-// kill writers. Records say of themselves who wrote them, the how manieth of that source they are, and the rest of their
-// bytes follows from both.
+// What a region has to have after its writer was killed, or as a live copy of it was made: the account of the tools
+// that kill writers. Records say of themselves who wrote them, the how manieth of that source they are, and the rest of
+// their bytes follows from both.
 #ifndef REGION_ACCOUNT_H
 #define REGION_ACCOUNT_H
 
@@ -122,6 +122,21 @@ static inline bool find_pages(const void *region, size_t len, struct tracering_c
     qsort(found->pages, found->count, sizeof *found->pages, by_fill);
     found->end = found->count ? found->pages[found->count - 1].end : 0;
     return true;
+}
+
+// The newest fill that is begun, and the newest that has something, as a thread or process sees that doesn't write.
+static inline void look_at_fills(const void *region, size_t len, size_t pages, uint64_t *begun, uint64_t *newest)
+{
+    size_t stride = (len - TRACERING_REGION_HEADER) / (pages + 1);
+    *begun = *newest = 0;
+    for (size_t slot = 0; slot <= pages; slot++) {
+        const void *words = (const unsigned char *)region + TRACERING_REGION_HEADER + slot * stride;
+        const uint64_t *at = (const uint64_t *)words;
+        uint64_t fill = __atomic_load_n(at + 1, __ATOMIC_ACQUIRE), commit = __atomic_load_n(at + 5, __ATOMIC_ACQUIRE);
+        *begun = fill > *begun ? fill : *begun;
+        if (commit && fill > *newest && __atomic_load_n(at + 1, __ATOMIC_ACQUIRE) == fill)
+            *newest = fill;
+    }
 }
 
 // The pages' fills are different, neighbours meet, others don't overlap.

@@ -1,15 +1,16 @@
-// Checks of rings in regions: which misuse is refused, and that nothing is changed then; what a region says of its ring;
-// that each page lies in it and nothing of it is released twice; the memory that is mapped for regions; and threads that
-// make and free rings in regions of their own, beside others in malloc's memory.
+// Checks of rings in regions: which misuse is refused, and that nothing is changed then; what a region says of its
+// ring; that each page lies in it and nothing of it is released twice; the memory that is mapped for regions; and
+// threads that make and free rings in regions of their own, beside others in malloc's memory.
 //
 //     region_checks FOLDER
 //
-// It is linked with malloc, calloc and free wrapped.
+// It is linked with malloc, calloc, free and posix_fallocate wrapped.
 #define _GNU_SOURCE
 #include "tracering_region.h"
 
 #include <errno.h>
 #include <pthread.h>
+#include <signal.h>
 #include <stdio.h>
 #include <stdlib.h>
 #include <string.h>
@@ -27,6 +28,7 @@ static long blocks;
 void *__real_malloc(size_t size);
 void *__real_calloc(size_t count, size_t size);
 void __real_free(void *at);
+int __real_posix_fallocate(int file, off_t from, off_t len);
 
 static bool is_refused(void)
 {
@@ -63,6 +65,15 @@ static void check(bool holds, const char *what, int line)
         return;
     fprintf(stderr, "region_checks: line %d: %s\n", line, what);
     faults++;
+}
+
+// (It may answer EINTR where a signal comes.)
+int __wrap_posix_fallocate(int file, off_t from, off_t len)
+{
+    sigset_t blocked;
+    CHECK(!pthread_sigmask(SIG_BLOCK, NULL, &blocked));
+    CHECK(sigismember(&blocked, SIGALRM) == 1 && sigismember(&blocked, SIGPROF) == 1);
+    return __real_posix_fallocate(file, from, len);
 }
 
 struct ring {
@@ -253,6 +264,70 @@ static void looks(void)
     free_ring(&ring);
 }
 
+// A slot's numbers and the first words of its data, and what a collector answers to it.
+struct stated {
+    uint64_t first, time, commit;
+    uint32_t words[3];
+    int32_t answer;
+    bool is_below; // it ends below 5
+};
+
+// A page that ends below `taken` is left out; one that doesn't is there, and so is each slot whose words are damaged,
+// wherever the last of them that can be read ends.
+static void left_out(void)
+{
+    enum { PADDING = 29, EXTEND, STAMP, DELTA = 1 << 5 };
+    static const uint64_t taken = 5;
+    static const struct stated all[] = {
+        {0, 0, 8, {1, 7}, TRACERING_DONE, true},
+        {3, 0, 8, {1, 7}, TRACERING_DONE, true},
+        {4, 0, 8, {1, 7}, TRACERING_DONE, false},
+        {0, 0, 4, {1}, TRACERING_CUT, false},
+        {0, 0, 6, {1, 7}, TRACERING_CUT, false},
+        {0, 0, 10, {1, 7}, TRACERING_CUT, false},
+        {0, 0, 12, {1, 7, 1}, TRACERING_CUT, false},
+        {0, 0, 12, {0, 8, 7}, TRACERING_DONE, true},
+        {0, 0, 8, {0, 4}, TRACERING_DONE, true},
+        {0, 0, 8, {0, 3}, TRACERING_BAD_LENGTH, false},
+        {0, 0, 12, {0, 6, 7}, TRACERING_BAD_LENGTH, false},
+        {0, 0, 12, {0, 12, 7}, TRACERING_CUT, false},
+        {0, 0, 12, {0, UINT32_MAX - 3, 7}, TRACERING_CUT, false},
+        {0, 0, 12, {PADDING, 3, 30}, TRACERING_DONE, true},
+        {0, 0, 4, {PADDING}, TRACERING_DONE, true},
+        {0, 0, 3, {PADDING}, TRACERING_CUT, false},
+        {0, 0, 8, {PADDING + DELTA, 4}, TRACERING_DONE, true},
+        {0, 0, 8, {PADDING + DELTA, 2}, TRACERING_BAD_LENGTH, false},
+        {0, 0, 4, {EXTEND}, TRACERING_CUT, false},
+        {0, UINT64_MAX, 8, {1, 7}, TRACERING_DONE, true},
+        {0, UINT64_MAX, 8, {1 + DELTA, 7}, TRACERING_TIME_OVERFLOW, false},
+        {0, UINT64_MAX, 8, {EXTEND, 1}, TRACERING_TIME_OVERFLOW, false},
+        {0, UINT64_MAX, 8, {PADDING + DELTA, 4}, TRACERING_DONE, true},
+        {0, UINT64_MAX, 8, {STAMP, 1}, TRACERING_DONE, true},
+        {UINT64_MAX - 1, 0, 8, {1, 7}, TRACERING_DONE, false},
+        {UINT64_MAX, 0, 8, {1, 7}, TRACERING_NUMBER_OVERFLOW, false},
+    };
+    struct ring ring = new_ring();
+    memcpy(word(&ring, 48), &taken, sizeof taken);
+    for (size_t each = 0; each < sizeof all / sizeof *all; each++) {
+        const struct stated *it = &all[each];
+        const uint64_t numbers[] = {CPU, 0, it->first, 0, it->time, it->commit};
+        memcpy(word(&ring, 128), numbers, sizeof numbers);
+        memcpy(word(&ring, 128 + sizeof numbers), it->words, sizeof it->words);
+        struct tracering_collector c = TRACERING_COLLECTOR_INIT;
+        struct tracering_fault_at at = {0, 0};
+        const void *bytes = NULL;
+        size_t len = 0;
+        int32_t code = tracering_region_slot(ring.region, ring.len, 0, &bytes, &len);
+        CHECK(tracering_collector_new(&c) == TRACERING_DONE);
+        int32_t answer = tracering_collector_add(&c, word(&ring, 128), 48 + it->commit, &at);
+        CHECK(answer == it->answer || (answer == TRACERING_KNOWN && it->answer == TRACERING_DONE));
+        CHECK(tracering_collector_free(&c) == TRACERING_DONE);
+        CHECK(code == (it->is_below ? TRACERING_EMPTY : TRACERING_DONE));
+        CHECK(it->is_below ? !bytes : bytes == word(&ring, 128) && len == 48 + it->commit);
+    }
+    free_ring(&ring);
+}
+
 // Wherever memory is refused, the handles stay, and the region is none and can be used.
 static void no_memory(void)
 {
@@ -276,6 +351,29 @@ static void no_memory(void)
     }
     CHECK(code == TRACERING_DONE && refusals > 2);
     free_ring(&ring);
+}
+
+// If there is no memory to note the region, what was there before stays, and can be used.
+static void no_entry(void)
+{
+    enum { OTHERS = 8 };
+    struct ring others[OTHERS], ring = new_ring();
+    CHECK(tracering_write(&ring.writer, 1, "abcd", 4) == TRACERING_DONE);
+    CHECK(tracering_writer_free(&ring.writer, NULL) == TRACERING_DONE);
+    CHECK(tracering_reader_free(&ring.reader) == TRACERING_DONE);
+    // (So many are used at once for the first time: no entry is free.)
+    for (size_t each = 0; each < OTHERS; each++)
+        others[each] = new_ring();
+    long at_first = blocks;
+    refused = 1;
+    CHECK(make(&ring) == TRACERING_NO_MEMORY && !refused && blocks == at_first);
+    CHECK(!memcmp(&ring.writer, &no_ring.writer, sizeof ring.writer));
+    CHECK(!memcmp(&ring.reader, &no_ring.reader, sizeof ring.reader));
+    CHECK(said_by(&ring).has_ended && slots_used(ring.region, ring.len) == 1);
+    CHECK(make(&ring) == TRACERING_DONE && slots_used(ring.region, ring.len) == 0);
+    free_ring(&ring);
+    for (size_t each = 0; each < OTHERS; each++)
+        free_ring(&others[each]);
 }
 
 static void write_some(struct ring *ring, uint64_t count)
@@ -337,7 +435,8 @@ static void files(void)
     CHECK(two && two[5] == 0 && is_there("ring~"));
     const unsigned char *left = tracering_region_open("ring~", &found);
     CHECK(left && found == len && left[5] == 7);
-    CHECK(!tracering_region_unmap(left, found) && !tracering_region_unmap(one, len) && !tracering_region_unmap(two, len));
+    CHECK(!tracering_region_unmap(left, found));
+    CHECK(!tracering_region_unmap(one, len) && !tracering_region_unmap(two, len));
     CHECK(tracering_region_unmap(NULL, len) == -1 && errno == EINVAL);
     // What is no file is left alone.
     unlink("link");
@@ -383,7 +482,9 @@ int main(int argc, char **argv)
     header();
     told();
     looks();
+    left_out();
     no_memory();
+    no_entry();
     threads();
     files();
     memory();

@@ -2,7 +2,8 @@
 //
 // Each begins as what a ring left, or as a region's header with nothing behind it; some of its words get random values,
 // its length may be cut, and it may lie at any byte. The calls that look at regions read nothing outside of it
-// (AddressSanitizer sees that), whatever it says, and a collector takes or refuses what they give.
+// (AddressSanitizer sees that), whatever it says, and a collector takes or refuses what they give. What they answer of
+// a slot is what its numbers say, and what a collector knows that was given this slot alone.
 #define _GNU_SOURCE
 #include "region_account.h"
 
@@ -63,8 +64,38 @@ static void mutate(unsigned char *region, size_t len, size_t size)
 }
 
 struct sums {
-    uint64_t regions, slots, added, refused;
+    uint64_t regions, slots, left_out, added, refused;
 };
+
+// Whether a slot is a page that ends below this number, by the records that a collector lists of it.
+static bool ends_below(const unsigned char *slot, uint64_t number)
+{
+    struct tracering_collector c = TRACERING_COLLECTOR_INIT;
+    struct tracering_fault_at at;
+    size_t count = 0;
+    if (tracering_collector_new(&c) != TRACERING_DONE)
+        abort();
+    bool is_page = tracering_collector_add(&c, slot, TRACERING_HEADER + account_word(slot, 5), &at) <= TRACERING_DONE;
+    if (is_page && tracering_collector_list(&c, &count) != TRACERING_DONE)
+        abort();
+    (void)tracering_collector_free(&c);
+    return is_page && account_word(slot, 2) + count < number;
+}
+
+// What a slot has to answer.
+static int32_t wanted(const unsigned char *slot, const struct tracering_region *about)
+{
+    uint64_t commit = account_word(slot, 5);
+    if (!commit)
+        return TRACERING_EMPTY;
+    if (account_word(slot, 0) != about->cpu)
+        return TRACERING_BAD_CPU;
+    if (commit > about->size)
+        return TRACERING_BAD_IMAGE_SIZE;
+    if (account_word(slot, 3))
+        return TRACERING_MISSED_DIFFERS;
+    return ends_below(slot, about->taken) ? TRACERING_EMPTY : TRACERING_DONE;
+}
 
 static void look_at(const void *region, size_t len, struct sums *sums)
 {
@@ -74,19 +105,28 @@ static void look_at(const void *region, size_t len, struct sums *sums)
         return;
     sums->regions++;
     (void)tracering_collector_new(&c);
-    int32_t code = TRACERING_DONE;
-    for (size_t slot = 0; code != TRACERING_END; slot++) {
+    size_t stride = (about.len - TRACERING_REGION_HEADER) / (about.pages + 1);
+    const unsigned char *found = (const unsigned char *)region + TRACERING_REGION_HEADER;
+    for (size_t slot = 0; slot <= about.pages; slot++, found += stride) {
         const void *bytes;
         size_t bytes_len;
         struct tracering_fault_at at;
-        code = tracering_region_slot(region, len, slot, &bytes, &bytes_len);
+        int32_t code = tracering_region_slot(region, len, slot, &bytes, &bytes_len);
+        if (code != wanted(found, &about))
+            abort();
+        sums->left_out += code == TRACERING_EMPTY && account_word(found, 5);
         if (code != TRACERING_DONE)
             continue;
+        if (bytes != found || bytes_len != TRACERING_HEADER + account_word(found, 5))
+            abort();
         sums->slots++;
         int32_t answer = tracering_collector_add(&c, bytes, bytes_len, &at);
         *(answer > TRACERING_DONE ? &sums->refused : &sums->added) += 1;
     }
+    const void *none;
     size_t count;
+    if (tracering_region_slot(region, len, about.pages + 1, &none, &count) != TRACERING_END)
+        abort();
     (void)tracering_collector_list(&c, &count);
     (void)tracering_collector_free(&c);
 }
@@ -119,7 +159,7 @@ static void look_at_copy(const void *region, size_t len, struct sums *sums)
 int main(int argc, char **argv)
 {
     static const size_t sizes[] = {32, 64, 100, 128, 512};
-    struct sums sums = {0, 0, 0, 0};
+    struct sums sums = {0, 0, 0, 0, 0};
     if (argc != 3)
         return 2;
     seed = strtoull(argv[2], NULL, 10) * 0x9e3779b97f4a7c15u + 1;
@@ -137,7 +177,8 @@ int main(int argc, char **argv)
         free(exact);
         free(region);
     }
-    printf("%llu regions, %llu slots: %llu added, %llu refused\n", (unsigned long long)sums.regions,
-        (unsigned long long)sums.slots, (unsigned long long)sums.added, (unsigned long long)sums.refused);
+    printf("%llu regions, %llu slots: %llu added, %llu refused, and %llu left out\n", (unsigned long long)sums.regions,
+        (unsigned long long)sums.slots, (unsigned long long)sums.added, (unsigned long long)sums.refused,
+        (unsigned long long)sums.left_out);
     return 0;
 }

@@ -321,29 +321,15 @@ static bool holds(struct found *found)
     return answer;
 }
 
-// The newest fill that is begun, and the newest that has something, as a process sees that doesn't write.
-static void look(uint64_t *begun, uint64_t *newest)
-{
-    size_t stride = (region_len - TRACERING_REGION_HEADER) / (plan.pages + 1);
-    *begun = *newest = 0;
-    for (size_t slot = 0; slot <= plan.pages; slot++) {
-        uint64_t *at = (uint64_t *)((unsigned char *)region + TRACERING_REGION_HEADER + slot * stride);
-        uint64_t fill = __atomic_load_n(at + 1, __ATOMIC_ACQUIRE), commit = __atomic_load_n(at + 5, __ATOMIC_ACQUIRE);
-        *begun = fill > *begun ? fill : *begun;
-        if (commit && fill > *newest && __atomic_load_n(at + 1, __ATOMIC_ACQUIRE) == fill)
-            *newest = fill;
-    }
-}
-
 // A copy of the region as it is written: what was there before it is in it, unless it was overwritten meanwhile.
 static bool copy_holds(void *copy, struct tracering_collector *c, uint64_t *records)
 {
     struct found found;
     uint64_t begun, newest, later, rest = __atomic_load_n(&told->rest, __ATOMIC_ACQUIRE);
-    look(&begun, &newest);
+    look_at_fills(region, region_len, plan.pages, &begun, &newest);
     if (tracering_region_copy(region, region_len, copy, region_len) != TRACERING_DONE)
         return fault("no copy is made", 0, 0);
-    look(&begun, &later);
+    look_at_fills(region, region_len, plan.pages, &begun, &later);
     if (!find_pages(copy, region_len, c, &found) || !are_in_order(&found)
         || !lists_records(c, plan.size, &found.records))
         return false;
@@ -473,8 +459,8 @@ int main(int argc, char **argv)
                 plan.handlers ? "handlers" : "no handlers");
             return 1;
         }
-    printf("%llu kills: %llu of %llu records left, %llu pages taken before; in %llu nothing more was whole than what had "
-           "returned, in %llu what was interrupted; %llu copies with %llu records\n",
+    printf("%llu kills: %llu of %llu records left, %llu pages taken before; in %llu nothing more was whole than what "
+           "had returned, in %llu what was interrupted; %llu copies with %llu records\n",
         (unsigned long long)sums.kills, (unsigned long long)sums.records, (unsigned long long)sums.written,
         (unsigned long long)sums.taken, (unsigned long long)sums.exact, (unsigned long long)sums.more,
         (unsigned long long)sums.copies, (unsigned long long)sums.copied);

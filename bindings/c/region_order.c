@@ -105,7 +105,8 @@ static bool is_in_order(uint64_t number)
         memcpy(was[slot], slot_at(slot), sizeof was[slot]);
     steps = data_at = end_at = commit_at = zero_at = begun_at = 0;
     end_was = own[end_word];
-    if (write_stepped(number + (number % 13 ? 0 : number << 30), bytes, 1 + number * 7 % sizeof bytes) != TRACERING_DONE)
+    uint64_t moment = number + (number % 13 ? 0 : number << 30);
+    if (write_stepped(moment, bytes, 1 + number * 7 % sizeof bytes) != TRACERING_DONE)
         return false;
     records++;
     fills += begun_at != 0;

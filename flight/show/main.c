@@ -1,4 +1,5 @@
 // tracering-flight show FILE [--json | --ctf DIR] [--last N]: shows a dump of the flight recorder, or its file.
+// tracering-flight --version: prints the library's version.
 #include "file.h"
 #include "viewers.h"
 
@@ -16,7 +17,7 @@ struct words {
 
 static int usage(void)
 {
-    fputs("usage: tracering-flight show FILE [--json | --ctf DIR] [--last N]\n", stderr);
+    fputs("usage: tracering-flight show FILE [--json | --ctf DIR] [--last N] | --version\n", stderr);
     return USAGE;
 }
 
@@ -90,6 +91,12 @@ static int report(const char *name)
     return FAILED;
 }
 
+static int show_version(void)
+{
+    puts("tracering-flight " TRACERING_VERSION);
+    return fflush(stdout) || ferror(stdout) ? report("standard output") : SHOWN;
+}
+
 static int show_lines(struct dump *dump, const struct words *words)
 {
     struct lines *lines = allocate(1, sizeof *lines);
@@ -115,6 +122,8 @@ int main(int count, char **at)
     struct words words;
     struct text file = {NULL, 0, 0};
     struct fault fault = {0, ""};
+    if (count == 2 && !strcmp(at[1], "--version"))
+        return show_version();
     if (!read_words(count, at, &words))
         return usage();
     if (!read_file(words.file, &file))

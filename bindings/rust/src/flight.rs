@@ -11,8 +11,8 @@
 //! # }
 //! ```
 //!
-//! `tracering-flight show program.flight` prints the events by time, formatted, with each loss counted. With a `file` in
-//! the configuration all events are there from the start on, after a kill, too.
+//! `tracering-flight show program.flight` prints the events by time, formatted, with each loss counted. With a `file`
+//! in the configuration the newest events are there from the start on, after a kill, too.
 use std::ffi::{c_char, c_int, CString};
 use std::io;
 use std::mem::{size_of, MaybeUninit};

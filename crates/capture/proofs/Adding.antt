@@ -15,7 +15,8 @@ pub record AddsWhole (size : ℕ) (known : Missed) (bytes rest : List ℕ) (old 
   pub are : (before : List Page) → IsCapture old before → AreWhole size known before front capture
 
 -- bytes that are some are a page
-page_of : (known : Missed) (piece : List ℕ) (pages : List Page) (capture : Capture) → 0 < length piece → AddsRest known piece pages capture
+page_of : (known : Missed) (piece : List ℕ) (pages : List Page) (capture : Capture) → 0 < length piece
+    → AddsRest known piece pages capture
     → AddsPage known piece pages capture
 page_of known piece pages capture some adds =
     ⊎_elim (λ none. absurd (let lengths = ap length none.0 in omega (arith, lengths, some))) (λ page. page.1) adds
@@ -32,12 +33,15 @@ adds-page size known bytes rest piece after old capture new was some long parted
       let w = was.are before is in
       let pages : List Page = before ++ map (told known) w.more in
       whole-page size known before was.front piece capture new w some long
-      (page_of known piece pages new (let there : 0 < length piece = omega (arith, some, long) in there) (adds pages w.capture_is));
+      (page_of known piece pages new (let there : 0 < length piece = omega (arith, some, long) in there)
+      (adds pages w.capture_is));
 }
 
 pub adds-all : (size : ℕ) (known : Missed) (bytes rest : List ℕ) (old capture new : Capture)
-    (was : AddsWhole size known bytes rest old capture) (before : List Page) (is : IsCapture old before) → length rest ≤ size
-    → AddsRest known rest (before ++ map (told known) (was.are before is).more) new → AddsPages size known bytes before new
+    (was : AddsWhole size known bytes rest old capture) (before : List Page) (is : IsCapture old before)
+    → length rest ≤ size
+    → AddsRest known rest (before ++ map (told known) (was.are before is).more) new
+    → AddsPages size known bytes before new
 adds-all size known bytes rest old capture new was before is fits adds =
     let r = whole-rest size known before was.front rest capture new (was.are before is) fits adds in
     record {

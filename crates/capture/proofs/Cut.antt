@@ -1,5 +1,6 @@
 -- A capture that is cut into pages, and one piece more.
-use Rattle.std.proofs.Common.{◌≡◌, ◌∙◌, ℕ, suc, ◌+◌, ◌*◌, ◌≤◌, ◌<◌, List, [], ◌∷◌, ◌++◌, length, drop, refl, sym, ap, subst, arith, length-append, length-drop, append-nil, append_assoc, ⊎_elim}
+use Rattle.std.proofs.Common.{◌≡◌, ◌∙◌, ℕ, suc, ◌+◌, ◌*◌, ◌≤◌, ◌<◌, List, [], ◌∷◌, ◌++◌, length, drop, refl, sym, ap}
+use Rattle.std.proofs.Common.{subst, arith, length-append, length-drop, append-nil, append_assoc, ⊎_elim}
 use Rattle.std.specs.Prelude.{map}
 use Rattle.std.proofs.lemmas.List.{take_all, drop_all, take-append-le, drop-append-le, map-append}
 use Rattle.trace_model.specs.Image.{Missed}
@@ -32,7 +33,8 @@ pub record AreWhole (size : ℕ) (known : Missed) (before : List Page) (front : 
   pub capture_is : IsCapture capture (before ++ map (told known) more)
   pub whole : length front ≡ size * length more
 
-pub whole-none : (size : ℕ) (known : Missed) (before : List Page) (capture : Capture) → IsCapture capture before → AreWhole size known before [] capture
+pub whole-none : (size : ℕ) (known : Missed) (before : List Page) (capture : Capture) → IsCapture capture before
+    → AreWhole size known before [] capture
 whole-none size known before capture is = record {
   more = [];
   cut = refl;
@@ -47,15 +49,21 @@ told_more known before more page =
     append_assoc before (map (told known) more) (told known page ∷ [])
     ∙ ap (λ (ps : List Page). before ++ ps) (sym (map-append (told known) more (page ∷ [])))
 
-pub whole-page : (size : ℕ) (known : Missed) (before : List Page) (front piece : List ℕ) (capture new : Capture) (was : AreWhole size known before front capture)
+pub whole-page : (size : ℕ) (known : Missed) (before : List Page) (front piece : List ℕ) (capture new : Capture)
+    (was : AreWhole size known before front capture)
     → 0 < size → length piece ≡ size → AddsPage known piece (before ++ map (told known) was.more) new
     → AreWhole size known before (front ++ piece) new
 whole-page size known before front piece capture new was some long adds = record {
   more = was.more ++ adds.page ∷ [];
-  cut = cut-append size front piece was.more adds.page was.cut was.whole (omega (arith, long, some)) (omega (arith, long)) adds.page_is;
+  cut =
+      cut-append size front piece was.more adds.page was.cut was.whole (omega (arith, long, some)) (omega (arith, long))
+      adds.page_is;
   capture_is = subst (IsCapture new) (told_more known before was.more adds.page) adds.capture_is;
   whole = length-append front piece ∙ whole_more size (length was.more) (length front) (length piece) was.whole long
-      ∙ ap (λ (n : ℕ). size * n) (let one : suc (length was.more) ≡ length (was.more ++ adds.page ∷ []) = omega (arith, length-append was.more (adds.page ∷ [])) in one);
+      ∙ ap (λ (n : ℕ). size * n)
+      (let one : suc (length was.more) ≡ length (was.more ++ adds.page ∷ []) =
+      omega (arith, length-append was.more (adds.page ∷ [])) in
+      one);
 }
 
 -- pages were read after these, and have these bytes
@@ -64,8 +72,10 @@ pub record AreRead (size : ℕ) (known : Missed) (before : List Page) (bytes : L
   pub cut : AreCut size bytes more
   pub capture_is : IsCapture capture (before ++ map (told known) more)
 
-pub whole-rest : (size : ℕ) (known : Missed) (before : List Page) (front piece : List ℕ) (capture new : Capture) (was : AreWhole size known before front capture)
-    → length piece ≤ size → AddsRest known piece (before ++ map (told known) was.more) new → AreRead size known before (front ++ piece) new
+pub whole-rest : (size : ℕ) (known : Missed) (before : List Page) (front piece : List ℕ) (capture new : Capture)
+    (was : AreWhole size known before front capture)
+    → length piece ≤ size → AddsRest known piece (before ++ map (told known) was.more) new
+    → AreRead size known before (front ++ piece) new
 whole-rest size known before front piece capture new was fits adds = ⊎_elim
     (λ none. record {
       more = was.more;
@@ -86,7 +96,8 @@ pub record ArePast (size : ℕ) (known : Missed) (before : List Page) (bytes : L
   pub cut : AreCut size bytes more
   pub past : Fit (before ++ map (told known) more) → ⊥
 
-pub whole-past : (size : ℕ) (known : Missed) (before : List Page) (front piece : List ℕ) (capture : Capture) (was : AreWhole size known before front capture)
+pub whole-past : (size : ℕ) (known : Missed) (before : List Page) (front piece : List ℕ) (capture : Capture)
+    (was : AreWhole size known before front capture)
     → 0 < length piece → length piece ≤ size → PassesNumbers known piece (before ++ map (told known) was.more)
     → ArePast size known before (front ++ piece)
 whole-past size known before front piece capture was some fits passes = record {

@@ -26,10 +26,12 @@ some_read a b e = cc
 
 -- the parcel of records
 abbrev pub parcel_of : (cpu fill first missed : ℕ) → List Record → Parcel
-parcel_of cpu fill first missed records = record { cpu = cpu; fill = fill; first = first; missed = missed; records = records }
+parcel_of cpu fill first missed records =
+    record { cpu = cpu; fill = fill; first = first; missed = missed; records = records }
 
 -- a parcel at the first place
-parcel_first : (cpu fill next missed : ℕ) (read : PageRead) (records : List Record) → least_missed read.missed ≡ missed → read.records ≡ records
+parcel_first : (cpu fill next missed : ℕ) (read : PageRead) (records : List Record) → least_missed read.missed ≡ missed
+    → read.records ≡ records
     → parcel_at cpu fill next read ≡ parcel_of cpu (fill + 0) (next + missed) missed records
 parcel_first cpu fill next missed read records skips are =
     ap (λ (n : ℕ). parcel_of cpu fill (next + n) n read.records) skips
@@ -41,7 +43,9 @@ parcel_after : (parcels : List Parcel) (j cpu fill k first missed : ℕ) (record
     → slice_get parcels j ≡ Some (parcel_of cpu (suc fill + k) first missed records)
     → slice_get parcels j ≡ Some (parcel_of cpu (fill + suc k) first missed records)
 parcel_after parcels j cpu fill k first missed records at =
-    at ∙ ap (λ (f : ℕ). Some (parcel_of cpu f first missed records)) (let same : suc fill + k ≡ fill + suc k = omega arith in same)
+    at
+    ∙ ap (λ (f : ℕ). Some (parcel_of cpu f first missed records))
+    (let same : suc fill + k ≡ fill + suc k = omega arith in same)
 
 -- where all counts are known, each piece has its parcel
 pub all-at : (cpu fill next : ℕ) (pages : List Page) (pieces : List Piece) → AreReported pages pieces → HaveCounts pages
@@ -56,8 +60,11 @@ all-at cpu fill next (intact read ∷ pages) (q ∷ pieces) (records_are, agrees
     let skips : least_missed read.missed ≡ q.skipped = least_is read.missed q.skipped agrees known in
     subst (λ (r : Piece). (first : ℕ) × (Some (next + q.skipped) ≡ Some first)
     × (Some (parcel_at cpu fill next read) ≡ Some (parcel_of cpu (fill + 0) first r.skipped r.records)))
-    (some_piece q p at)
-    (next + q.skipped, refl, ap (λ (x : Parcel). Some x) (parcel_first cpu fill next q.skipped read q.records skips records_are))
+    (some_piece q p at) (
+      next + q.skipped,
+      refl,
+      ap (λ (x : Parcel). Some x) (parcel_first cpu fill next q.skipped read q.records skips records_are),
+    )
 all-at cpu fill next (intact read ∷ pages) (q ∷ pieces) (records_are, agrees, more) (known, others) (suc k) p at =
     let skips : least_missed read.missed ≡ q.skipped = least_is read.missed q.skipped agrees known in
     let long = ap (length {A = Record}) records_are in
@@ -70,7 +77,8 @@ all-at cpu fill next (intact read ∷ pages) (q ∷ pieces) (records_are, agrees
     )
 
 -- there are as many parcels as pieces
-pub as-many : (cpu fill next : ℕ) (pages : List Page) (pieces : List Piece) → AreReported pages pieces → HaveCounts pages
+pub as-many : (cpu fill next : ℕ) (pages : List Page) (pieces : List Piece) → AreReported pages pieces
+    → HaveCounts pages
     → length (parcels_from cpu fill next pages) ≡ length pieces
 as-many cpu fill next [] [] reported counts = refl
 as-many cpu fill next [] (p ∷ pieces) reported counts = absurd reported
@@ -82,12 +90,17 @@ as-many cpu fill next (intact read ∷ pages) (p ∷ pieces) reported counts =
 -- each page that reads has its parcel
 pub each-at : (cpu fill next : ℕ) (pages : List Page) (k : ℕ) (read : PageRead) → slice_get pages k ≡ Some (intact read)
     → (j first : ℕ)
-    × (slice_get (parcels_from cpu fill next pages) j ≡ Some (parcel_of cpu (fill + k) first (least_missed read.missed) read.records))
+    × (slice_get (parcels_from cpu fill next pages) j
+    ≡ Some (parcel_of cpu (fill + k) first (least_missed read.missed) read.records))
 each-at cpu fill next [] k read at = absurd (no_page at)
 each-at cpu fill next (damaged cause ∷ pages) zero read at = absurd (not_damaged cause read at)
 each-at cpu fill next (damaged cause ∷ pages) (suc k) read at =
-    let rest = each-at cpu (suc fill) next pages k read at in
-    (rest.0, rest.1, parcel_after (parcels_from cpu (suc fill) next pages) rest.0 cpu fill k rest.1 (least_missed read.missed) read.records rest.2)
+    let rest = each-at cpu (suc fill) next pages k read at in (
+      rest.0,
+      rest.1,
+      parcel_after (parcels_from cpu (suc fill) next pages) rest.0 cpu fill k rest.1 (least_missed read.missed)
+          read.records rest.2,
+    )
 each-at cpu fill next (intact first ∷ pages) zero read at =
     let same : first ≡ read = some_read first read at in (
       0,

@@ -13,6 +13,12 @@ filled-more piece part at k count within bound =
     ∙ take-append-add (take at piece) rest count
     ∙ ap (λ (xs : List ℕ). take at piece ++ xs) (take-append-le count part (drop k (drop at piece)) bound)
 
-pub length-filled : (piece part : List ℕ) (at k : ℕ) → at ≤ length piece → at + length part ≤ length (put_mid at k piece part)
+pub length-filled : (piece part : List ℕ) (at k : ℕ) → at ≤ length piece
+    → at + length part ≤ length (put_mid at k piece part)
 length-filled piece part at k within =
-    omega (arith, length-append (take at piece) (part ++ drop k (drop at piece)), length-append part (drop k (drop at piece)), length-take at piece)
+    omega (
+      arith,
+      length-append (take at piece) (part ++ drop k (drop at piece)),
+      length-append part (drop k (drop at piece)),
+      length-take at piece,
+    )

@@ -7,8 +7,11 @@ use Rattle.stamp_times.specs.Restored.{restored_image}
 use Rattle.capture.specs.Pages.{Page, intact, damaged, loss_stated, IsPageOf, AreCut}
 
 one_page : (bytes : List ℕ) (page other : Page) → IsPageOf bytes page → IsPageOf bytes other → page ≡ other
-one_page bytes (intact read) (intact other) (time, size, stated, is, lost) (time_too, size_too, stated_too, is_too, lost_too) =
-    let same = DecodesImage-unique (restored_image bytes) time time_too size size_too stated stated_too read.records other.records is is_too in
+one_page bytes (intact read) (intact other) (time, size, stated, is, lost)
+    (time_too, size_too, stated_too, is_too, lost_too) =
+    let same =
+    DecodesImage-unique (restored_image bytes) time time_too size size_too stated stated_too read.records
+    other.records is is_too in
     ap₂ (λ (missed : Missed) (records : List Record). intact record { missed = missed; records = records })
     (lost ∙ ap loss_stated same.2 ∙ sym lost_too) same.3
 one_page bytes (intact read) (damaged cause) (time, size, stated, is, lost) fault =
@@ -21,7 +24,8 @@ one_page bytes (damaged cause) (damaged other) fault fault_too =
 no_bytes : (bytes : List ℕ) → bytes ≡ [] → 0 < length bytes → ⊥
 no_bytes bytes none some = let lengths = ap (length {A = ℕ}) none in omega (arith, lengths, some)
 
-pub one-reading : (size : ℕ) (bytes : List ℕ) (pages others : List Page) → AreCut size bytes pages → AreCut size bytes others → pages ≡ others
+pub one-reading : (size : ℕ) (bytes : List ℕ) (pages others : List Page) → AreCut size bytes pages
+    → AreCut size bytes others → pages ≡ others
 one-reading size bytes [] [] cut too = refl
 one-reading size bytes [] (other ∷ others) cut too = absurd (no_bytes bytes cut too.0)
 one-reading size bytes (page ∷ pages) [] cut too = absurd (no_bytes bytes too cut.0)

@@ -1,5 +1,6 @@
 -- A source is read on, page by page.
-use Rattle.std.proofs.Common.{◌≡◌, ◌∙◌, ℕ, ◌+◌, ◌*◌, ◌≤◌, ◌<◌, List, [], ◌∷◌, ◌++◌, length, Option, refl, sym, ap, subst, arith, length-append, append-nil, append_assoc}
+use Rattle.std.proofs.Common.{◌≡◌, ◌∙◌, ℕ, ◌+◌, ◌*◌, ◌≤◌, ◌<◌, List, [], ◌∷◌, ◌++◌, length, Option, refl, sym, ap}
+use Rattle.std.proofs.Common.{subst, arith, length-append, append-nil, append_assoc}
 use Rattle.std.specs.Prelude.{map}
 use Rattle.std.proofs.lemmas.List.{length-map}
 use Rattle.std.specs.Io.KnownBytes.{Consumes}
@@ -14,7 +15,8 @@ use Rattle.capture.proofs.Cut.{AreWhole, whole-none, whole-page, whole-rest, who
 use Rattle.capture.proofs.Told.{all-told-unknown}
 
 -- What was read of a source, after `first`, is whole pages, and this is pending.
-pub record ReadsWhole (size : ℕ) (first pending : List ℕ) (unread left : Option (List ℕ)) (old capture : Capture) : Type 0 where
+pub record ReadsWhole (size : ℕ) (first pending : List ℕ) (unread left : Option (List ℕ)) (old capture : Capture) : Type
+    0 where
   pub bytes : List ℕ
   pub front : List ℕ
   pub taken : Consumes unread left bytes
@@ -23,7 +25,8 @@ pub record ReadsWhole (size : ℕ) (first pending : List ℕ) (unread left : Opt
   pub short : length first < size → (bytes ≡ []) × (pending ≡ first)
   pub are : (before : List Page) → IsCapture old before → AreWhole size unknown before front capture
 
-pub reads-none : (size : ℕ) (first : List ℕ) (unread : Option (List ℕ)) (capture : Capture) → ReadsWhole size first first unread unread capture capture
+pub reads-none : (size : ℕ) (first : List ℕ) (unread : Option (List ℕ)) (capture : Capture)
+    → ReadsWhole size first first unread unread capture capture
 reads-none size first unread capture = record {
   bytes = [];
   front = [];
@@ -34,8 +37,10 @@ reads-none size first unread capture = record {
   are = λ before is. whole-none size unknown before capture is;
 }
 
-pub reads-page : (size : ℕ) (first pending piece : List ℕ) (unread left after : Option (List ℕ)) (old capture new : Capture)
-    → ReadsWhole size first pending unread left old capture → 0 < size → length pending ≡ size → Consumes left after piece
+pub reads-page : (size : ℕ) (first pending piece : List ℕ) (unread left after : Option (List ℕ))
+    (old capture new : Capture)
+    → ReadsWhole size first pending unread left old capture → 0 < size → length pending ≡ size
+    → Consumes left after piece
     → new.cpu ≡ capture.cpu → ((pages : List Page) → IsCapture capture pages → AddsPage unknown pending pages new)
     → ReadsWhole size first piece unread after old new
 reads-page size first pending piece unread left after old capture new was some long taken cpu adds = record {
@@ -47,7 +52,8 @@ reads-page size first pending piece unread left after old capture new was some l
   short = λ few. absurd (let lengths = ap length (was.short few).1 in omega (arith, lengths, few, long));
   are = λ before is.
       let w = was.are before is in
-      whole-page size unknown before was.front pending capture new w some long (adds (before ++ map (told unknown) w.more) w.capture_is);
+      whole-page size unknown before was.front pending capture new w some long
+      (adds (before ++ map (told unknown) w.more) w.capture_is);
 }
 
 -- how many pages were read
@@ -56,21 +62,30 @@ pub reads-count : (size : ℕ) (first pending : List ℕ) (unread left : Option 
     → capture.pages ≡ old.pages + length (was.are before is).more
 reads-count size first pending unread left old capture was before is =
     let w = was.are before is in
-    omega (arith, w.capture_is.count_is, is.count_is, length-append before (map (told unknown) w.more), length-map w.more (told unknown))
+    omega (
+      arith,
+      w.capture_is.count_is,
+      is.count_is,
+      length-append before (map (told unknown) w.more),
+      length-map w.more (told unknown),
+    )
 
 pub reads-more : (size : ℕ) (first pending : List ℕ) (unread left : Option (List ℕ)) (old capture new : Capture)
     (was : ReadsWhole size first pending unread left old capture) (before : List Page) (is : IsCapture old before)
-    → ((pages : List Page) → IsCapture capture pages → AddsPage unknown pending pages new) → new.pages ≡ capture.pages + 1
+    → ((pages : List Page) → IsCapture capture pages → AddsPage unknown pending pages new)
+    → new.pages ≡ capture.pages + 1
 reads-more size first pending unread left old capture new was before is adds =
     let w = was.are before is in
     let pages : List Page = before ++ map (told unknown) w.more in
     let added = adds pages w.capture_is in
     omega (arith, w.capture_is.count_is, added.capture_is.count_is, length-append pages (told unknown added.page ∷ []))
 
-size_of : (size whole rest n front pending : ℕ) → front ≡ size * n → whole ≡ n → rest ≡ pending → front + pending ≡ size * whole + rest
+size_of : (size whole rest n front pending : ℕ) → front ≡ size * n → whole ≡ n → rest ≡ pending
+    → front + pending ≡ size * whole + rest
 size_of size whole rest n front pending is same as_well = omega (arith, ap (λ (k : ℕ). size * k) same)
 
-pub reads-on : (size : ℕ) (first pending : List ℕ) (unread left : Option (List ℕ)) (old capture new : Capture) (extent : Extent)
+pub reads-on : (size : ℕ) (first pending : List ℕ) (unread left : Option (List ℕ)) (old capture new : Capture)
+    (extent : Extent)
     (was : ReadsWhole size first pending unread left old capture) → length pending ≤ size
     → ((pages : List Page) → IsCapture capture pages → AddsRest unknown pending pages new)
     → capture.pages ≡ old.pages + extent.whole → extent.rest ≡ length pending
@@ -78,7 +93,9 @@ pub reads-on : (size : ℕ) (first pending : List ℕ) (unread left : Option (Li
 reads-on size first pending unread left old capture new extent was fits adds whole rest before is =
     let w = was.are before is in
     let count = reads-count size first pending unread left old capture was before is in
-    let r = whole-rest size unknown before was.front pending capture new w fits (adds (before ++ map (told unknown) w.more) w.capture_is) in
+    let r =
+    whole-rest size unknown before was.front pending capture new w fits
+    (adds (before ++ map (told unknown) w.more) w.capture_is) in
     record {
       bytes = was.bytes;
       pages = r.more;
@@ -97,7 +114,9 @@ pub reads-past : (size : ℕ) (first pending : List ℕ) (unread left : Option (
     → (before : List Page) → IsCapture old before → IsReadOnPast size first unread left before
 reads-past size first pending unread left old capture was some fits passes before is =
     let w = was.are before is in
-    let p = whole-past size unknown before was.front pending capture w some fits (passes (before ++ map (told unknown) w.more) w.capture_is) in
+    let p =
+    whole-past size unknown before was.front pending capture w some fits
+    (passes (before ++ map (told unknown) w.more) w.capture_is) in
     record {
       bytes = was.bytes;
       pages = p.more;

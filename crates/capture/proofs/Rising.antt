@@ -7,10 +7,12 @@ use Rattle.capture.proofs.Numbers.{none_some, some_parcel}
 use Rattle.capture.proofs.Disjoint.{above}
 
 -- no parcel's fill is below the first that is given
-fill_above : (cpu fill next : ℕ) (pages : List Page) (k : ℕ) (p : Parcel) → slice_get (parcels_from cpu fill next pages) k ≡ Some p
+fill_above : (cpu fill next : ℕ) (pages : List Page) (k : ℕ) (p : Parcel)
+    → slice_get (parcels_from cpu fill next pages) k ≡ Some p
     → fill ≤ p.fill
 fill_above cpu fill next [] k p at = absurd (none_some at)
-fill_above cpu fill next (damaged cause ∷ pages) k p at = let rest = fill_above cpu (suc fill) next pages k p at in omega arith
+fill_above cpu fill next (damaged cause ∷ pages) k p at = let rest = fill_above cpu (suc fill) next pages k p at in
+    omega arith
 fill_above cpu fill next (intact read ∷ pages) zero p at =
     subst (λ (q : Parcel). fill ≤ q.fill) (some_parcel (parcel_at cpu fill next read) p at) (omega arith)
 fill_above cpu fill next (intact read ∷ pages) (suc k) p at =
@@ -21,9 +23,11 @@ abbrev pub IsAbove : Parcel → Parcel → Type 0
 IsAbove a b = (a.fill < b.fill) × (a.first + length a.records + b.missed ≤ b.first)
 
 pub rising : (cpu fill next : ℕ) (pages : List Page) (j k : ℕ) (a b : Parcel) → j < k
-    → slice_get (parcels_from cpu fill next pages) j ≡ Some a → slice_get (parcels_from cpu fill next pages) k ≡ Some b → IsAbove a b
+    → slice_get (parcels_from cpu fill next pages) j ≡ Some a → slice_get (parcels_from cpu fill next pages) k ≡ Some b
+    → IsAbove a b
 rising cpu fill next [] j k a b less at_j at_k = absurd (none_some at_j)
-rising cpu fill next (damaged cause ∷ pages) j k a b less at_j at_k = rising cpu (suc fill) next pages j k a b less at_j at_k
+rising cpu fill next (damaged cause ∷ pages) j k a b less at_j at_k =
+    rising cpu (suc fill) next pages j k a b less at_j at_k
 rising cpu fill next (intact read ∷ pages) j zero a b less at_j at_k = absurd (omega arith)
 rising cpu fill next (intact read ∷ pages) zero (suc k) a b less at_j at_k =
     let high = above cpu (suc fill) (behind next (intact read)) pages k b at_k in

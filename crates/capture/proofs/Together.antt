@@ -1,5 +1,6 @@
 -- The parcels of several CPUs' captures agree.
-use Rattle.std.proofs.Common.{◌≡◌, ◌∙◌, ◌⊎◌, inl, inr, ⊎_elim, ℕ, zero, suc, ◌≤◌, List, [], ◌∷◌, ◌++◌, Some, sym, ap, arith}
+use Rattle.std.proofs.Common.{◌≡◌, ◌∙◌, ◌⊎◌, inl, inr, ⊎_elim, ℕ, zero, suc, ◌≤◌, List, [], ◌∷◌, ◌++◌, Some, sym, ap}
+use Rattle.std.proofs.Common.{arith}
 use Rattle.std.specs.List.{slice_get}
 use Rattle.trace_model.specs.Record.{Record}
 use Rattle.trace_model.specs.Parcel.{Parcel}
@@ -28,15 +29,18 @@ misses_either xs ys c n m = ⊎_elim
     (get_either xs ys m.index m.parcel m.at)
 
 agree_both : (xs ys : List Parcel) → Agree xs → Agree ys
-    → ((i j : ℕ) (p q : Parcel) → slice_get xs i ≡ Some p → slice_get ys j ≡ Some q → p.cpu ≡ q.cpu → ⊥) → Agree (xs ++ ys)
+    → ((i j : ℕ) (p q : Parcel) → slice_get xs i ≡ Some p → slice_get ys j ≡ Some q → p.cpu ≡ q.cpu → ⊥)
+    → Agree (xs ++ ys)
 agree_both xs ys one two apart = record {
   one_record = λ c n r other has too. ⊎_elim
       (λ (a : Has xs c n r). ⊎_elim
       (λ (b : Has xs c n other). one.one_record c n r other a b)
-      (λ (b : Has ys c n other). absurd (apart a.index b.index a.parcel b.parcel a.at b.at (sym a.pair.cpu_is ∙ b.pair.cpu_is)))
+      (λ (b : Has ys c n other).
+      absurd (apart a.index b.index a.parcel b.parcel a.at b.at (sym a.pair.cpu_is ∙ b.pair.cpu_is)))
       (has_either xs ys c n other too))
       (λ (a : Has ys c n r). ⊎_elim
-      (λ (b : Has xs c n other). absurd (apart b.index a.index b.parcel a.parcel b.at a.at (sym b.pair.cpu_is ∙ a.pair.cpu_is)))
+      (λ (b : Has xs c n other).
+      absurd (apart b.index a.index b.parcel a.parcel b.at a.at (sym b.pair.cpu_is ∙ a.pair.cpu_is)))
       (λ (b : Has ys c n other). two.one_record c n r other a b)
       (has_either xs ys c n other too))
       (has_either xs ys c n r has);
@@ -52,13 +56,16 @@ agree_both xs ys one two apart = record {
       (has_either xs ys c n r has);
 }
 
-cpu_of : (cpu fill next : ℕ) (pages : List Page) (k : ℕ) (p : Parcel) → slice_get (parcels_from cpu fill next pages) k ≡ Some p → p.cpu ≡ cpu
+cpu_of : (cpu fill next : ℕ) (pages : List Page) (k : ℕ) (p : Parcel)
+    → slice_get (parcels_from cpu fill next pages) k ≡ Some p → p.cpu ≡ cpu
 cpu_of cpu fill next [] k p at = absurd (none_some at)
 cpu_of cpu fill next (damaged cause ∷ pages) k p at = cpu_of cpu (suc fill) next pages k p at
-cpu_of cpu fill next (intact read ∷ pages) zero p at = sym (ap (λ (q : Parcel). q.cpu) (some_parcel (parcel_at cpu fill next read) p at))
+cpu_of cpu fill next (intact read ∷ pages) zero p at =
+    sym (ap (λ (q : Parcel). q.cpu) (some_parcel (parcel_at cpu fill next read) p at))
 cpu_of cpu fill next (intact read ∷ pages) (suc k) p at = cpu_of cpu (suc fill) (behind next (intact read)) pages k p at
 
-cpus_above : (cpu : ℕ) (captures : List (List Page)) (k : ℕ) (p : Parcel) → slice_get (parcels_of_captures cpu captures) k ≡ Some p → cpu ≤ p.cpu
+cpus_above : (cpu : ℕ) (captures : List (List Page)) (k : ℕ) (p : Parcel)
+    → slice_get (parcels_of_captures cpu captures) k ≡ Some p → cpu ≤ p.cpu
 cpus_above cpu [] k p at = absurd (none_some at)
 cpus_above cpu (pages ∷ captures) k p at = ⊎_elim
     (λ here. let is = cpu_of cpu 0 0 pages k p here in omega (arith, is))
@@ -74,7 +81,8 @@ no_parcels = record {
 pub agree_all : (cpu : ℕ) (captures : List (List Page)) → Agree (parcels_of_captures cpu captures)
 agree_all cpu [] = no_parcels
 agree_all cpu (pages ∷ captures) =
-    agree_both (parcels_from cpu 0 0 pages) (parcels_of_captures (suc cpu) captures) (agree cpu 0 0 pages) (agree_all (suc cpu) captures)
+    agree_both (parcels_from cpu 0 0 pages) (parcels_of_captures (suc cpu) captures) (agree cpu 0 0 pages)
+    (agree_all (suc cpu) captures)
     (λ i j p q at_i at_j same.
     let is = cpu_of cpu 0 0 pages i p at_i in
     let high = cpus_above (suc cpu) captures j q at_j in omega (arith, is, high, same))

@@ -10,9 +10,11 @@ told_of-unknown unknown = refl
 told_of-unknown (counted events) = refl
 
 pub told-unknown : (page : Page) → told unknown page ≡ page
-told-unknown (intact read) = ap (λ (m : Missed). intact record { missed = m; records = read.records }) (told_of-unknown read.missed)
+told-unknown (intact read) =
+    ap (λ (m : Missed). intact record { missed = m; records = read.records }) (told_of-unknown read.missed)
 told-unknown (damaged cause) = refl
 
 pub all-told-unknown : (pages : List Page) → map (told unknown) pages ≡ pages
 all-told-unknown [] = refl
-all-told-unknown (page ∷ pages) = ap₂ (λ (p : Page) (ps : List Page). p ∷ ps) (told-unknown page) (all-told-unknown pages)
+all-told-unknown (page ∷ pages) =
+    ap₂ (λ (p : Page) (ps : List Page). p ∷ ps) (told-unknown page) (all-told-unknown pages)

@@ -7,7 +7,8 @@ use Rattle.page_image.specs.declared.image.Image.{Image}
 use Rattle.page_numbers.specs.Faults.{image_fault}
 use Rattle.page_numbers.specs.Parcels.{as_parcels}
 use Rattle.trace_model.specs.Image.{Missed}
-use Rattle.capture.specs.Pages.{PageRead, Page, told, IsPageOf, AreCut, parcels_from, unknown_from, Damage, damages_from, end_from, Fit}
+use Rattle.capture.specs.Pages.{PageRead, Page, told, IsPageOf, AreCut, parcels_from, unknown_from, Damage}
+use Rattle.capture.specs.Pages.{damages_from, end_from, Fit}
 use Rattle.capture.specs.declared.pages.Capture.{Capture}
 use Rattle.capture.specs.declared.pages.Damaged.{Damaged}
 

@@ -1,7 +1,8 @@
 -- A capture: all that was read of one CPU's pages, which are page images one after the other, and what it holds. How
 -- many records were lost a page states (kernel/trace/ring_buffer.c, ring_buffer_read_page), and no number; so numbers
 -- are counted over the capture.
-use Rattle.std.specs.Prelude.{◌≡◌, ℕ, suc, ◌+◌, ◌-◌, ◌^◌, ◌==◌, ◌<◌, if◌then◌else◌, List, [], ◌∷◌, ◌++◌, length, take, drop}
+use Rattle.std.specs.Prelude.{◌≡◌, ℕ, suc, ◌+◌, ◌-◌, ◌^◌, ◌==◌, ◌<◌, if◌then◌else◌, List, [], ◌∷◌, ◌++◌, length, take}
+use Rattle.std.specs.Prelude.{drop}
 use Rattle.trace_model.specs.Record.{Record}
 use Rattle.trace_model.specs.Parcel.{Parcel}
 use Rattle.trace_model.specs.Image.{Missed, none, unknown, counted, DecodesImage, ImageCause, FirstImageFault}

@@ -34,5 +34,6 @@ all_lines form parts cpu [] [] are = refl
 all_lines form parts cpu [] (damage ∷ damages) are = absurd are
 all_lines form parts cpu (d ∷ more) [] are = absurd are
 all_lines form parts cpu (d ∷ more) (damage ∷ damages) are =
-    ap (λ (text : List ℕ). text ++ flat_map (reported_line form parts cpu) more) (one_line form parts cpu d damage are.0)
+    ap (λ (text : List ℕ). text ++ flat_map (reported_line form parts cpu) more)
+    (one_line form parts cpu d damage are.0)
     ∙ ap (λ (text : List ℕ). damage_line form parts cpu damage ++ text) (all_lines form parts cpu more damages are.1)

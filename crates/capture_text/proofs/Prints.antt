@@ -26,7 +26,8 @@ prints bytes old new contents contents_now failed failed_now same_form same_name
     }
 
 -- a printer's buffer is given a text that is also this one
-pub given : (text same : List ℕ) (old new : TextBuffer) (contents contents_now : Option (List ℕ)) (failed failed_now : Bool)
+pub given : (text same : List ℕ) (old new : TextBuffer) (contents contents_now : Option (List ℕ))
+    (failed failed_now : Bool)
     → text ≡ same → Puts text old contents failed new contents_now failed_now
     → Puts same old contents failed new contents_now failed_now
 given text same old new contents contents_now failed failed_now e puts =

@@ -1,5 +1,6 @@
 -- The runs of CPU after CPU.
-use Rattle.std.proofs.Common.{◌≡◌, ℕ, ◌+◌, ◌≤◌, Bool, List, [], ◌∷◌, ◌++◌, length, flat_map, refl, ap, ◌∙◌, subst, arith}
+use Rattle.std.proofs.Common.{◌≡◌, ℕ, ◌+◌, ◌≤◌, Bool, List, [], ◌∷◌, ◌++◌, length, flat_map, refl, ap, ◌∙◌, subst}
+use Rattle.std.proofs.Common.{arith}
 use Rattle.std.specs.Prelude.{Option, slice_index_or}
 use Rattle.std.specs.List.{enumerate_from}
 use Rattle.std.proofs.lemmas.List.{length_push}
@@ -20,7 +21,8 @@ use Rattle.capture_text.proofs.Chains.{put_none, put_more}
 
 more : (line : ℕ → ℕ × ℕ → List ℕ) (runs : List (List (ℕ × ℕ))) (of_cpu : List (ℕ × ℕ)) (cpu : ℕ) → length runs ≡ cpu
     → flat_map (λ (of : ℕ × List (ℕ × ℕ)). flat_map (line of.0) of.1) (enumerate_from 0 (runs ++ of_cpu ∷ []))
-    ≡ flat_map (λ (of : ℕ × List (ℕ × ℕ)). flat_map (line of.0) of.1) (enumerate_from 0 runs) ++ flat_map (line cpu) of_cpu
+    ≡ flat_map (λ (of : ℕ × List (ℕ × ℕ)). flat_map (line of.0) of.1) (enumerate_from 0 runs)
+    ++ flat_map (line cpu) of_cpu
 more line runs of_cpu cpu count =
     let f : ℕ × List (ℕ × ℕ) → List ℕ = λ of. flat_map (line of.0) of.1 in
     let number : 0 + length runs ≡ cpu = omega arith in
@@ -70,12 +72,15 @@ runs_put form parcels cpu of_cpu b0 b1 b2 c0 c1 c2 f0 f1 f2 put one more =
       runs = put.runs ++ of_cpu ∷ [];
       count = omega arith;
       each = runs_more parcels 0 put.runs cpu of_cpu (omega arith) put.each one;
-      put = put_more (run_lines form (put.runs ++ of_cpu ∷ [])) (run_lines form put.runs) (flat_map (run_line form cpu) of_cpu)
+      put =
+          put_more (run_lines form (put.runs ++ of_cpu ∷ [])) (run_lines form put.runs)
+          (flat_map (run_line form cpu) of_cpu)
           b0 b1 b2 c0 c1 c2 f0 f1 f2 (lines_more form put.runs of_cpu cpu count) put.put more;
     }
 
 -- if all CPUs are there the runs are those of each
-pub runs_all : (form : Form) (parcels : List Parcel) (cpu : ℕ) (b0 b1 : TextBuffer) (c0 c1 : Option (List ℕ)) (f0 f1 : Bool)
+pub runs_all : (form : Form) (parcels : List Parcel) (cpu : ℕ) (b0 b1 : TextBuffer) (c0 c1 : Option (List ℕ))
+    (f0 f1 : Bool)
     → AreSound parcels → MAX_CPUS ≤ cpu → (put : ArePut form parcels cpu b0 c0 f0 b1 c1 f1)
     → (k : ℕ) → AreMissingRuns parcels k (slice_index_or put.runs k [])
 runs_all form parcels cpu b0 b1 c0 c1 f0 f1 sound all put k =

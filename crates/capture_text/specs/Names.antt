@@ -1,5 +1,6 @@
 -- What a line says of its record besides the numbers: the process that wrote it, its event, and the text of a print.
-use Rattle.std.specs.Prelude.{ℕ, ℤ, Bool, false, ◌&&◌, ◌==◌, if◌then◌else◌, List, [], ◌∷◌, ◌++◌, length, take, drop, position, unwrap_or, codes, bytes_eq, Option, Some, None}
+use Rattle.std.specs.Prelude.{ℕ, ℤ, Bool, false, ◌&&◌, ◌==◌, if◌then◌else◌, List, [], ◌∷◌, ◌++◌, length, take, drop}
+use Rattle.std.specs.Prelude.{position, unwrap_or, codes, bytes_eq, Option, Some, None}
 use Rattle.std.specs.Fmt.{decimal, signed_decimal}
 use Rattle.text_model.specs.Text.{space}
 use Rattle.kernel_texts.specs.Names.{Event}

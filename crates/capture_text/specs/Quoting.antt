@@ -1,5 +1,6 @@
 -- Texts between quotation marks, as JSON has them (RFC 8259, section 7), and names that need none.
-use Rattle.std.specs.Prelude.{◌≡◌, ℕ, Bool, true, false, ◌||◌, ◌&&◌, ◌==◌, nat_lt, if◌then◌else◌, List, [], ◌∷◌, ◌++◌, map, flat_map, codes}
+use Rattle.std.specs.Prelude.{◌≡◌, ℕ, Bool, true, false, ◌||◌, ◌&&◌, ◌==◌, nat_lt, if◌then◌else◌, List, [], ◌∷◌, ◌++◌}
+use Rattle.std.specs.Prelude.{map, flat_map, codes}
 use Rattle.std.specs.Str.{is_utf8}
 use Rattle.text_values.specs.Digits.{pair_of}
 

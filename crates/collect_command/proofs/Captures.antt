@@ -12,14 +12,16 @@ use Rattle.collect_inputs.specs.Files.{ModelPart}
 use Rattle.collect_command.specs.Gathered.{IsReadFrom, AreReadFrom}
 
 -- the last of what was read, and its pages
-pub record LastRead (parts : List ModelPart) (cpu : ℕ) (front : List CpuCapture) (found : CpuCapture) (captures : List (List Page)) : Type 0 where
+pub record LastRead (parts : List ModelPart) (cpu : ℕ) (front : List CpuCapture) (found : CpuCapture)
+    (captures : List (List Page)) : Type 0 where
   pub own : List Page
   pub others : List (List Page)
   pub captures_are : captures ≡ others ++ own ∷ []
   pub front_read : AreReadFrom parts cpu front others
   pub last_read : IsReadFrom parts (cpu + length others) found own
 
-pub last_read : (parts : List ModelPart) (cpu : ℕ) (front : List CpuCapture) (found : CpuCapture) (captures : List (List Page))
+pub last_read : (parts : List ModelPart) (cpu : ℕ) (front : List CpuCapture) (found : CpuCapture)
+    (captures : List (List Page))
     → AreReadFrom parts cpu (front ++ found ∷ []) captures → LastRead parts cpu front found captures
 last_read parts cpu [] found [] read = absurd read
 last_read parts cpu [] found (own ∷ []) read = record {
@@ -44,11 +46,15 @@ last_read parts cpu (first ∷ front) found (pages ∷ captures) read =
 
 -- the parcels of one capture more
 parcels_more : (cpu : ℕ) (captures : List (List Page)) (own : List Page)
-    → parcels_of_captures cpu (captures ++ own ∷ []) ≡ parcels_of_captures cpu captures ++ parcels_from (cpu + length captures) 0 0 own
-parcels_more cpu [] own = append-nil (parcels_from cpu 0 0 own) ∙ ap (λ (n : ℕ). parcels_from n 0 0 own) (let e : cpu ≡ cpu + 0 = omega arith in e)
+    → parcels_of_captures cpu (captures ++ own ∷ [])
+    ≡ parcels_of_captures cpu captures ++ parcels_from (cpu + length captures) 0 0 own
+parcels_more cpu [] own =
+    append-nil (parcels_from cpu 0 0 own)
+    ∙ ap (λ (n : ℕ). parcels_from n 0 0 own) (let e : cpu ≡ cpu + 0 = omega arith in e)
 parcels_more cpu (pages ∷ captures) own =
     ap (λ (ps : List Parcel). parcels_from cpu 0 0 pages ++ ps) (parcels_more (suc cpu) captures own)
-    ∙ sym (append_assoc (parcels_from cpu 0 0 pages) (parcels_of_captures (suc cpu) captures) (parcels_from (suc cpu + length captures) 0 0 own))
+    ∙ sym (append_assoc (parcels_from cpu 0 0 pages) (parcels_of_captures (suc cpu) captures)
+    (parcels_from (suc cpu + length captures) 0 0 own))
     ∙ ap (λ (n : ℕ). (parcels_from cpu 0 0 pages ++ parcels_of_captures (suc cpu) captures) ++ parcels_from n 0 0 own)
     (let e : suc cpu + length captures ≡ cpu + suc (length captures) = omega arith in e)
 
@@ -91,6 +97,7 @@ front_read parts cpu (suc k) (found ∷ cpus) (own ∷ captures) read =
     (read.0, front_read parts (suc cpu) k cpus captures read.1)
 
 -- of nothing there are no pages
-pub none_read : (parts : List ModelPart) (cpu : ℕ) (captures : List (List Page)) → AreReadFrom parts cpu [] captures → captures ≡ []
+pub none_read : (parts : List ModelPart) (cpu : ℕ) (captures : List (List Page)) → AreReadFrom parts cpu [] captures
+    → captures ≡ []
 none_read parts cpu [] read = refl
 none_read parts cpu (own ∷ captures) read = absurd read

@@ -23,12 +23,15 @@ all_pages : (overrun : ℕ → Option ℕ) (parts : List ModelPart) (cpu : ℕ) 
     → AllPages overrun parts cpu cpus
 all_pages overrun parts cpu [] each = record { captures = []; read = tt; pages_are = tt; count = refl }
 all_pages overrun parts cpu (found ∷ cpus) each =
-    let first : IsOf overrun parts found cpu = subst (IsOf overrun parts found) (let e : cpu + 0 ≡ cpu = omega arith in e) (each 0 found refl) in
+    let first : IsOf overrun parts found cpu =
+    subst (IsOf overrun parts found) (let e : cpu + 0 ≡ cpu = omega arith in e) (each 0 found refl) in
     let others = all_pages overrun parts (suc cpu) cpus
-    (λ k x at. subst (IsOf overrun parts x) (let e : cpu + suc k ≡ suc cpu + k = omega arith in e) (each (suc k) x at)) in
+    (λ k x at. subst (IsOf overrun parts x) (let e : cpu + suc k ≡ suc cpu + k = omega arith in e)
+    (each (suc k) x at)) in
     record {
       captures = settled (overrun cpu) first.pages ∷ others.captures;
-      read = (record { capture_is = first.capture_is; cpu_is = first.cpu_is; parts_are = first.parts_are }, others.read);
+      read =
+          (record { capture_is = first.capture_is; cpu_is = first.cpu_is; parts_are = first.parts_are }, others.read);
       pages_are = (
         record {
           pages = first.pages;

@@ -1,5 +1,7 @@
 -- Texts that a printer has printed, one after the other.
-use Rattle.std.proofs.Common.{◌≡◌, ℕ, zero, suc, ◌+◌, Bool, true, false, true≢false, ◌&&◌, ◌==◌, ◌↔◌, List, [], ◌∷◌, ◌++◌, length, flat_map, map, append_assoc, append-nil, Option, Some, Result, Ok, Err, OnOk, OnErr, IsErr, refl, sym, ap, ◌∙◌, subst, arith}
+use Rattle.std.proofs.Common.{◌≡◌, ℕ, zero, suc, ◌+◌, Bool, true, false, true≢false, ◌&&◌, ◌==◌, ◌↔◌, List, [], ◌∷◌}
+use Rattle.std.proofs.Common.{◌++◌, length, flat_map, map, append_assoc, append-nil, Option, Some, Result, Ok, Err}
+use Rattle.std.proofs.Common.{OnOk, OnErr, IsErr, refl, sym, ap, ◌∙◌, subst, arith}
 use Rattle.std.specs.Result.{is_ok}
 use Rattle.std.specs.List.{slice_get}
 use Rattle.std.specs.Io.KnownBytes.{Appends}
@@ -30,7 +32,8 @@ use Rattle.collect_command.specs.Listings.{all_unknown, all_damaged, are_all_int
 
 -- ---- one text after the other
 
-pub prints_both : (a b c : Form → Option (List EventFormat) → List ℕ) (old mid new : Printer) (x y z : Option (List ℕ)) (f g h : Bool)
+pub prints_both : (a b c : Form → Option (List EventFormat) → List ℕ) (old mid new : Printer) (x y z : Option (List ℕ))
+    (f g h : Bool)
     → Prints a old x f mid y g → Prints b mid y g new z h
     → ((form : Form) (formats : Option (List EventFormat)) → c form formats ≡ a form formats ++ b form formats)
     → Prints c old x f new z h
@@ -42,45 +45,65 @@ prints_both a b c old mid new x y z f g h first second is form formats start tex
 pub prints_none : (c : Form → Option (List EventFormat) → List ℕ) (old : Printer) (x : Option (List ℕ)) (f : Bool)
     → ((form : Form) (formats : Option (List EventFormat)) → c form formats ≡ []) → Prints c old x f old x f
 prints_none c old x f is form formats start text has =
-    subst (λ (t : List ℕ). HasPrinted form formats start x f t old) (sym (ap (λ (t : List ℕ). text ++ t) (is form formats) ∙ append-nil text)) has
+    subst (λ (t : List ℕ). HasPrinted form formats start x f t old)
+    (sym (ap (λ (t : List ℕ). text ++ t) (is form formats) ∙ append-nil text)) has
 
 -- ---- the lines that are walked over
 
 module _ {W : Type 0} (contents : W → Option (List ℕ)) (failed : W → Bool) where
   abbrev pub PrintsLine : (Printer × W) → Line → (Printer × W) → Type 0
-  PrintsLine p line q = Prints (λ form formats. record_line form formats line) p.0 (contents p.1) (failed p.1) q.0 (contents q.1) (failed q.1)
+  PrintsLine p line q =
+      Prints (λ form formats. record_line form formats line) p.0 (contents p.1) (failed p.1) q.0 (contents q.1)
+      (failed q.1)
 
   pub walked : (lines : List Line) (p q : Printer × W) → TakesAll PrintsLine p lines q
-      → Prints (λ form formats. flat_map (record_line form formats) lines) p.0 (contents p.1) (failed p.1) q.0 (contents q.1) (failed q.1)
+      → Prints (λ form formats. flat_map (record_line form formats) lines) p.0 (contents p.1) (failed p.1) q.0
+      (contents q.1) (failed q.1)
   walked [] p q same =
-      subst (λ (z : Printer × W). Prints (λ form formats. []) p.0 (contents p.1) (failed p.1) z.0 (contents z.1) (failed z.1)) same
+      subst
+      (λ (z : Printer × W).
+      Prints (λ form formats. []) p.0 (contents p.1) (failed p.1) z.0 (contents z.1) (failed z.1)) same
       (prints_none (λ form formats. []) p.0 (contents p.1) (failed p.1) (λ form formats. refl))
   walked (line ∷ lines) p q (mid, first, rest) =
-      prints_both (λ form formats. record_line form formats line) (λ form formats. flat_map (record_line form formats) lines)
-      (λ form formats. flat_map (record_line form formats) (line ∷ lines)) p.0 mid.0 q.0 (contents p.1) (contents mid.1) (contents q.1) (failed p.1) (failed mid.1) (failed q.1)
+      prints_both (λ form formats. record_line form formats line)
+      (λ form formats. flat_map (record_line form formats) lines)
+      (λ form formats. flat_map (record_line form formats) (line ∷ lines)) p.0 mid.0 q.0 (contents p.1) (contents mid.1)
+      (contents q.1) (failed p.1) (failed mid.1) (failed q.1)
       first (walked lines mid q rest) (λ form formats. refl)
 
 -- ---- the losses and damaged pages of one CPU more
 
 pub unknown_more : (form : Form) (cpu : ℕ) (captures : List (List Page)) (own : List Page)
-    → all_unknown form cpu (captures ++ own ∷ []) ≡ all_unknown form cpu captures ++ unknown_lines form (cpu + length captures) (unknown_from 0 own)
-unknown_more form cpu [] own = append-nil (unknown_lines form cpu (unknown_from 0 own)) ∙ ap (λ (n : ℕ). unknown_lines form n (unknown_from 0 own)) (let e : cpu ≡ cpu + 0 = omega arith in e)
+    → all_unknown form cpu (captures ++ own ∷ [])
+    ≡ all_unknown form cpu captures ++ unknown_lines form (cpu + length captures) (unknown_from 0 own)
+unknown_more form cpu [] own =
+    append-nil (unknown_lines form cpu (unknown_from 0 own))
+    ∙ ap (λ (n : ℕ). unknown_lines form n (unknown_from 0 own)) (let e : cpu ≡ cpu + 0 = omega arith in e)
 unknown_more form cpu (pages ∷ captures) own =
     ap (λ (t : List ℕ). unknown_lines form cpu (unknown_from 0 pages) ++ t) (unknown_more form (suc cpu) captures own)
-    ∙ sym (append_assoc (unknown_lines form cpu (unknown_from 0 pages)) (all_unknown form (suc cpu) captures) (unknown_lines form (suc cpu + length captures) (unknown_from 0 own)))
-    ∙ ap (λ (n : ℕ). (unknown_lines form cpu (unknown_from 0 pages) ++ all_unknown form (suc cpu) captures) ++ unknown_lines form n (unknown_from 0 own))
+    ∙ sym (append_assoc (unknown_lines form cpu (unknown_from 0 pages)) (all_unknown form (suc cpu) captures)
+    (unknown_lines form (suc cpu + length captures) (unknown_from 0 own)))
+    ∙ ap (λ (n : ℕ).
+    (unknown_lines form cpu (unknown_from 0 pages) ++ all_unknown form (suc cpu) captures)
+    ++ unknown_lines form n (unknown_from 0 own))
     (let e : suc cpu + length captures ≡ cpu + suc (length captures) = omega arith in e)
 
 abbrev own_damaged : Form → List ModelPart → ℕ → List Page → List ℕ
 own_damaged form parts cpu own = damaged_lines form (map measured (parts_of_cpu cpu parts)) cpu (damages_from 0 0 own)
 
 pub damaged_more : (form : Form) (parts : List ModelPart) (cpu : ℕ) (captures : List (List Page)) (own : List Page)
-    → all_damaged form parts cpu (captures ++ own ∷ []) ≡ all_damaged form parts cpu captures ++ own_damaged form parts (cpu + length captures) own
-damaged_more form parts cpu [] own = append-nil (own_damaged form parts cpu own) ∙ ap (λ (n : ℕ). own_damaged form parts n own) (let e : cpu ≡ cpu + 0 = omega arith in e)
+    → all_damaged form parts cpu (captures ++ own ∷ [])
+    ≡ all_damaged form parts cpu captures ++ own_damaged form parts (cpu + length captures) own
+damaged_more form parts cpu [] own =
+    append-nil (own_damaged form parts cpu own)
+    ∙ ap (λ (n : ℕ). own_damaged form parts n own) (let e : cpu ≡ cpu + 0 = omega arith in e)
 damaged_more form parts cpu (pages ∷ captures) own =
     ap (λ (t : List ℕ). own_damaged form parts cpu pages ++ t) (damaged_more form parts (suc cpu) captures own)
-    ∙ sym (append_assoc (own_damaged form parts cpu pages) (all_damaged form parts (suc cpu) captures) (own_damaged form parts (suc cpu + length captures) own))
-    ∙ ap (λ (n : ℕ). (own_damaged form parts cpu pages ++ all_damaged form parts (suc cpu) captures) ++ own_damaged form parts n own)
+    ∙ sym (append_assoc (own_damaged form parts cpu pages) (all_damaged form parts (suc cpu) captures)
+    (own_damaged form parts (suc cpu + length captures) own))
+    ∙ ap (λ (n : ℕ).
+    (own_damaged form parts cpu pages ++ all_damaged form parts (suc cpu) captures)
+    ++ own_damaged form parts n own)
     (let e : suc cpu + length captures ≡ cpu + suc (length captures) = omega arith in e)
 
 -- ---- whether all pages are intact
@@ -90,28 +113,33 @@ none_damaged index next [] none = refl
 none_damaged index next (intact read ∷ own) none = none_damaged (suc index) (behind next (intact read)) own none
 none_damaged index next (damaged cause ∷ own) none = absurd none
 
-some_damaged : (index next : ℕ) (own : List Page) (x : Damaged) (xs : List Damaged) → AreDamages (x ∷ xs) (damages_from index next own) → are_intact own ≡ false
+some_damaged : (index next : ℕ) (own : List Page) (x : Damaged) (xs : List Damaged)
+    → AreDamages (x ∷ xs) (damages_from index next own) → are_intact own ≡ false
 some_damaged index next [] x xs some = absurd some
-some_damaged index next (intact read ∷ own) x xs some = some_damaged (suc index) (behind next (intact read)) own x xs some
+some_damaged index next (intact read ∷ own) x xs some =
+    some_damaged (suc index) (behind next (intact read)) own x xs some
 some_damaged index next (damaged cause ∷ own) x xs some = refl
 
 not_none : (n : ℕ) → (suc n == 0) ≡ false
 not_none n = grind (arith, nat_tests)
 
-pub own_intact : (own : List Page) (items : List Damaged) → AreDamages items (damages_from 0 0 own) → are_intact own ≡ (length items == 0)
+pub own_intact : (own : List Page) (items : List Damaged) → AreDamages items (damages_from 0 0 own)
+    → are_intact own ≡ (length items == 0)
 own_intact own [] are = none_damaged 0 0 own are
 own_intact own (x ∷ xs) are = some_damaged 0 0 own x xs are ∙ sym (not_none (length xs))
 
 and_true : (a b : Bool) → a ≡ true → b ≡ true → (a && b) ≡ true
 and_true a b p q = ap (λ (x : Bool). x && b) p ∙ q
 
-pub intact_more : (captures : List (List Page)) (own : List Page) → are_all_intact captures ≡ true → are_intact own ≡ true
+pub intact_more : (captures : List (List Page)) (own : List Page) → are_all_intact captures ≡ true
+    → are_intact own ≡ true
     → are_all_intact (captures ++ own ∷ []) ≡ true
 intact_more [] own before last = and_true (are_intact own) true last refl
 intact_more (pages ∷ captures) own before last = by_first (are_intact pages) refl
     (λ rest. intact_more captures own rest last)
   where
-    by_first : (a : Bool) → are_intact pages ≡ a → (are_all_intact captures ≡ true → are_all_intact (captures ++ own ∷ []) ≡ true)
+    by_first : (a : Bool) → are_intact pages ≡ a
+        → (are_all_intact captures ≡ true → are_all_intact (captures ++ own ∷ []) ≡ true)
         → (are_intact pages && are_all_intact (captures ++ own ∷ [])) ≡ true
     by_first true is more = and_true (are_intact pages) (are_all_intact (captures ++ own ∷ [])) is
         (more (sym (ap (λ (x : Bool). x && are_all_intact captures) is) ∙ before))
@@ -121,8 +149,10 @@ and_false : (a : Bool) → (a && false) ≡ false
 and_false true = refl
 and_false false = refl
 
-pub not_intact : (parts : List ModelPart) (cpu : ℕ) (cpus : List CpuCapture) (captures : List (List Page)) (k : ℕ) (found : CpuCapture)
-    → AreReadFrom parts cpu cpus captures → slice_get cpus k ≡ Some found → (length found.capture.damaged.items == 0) ≡ false
+pub not_intact : (parts : List ModelPart) (cpu : ℕ) (cpus : List CpuCapture) (captures : List (List Page)) (k : ℕ)
+    (found : CpuCapture)
+    → AreReadFrom parts cpu cpus captures → slice_get cpus k ≡ Some found
+    → (length found.capture.damaged.items == 0) ≡ false
     → are_all_intact captures ≡ false
 not_intact parts cpu [] captures k found read at none = absurd (none-some found at)
 not_intact parts cpu (first ∷ cpus) [] k found read at none = absurd read
@@ -131,11 +161,13 @@ not_intact parts cpu (first ∷ cpus) (own ∷ captures) zero found read at none
     (own_intact own first.capture.damaged.items read.0.capture_is.damaged_are
     ∙ ap (λ (x : CpuCapture). length x.capture.damaged.items == 0) (some_is first found at) ∙ none)
 not_intact parts cpu (first ∷ cpus) (own ∷ captures) (suc k) found read at none =
-    ap (λ (x : Bool). are_intact own && x) (not_intact parts (suc cpu) cpus captures k found read.1 at none) ∙ and_false (are_intact own)
+    ap (λ (x : Bool). are_intact own && x) (not_intact parts (suc cpu) cpus captures k found read.1 at none)
+    ∙ and_false (are_intact own)
 
 -- ---- a print of a collector is one of each that is the same
 
-pub same_print : (joined parcels : List Parcel) (shown : Shown) → IsSame joined parcels → IsPrintOf joined shown → IsPrintOf parcels shown
+pub same_print : (joined parcels : List Parcel) (shown : Shown) → IsSame joined parcels → IsPrintOf joined shown
+    → IsPrintOf parcels shown
 same_print joined parcels shown same is = record {
   lines = record {
     ordered = is.lines.ordered;
@@ -152,8 +184,10 @@ same_print joined parcels shown same is = record {
 
 -- ---- how the writing ends
 
-pub ended : {T F : Type 0} (result : Result T F) (failed is_intact : Bool) (contents after : Option (List ℕ)) (text : List ℕ)
-    → OnOk result (Appends contents after text) → OnErr result (AppendsPrefix contents after text) → ((failed ≡ true) ↔ IsErr result)
+pub ended : {T F : Type 0} (result : Result T F) (failed is_intact : Bool) (contents after : Option (List ℕ))
+    (text : List ℕ)
+    → OnOk result (Appends contents after text) → OnErr result (AppendsPrefix contents after text)
+    → ((failed ≡ true) ↔ IsErr result)
     → IsTextWritten contents after failed text (ending_of true is_intact) (ending_of (is_ok result) is_intact)
 ended (Ok x) failed is_intact contents after text all prefix fault = record {
   all = λ sound. (all, refl);

@@ -3,7 +3,8 @@ use Rattle.std.specs.Prelude.{ℕ, List, [], ◌∷◌, ◌++◌, codes}
 use Rattle.std.specs.Fmt.{decimal}
 use Rattle.text_model.specs.Text.{line_feed}
 use Rattle.trace_dat.specs.declared.fault.Cause.{Cause}
-use Rattle.trace_dat.specs.declared.fault.Cause.TheVariants.{Cut, NotTraceDat, BadVersion, OtherMachine, Compressed, Misplaced, OutsideFile, Backward}
+use Rattle.trace_dat.specs.declared.fault.Cause.TheVariants.{Cut, NotTraceDat, BadVersion, OtherMachine, Compressed}
+use Rattle.trace_dat.specs.declared.fault.Cause.TheVariants.{Misplaced, OutsideFile, Backward}
 use Rattle.collect_inputs.specs.declared.fault.FileFault.{FileFault}
 use Rattle.collect_inputs.specs.declared.fault.FileFault.TheVariants.{Format, BadCpu, BadPage, Overlap}
 

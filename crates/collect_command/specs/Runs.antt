@@ -1,5 +1,6 @@
 -- What a run of `collect` does with its inputs and its sink.
-use Rattle.std.specs.Prelude.{◌≡◌, ◌⊎◌, ℕ, ◌^◌, ◌-◌, Bool, false, if◌then◌else◌, List, ◌++◌, length, min, Option, Some, None}
+use Rattle.std.specs.Prelude.{◌≡◌, ◌⊎◌, ℕ, ◌^◌, ◌-◌, Bool, false, if◌then◌else◌, List, ◌++◌, length, min, Option, Some}
+use Rattle.std.specs.Prelude.{None}
 use Rattle.trace_model.specs.declared.limits.TheConstants.{MAX_CPUS}
 use Rattle.trace_dat.specs.Contents.{EventFormat}
 use Rattle.command_io.specs.declared.command.TheConstants.{MEMORY_LINE}

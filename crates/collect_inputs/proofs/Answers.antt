@@ -8,7 +8,8 @@ on_ok (Ok x) f p = f p
 on_ok (Err e) f p = p
 
 -- what a borrow of all elements leaves behind
-pub written-back : {X : Type 0} (n : ℕ) (new old : List X) → length new ≡ n → length old ≡ n → take n (new ++ drop (length new) old) ≡ new
+pub written-back : {X : Type 0} (n : ℕ) (new old : List X) → length new ≡ n → length old ≡ n
+    → take n (new ++ drop (length new) old) ≡ new
 written-back n new old long kept =
     ap (λ xs. take n (new ++ xs)) (drop_all (length new) old (omega (arith, long, kept))) ∙ ap (take n) (append-nil new)
     ∙ take_all n new (omega (arith, long))

@@ -1,5 +1,7 @@
 -- All CPUs, and one that is read on.
-use Rattle.std.proofs.Common.{◌≡◌, ◌≢◌, ◌∙◌, ℕ, zero, suc, ◌+◌, ◌<◌, ◌⊎◌, inl, inr, ⊎_elim, Bool, true, false, List, [], ◌∷◌, ◌++◌, length, set, map, take, drop, get_or, Some, None, refl, sym, ap, subst, arith, append-nil, append_assoc}
+use Rattle.std.proofs.Common.{◌≡◌, ◌≢◌, ◌∙◌, ℕ, zero, suc, ◌+◌, ◌<◌, ◌⊎◌, inl, inr, ⊎_elim, Bool, true, false, List, []}
+use Rattle.std.proofs.Common.{◌∷◌, ◌++◌, length, set, map, take, drop, get_or, Some, None, refl, sym, ap, subst, arith}
+use Rattle.std.proofs.Common.{append-nil, append_assoc}
 use Rattle.std.specs.Prelude.{◌==◌, if◌then◌else◌}
 use Rattle.std.specs.List.{slice_get}
 use Rattle.std.proofs.lemmas.List.Elements.{filter-append}
@@ -25,7 +27,8 @@ pub get-push : {A : Type 0} (xs : List A) (x : A) (k : ℕ) (y : A) → slice_ge
 get-push [] x zero y at = inr (refl, some_is x y at)
 get-push [] x (suc k) y at = absurd (none_some at)
 get-push (z ∷ xs) x zero y at = inl at
-get-push (z ∷ xs) x (suc k) y at = ⊎_elim (λ there. inl there) (λ here. inr (ap suc here.0, here.1)) (get-push xs x k y at)
+get-push (z ∷ xs) x (suc k) y at =
+    ⊎_elim (λ there. inl there) (λ here. inr (ap suc here.0, here.1)) (get-push xs x k y at)
 
 -- what is at a place of a list of which one is another
 pub get-set : {A : Type 0} (xs : List A) (k : ℕ) (x : A) (j : ℕ) (y : A) → slice_get (set xs k x) j ≡ Some y
@@ -40,14 +43,16 @@ get-set (z ∷ xs) (suc k) x (suc j) y at = ⊎_elim
     (get-set xs k x j y at)
 
 -- the parts of a CPU, with one more that is its own, or another's
-only : (cpu : ℕ) (part : ModelPart) (own : Bool) → own ≡ (part.cpu == cpu) → parts_of_cpu cpu (part ∷ []) ≡ (if own then part ∷ [] else [])
+only : (cpu : ℕ) (part : ModelPart) (own : Bool) → own ≡ (part.cpu == cpu)
+    → parts_of_cpu cpu (part ∷ []) ≡ (if own then part ∷ [] else [])
 only cpu part own is = ap (λ (b : Bool). if b then part ∷ [] else []) (sym is)
 
 pub own-part : (cpu : ℕ) (parts : List ModelPart) (part : ModelPart) → part.cpu ≡ cpu
     → parts_of_cpu cpu (parts ++ part ∷ []) ≡ parts_of_cpu cpu parts ++ part ∷ []
 own-part cpu parts part same =
     filter-append (λ p. p.cpu == cpu) parts (part ∷ [])
-    ∙ ap (λ (ps : List ModelPart). parts_of_cpu cpu parts ++ ps) (only cpu part true (sym (eqb-refl-at part.cpu cpu same)))
+    ∙ ap (λ (ps : List ModelPart). parts_of_cpu cpu parts ++ ps)
+    (only cpu part true (sym (eqb-refl-at part.cpu cpu same)))
   where
     eqb-refl-at : (a b : ℕ) → a ≡ b → (a == b) ≡ true
     eqb-refl-at a b e = grind (arith, common_steps)
@@ -56,7 +61,8 @@ pub other-part : (cpu : ℕ) (parts : List ModelPart) (part : ModelPart) → par
     → parts_of_cpu cpu (parts ++ part ∷ []) ≡ parts_of_cpu cpu parts
 other-part cpu parts part other =
     filter-append (λ p. p.cpu == cpu) parts (part ∷ [])
-    ∙ ap (λ (ps : List ModelPart). parts_of_cpu cpu parts ++ ps) (only cpu part false (sym (eqb-off part.cpu cpu other)))
+    ∙ ap (λ (ps : List ModelPart). parts_of_cpu cpu parts ++ ps)
+    (only cpu part false (sym (eqb-off part.cpu cpu other)))
     ∙ append-nil (parts_of_cpu cpu parts)
   where
     eqb-off : (a b : ℕ) → a ≢ b → (a == b) ≡ false
@@ -78,7 +84,8 @@ cpus-more known parts part cpus new was read = record {
 }
 
 -- the numbers of one CPU don't fit
-pub cpu-past : (known : Missed) (parts : List ModelPart) (part : ModelPart) → IsPartPast known (parts_of_cpu part.cpu parts) part
+pub cpu-past : (known : Missed) (parts : List ModelPart) (part : ModelPart)
+    → IsPartPast known (parts_of_cpu part.cpu parts) part
     → IsCpuPast known part.cpu (parts ++ part ∷ [])
 cpu-past known parts part past = record {
   whole = parts_of_cpu part.cpu parts;
@@ -93,7 +100,8 @@ cpu-past known parts part past = record {
 }
 
 -- and not with further parts
-pub past-more : (known : Missed) (cpu : ℕ) (parts more : List ModelPart) → IsCpuPast known cpu parts → IsCpuPast known cpu (parts ++ more)
+pub past-more : (known : Missed) (cpu : ℕ) (parts more : List ModelPart) → IsCpuPast known cpu parts
+    → IsCpuPast known cpu (parts ++ more)
 past-more known cpu parts more past = record {
   whole = past.whole;
   last = past.last;
@@ -101,17 +109,20 @@ past-more known cpu parts more past = record {
   further = past.further ++ parts_of_cpu cpu more;
   begin = filter-append (λ p. p.cpu == cpu) parts more
       ∙ ap (λ (ps : List ModelPart). ps ++ parts_of_cpu cpu more) past.begin
-      ∙ append_assoc past.whole (record past.last { bytes = past.last.bytes ++ past.behind } ∷ past.further) (parts_of_cpu cpu more);
+      ∙ append_assoc past.whole (record past.last { bytes = past.last.bytes ++ past.behind } ∷ past.further)
+      (parts_of_cpu cpu more);
   pages = past.pages;
   cut = past.cut;
   past = past.past;
 }
 
 -- the parts so far, and the next one
-pub parts-next : (before : List ModelPart) (parts : List CpuPart) (i : ℕ) (part : CpuPart) → i < length parts → part ≡ get_or parts i part
+pub parts-next : (before : List ModelPart) (parts : List CpuPart) (i : ℕ) (part : CpuPart) → i < length parts
+    → part ≡ get_or parts i part
     → before ++ map part_seen (take (i + 1) parts) ≡ (before ++ map part_seen (take i parts)) ++ part_seen part ∷ []
 parts-next before parts i part below is =
-    ap (λ (ps : List CpuPart). before ++ map part_seen ps) (take_more parts i part below ∙ ap (λ (p : CpuPart). take i parts ++ p ∷ []) (sym is))
+    ap (λ (ps : List CpuPart). before ++ map part_seen ps)
+    (take_more parts i part below ∙ ap (λ (p : CpuPart). take i parts ++ p ∷ []) (sym is))
     ∙ ap (λ (ps : List ModelPart). before ++ ps) (map-append part_seen (take i parts) (part ∷ []))
     ∙ sym (append_assoc before (map part_seen (take i parts)) (part_seen part ∷ []))
 

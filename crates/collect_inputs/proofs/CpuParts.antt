@@ -1,5 +1,6 @@
 -- A CPU with one part more.
-use Rattle.std.proofs.Common.{◌≡◌, ◌∙◌, ℕ, ◌+◌, ◌^◌, ◌≤◌, List, [], ◌∷◌, ◌++◌, length, map, sym, ap, subst, arith, append-nil}
+use Rattle.std.proofs.Common.{◌≡◌, ◌∙◌, ℕ, ◌+◌, ◌^◌, ◌≤◌, List, [], ◌∷◌, ◌++◌, length, map, sym, ap, subst, arith}
+use Rattle.std.proofs.Common.{append-nil}
 use Rattle.std.proofs.lemmas.List.{map-append}
 use Rattle.trace_model.specs.Image.{Missed}
 use Rattle.capture.specs.Pages.{Page, AreCut, told, Fit}
@@ -12,7 +13,8 @@ use Rattle.collect_inputs.specs.Captures.{measured, CountsPart, IsCpuRead, IsPar
 use Rattle.collect_inputs.proofs.Cuts.{cuts-append, bytes-append}
 
 -- a part whose pages are these is read
-pub cpu-more : (known : Missed) (cpu : ℕ) (parts : List ModelPart) (part : ModelPart) (own : List Page) (old : CpuCapture) {capture : Capture} (new : CpuCapture)
+pub cpu-more : (known : Missed) (cpu : ℕ) (parts : List ModelPart) (part : ModelPart) (own : List Page)
+    (old : CpuCapture) {capture : Capture} (new : CpuCapture)
     (was : IsCpuRead known cpu parts old) → AreCut part.size part.bytes own
     → IsCapture capture (map (told known) was.pages ++ map (told known) own) → capture.cpu ≡ old.capture.cpu
     → CountsPart (record old { capture = capture }) new (measured part) → IsCpuRead known cpu (parts ++ part ∷ []) new
@@ -22,13 +24,16 @@ cpu-more known cpu parts part own old {capture = capture} new was cut is same co
   cpu_is = ap (λ (c : Capture). c.cpu.0) counts.capture_is ∙ ap (λ c. c.0) same ∙ was.cpu_is;
   capture_is = subst (λ (c : Capture). IsCapture c (map (told known) (was.pages ++ own))) (sym counts.capture_is)
       (subst (IsCapture capture) (sym (map-append (told known) was.pages own)) is);
-  parts_are = counts.parts_are ∙ ap (λ (ps : List Part). ps ++ measured part ∷ []) was.parts_are ∙ sym (map-append measured parts (part ∷ []));
+  parts_are =
+      counts.parts_are ∙ ap (λ (ps : List Part). ps ++ measured part ∷ []) was.parts_are
+      ∙ sym (map-append measured parts (part ∷ []));
   bytes_are = counts.bytes_are ∙ ap (λ (n : ℕ). n + length part.bytes) was.bytes_are ∙ sym (bytes-append parts part);
   bytes_fit = omega (arith, bytes-append parts part, was.bytes_are, counts.fits);
 }
 
 -- the numbers of its pages don't fit
-pub pages-past : (known : Missed) (cpu : ℕ) (parts : List ModelPart) (part : ModelPart) (old : CpuCapture) (was : IsCpuRead known cpu parts old)
+pub pages-past : (known : Missed) (cpu : ℕ) (parts : List ModelPart) (part : ModelPart) (old : CpuCapture)
+    (was : IsCpuRead known cpu parts old)
     (front behind : List ℕ) (own : List Page) → part.bytes ≡ front ++ behind → AreCut part.size front own
     → (Fit (map (told known) was.pages ++ map (told known) own) → ⊥) → IsPartPast known parts part
 pages-past known cpu parts part old was front behind own bytes cut past = record {
@@ -41,8 +46,10 @@ pages-past known cpu parts part old was front behind own bytes cut past = record
 }
 
 -- the number of its bytes doesn't fit
-pub bytes-past : (known : Missed) (cpu : ℕ) (parts : List ModelPart) (part : ModelPart) (old : CpuCapture) (was : IsCpuRead known cpu parts old)
-    (own : List Page) → AreCut part.size part.bytes own → 2 ^ 64 ≤ old.bytes + length part.bytes → IsPartPast known parts part
+pub bytes-past : (known : Missed) (cpu : ℕ) (parts : List ModelPart) (part : ModelPart) (old : CpuCapture)
+    (was : IsCpuRead known cpu parts old)
+    (own : List Page) → AreCut part.size part.bytes own → 2 ^ 64 ≤ old.bytes + length part.bytes
+    → IsPartPast known parts part
 bytes-past known cpu parts part old was own cut past = record {
   front = part.bytes;
   behind = [];

@@ -1,5 +1,6 @@
 -- The pages of parts, and of one part more.
-use Rattle.std.proofs.Common.{◌≡◌, ◌∙◌, ◌+◌, List, [], ◌∷◌, ◌++◌, length, refl, sym, ap, subst, arith, append-nil, append_assoc}
+use Rattle.std.proofs.Common.{◌≡◌, ◌∙◌, ◌+◌, List, [], ◌∷◌, ◌++◌, length, refl, sym, ap, subst, arith, append-nil}
+use Rattle.std.proofs.Common.{append_assoc}
 use Rattle.capture.specs.Pages.{Page, AreCut}
 use Rattle.collect_inputs.specs.Files.{ModelPart, bytes_in}
 use Rattle.collect_inputs.specs.Captures.{CutsOf}
@@ -21,6 +22,7 @@ cuts-append (first ∷ parts) pages part own (front, others, is, here, more) cut
   cuts-append parts others part own more cut,
 )
 
-pub bytes-append : (parts : List ModelPart) (part : ModelPart) → bytes_in (parts ++ part ∷ []) ≡ bytes_in parts + length part.bytes
+pub bytes-append : (parts : List ModelPart) (part : ModelPart)
+    → bytes_in (parts ++ part ∷ []) ≡ bytes_in parts + length part.bytes
 bytes-append [] part = omega arith
 bytes-append (first ∷ parts) part = omega (arith, bytes-append parts part)

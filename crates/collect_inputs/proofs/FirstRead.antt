@@ -4,7 +4,8 @@ use Rattle.std.specs.Io.KnownBytes.{Consumes}
 use Rattle.std.proofs.KnownBytes.{Consumes-trans}
 
 pub rest-more : (first file new part : List ℕ) (unread left after : Option (List ℕ))
-    → (more : List ℕ) × (file ≡ first ++ more) × Consumes unread left more → new ≡ file ++ part → Consumes left after part
+    → (more : List ℕ) × (file ≡ first ++ more) × Consumes unread left more → new ≡ file ++ part
+    → Consumes left after part
     → (more : List ℕ) × (new ≡ first ++ more) × Consumes unread after more
 rest-more first file new part unread left after (more, is, taken) added took = (
   more ++ part,

@@ -1,16 +1,19 @@
 -- What a capture has of losses, beside what its pages state.
-use Rattle.std.proofs.Common.{◌≡◌, ◌≢◌, ◌∙◌, ℕ, suc, ◌+◌, ◌-◌, ◌≤◌, ◌<◌, Bool, true, false, List, [], ◌∷◌, ◌++◌, length, take, drop, get_or, refl, sym, ap, arith, length-append}
+use Rattle.std.proofs.Common.{◌≡◌, ◌≢◌, ◌∙◌, ℕ, suc, ◌+◌, ◌-◌, ◌≤◌, ◌<◌, Bool, true, false, List, [], ◌∷◌, ◌++◌, length}
+use Rattle.std.proofs.Common.{take, drop, get_or, refl, sym, ap, arith, length-append}
 use Rattle.std.specs.Prelude.{◌==◌, ◌&&◌, nat_lt, if◌then◌else◌, Some}
 use Rattle.std.proofs.lemmas.Grind.{common_steps}
 use Rattle.std.proofs.lemmas.List.{take_more, take-append-drop, length-map}
 use Rattle.trace_model.specs.Parcel.{Parcel}
 use Rattle.trace_model.specs.Image.{Missed, none, unknown, counted}
 use Rattle.page_numbers.specs.Parcels.{ParcelValue, as_parcels}
-use Rattle.capture.specs.Pages.{Page, intact, damaged, least_missed, behind, end_from, parcels_from, unknown_at, unknown_from, damages_from}
+use Rattle.capture.specs.Pages.{Page, intact, damaged, least_missed, behind, end_from, parcels_from, unknown_at}
+use Rattle.capture.specs.Pages.{unknown_from, damages_from}
 use Rattle.capture.specs.Captures.{IsCapture, AreDamages}
 use Rattle.capture.specs.declared.pages.Capture.{Capture}
 use Rattle.capture.specs.declared.pages.Damaged.{Damaged}
-use Rattle.collect_inputs.specs.Losses.{missed_in, counted_in, counted_losses, unknown_in, unknown_losses, are_intact, loss_of}
+use Rattle.collect_inputs.specs.Losses.{missed_in, counted_in, counted_losses, unknown_in, unknown_losses, are_intact}
+use Rattle.collect_inputs.specs.Losses.{loss_of}
 
 missed-append : (xs ys : List ParcelValue) → missed_in (xs ++ ys) ≡ missed_in xs + missed_in ys
 missed-append [] ys = omega arith
@@ -20,11 +23,15 @@ pub missed-next : (parcels : List ParcelValue) (i : ℕ) (d : ParcelValue) → i
     → missed_in (take (i + 1) parcels) ≡ missed_in (take i parcels) + (get_or parcels i d).missed
 missed-next parcels i d below =
     ap missed_in (take_more parcels i d below) ∙ missed-append (take i parcels) (get_or parcels i d ∷ [])
-    ∙ (let one : missed_in (take i parcels) + ((get_or parcels i d).missed + 0) ≡ missed_in (take i parcels) + (get_or parcels i d).missed = omega arith in one)
+    ∙ (let one : missed_in (take i parcels) + ((get_or parcels i d).missed + 0)
+    ≡ missed_in (take i parcels) + (get_or parcels i d).missed =
+    omega arith in
+    one)
 
 pub missed-within : (parcels : List ParcelValue) (i : ℕ) → missed_in (take i parcels) ≤ missed_in parcels
 missed-within parcels i =
-    let whole : missed_in (take i parcels ++ drop i parcels) ≡ missed_in parcels = ap missed_in (take-append-drop i parcels) in
+    let whole : missed_in (take i parcels ++ drop i parcels) ≡ missed_in parcels =
+    ap missed_in (take-append-drop i parcels) in
     omega (arith, whole, missed-append (take i parcels) (drop i parcels))
 
 model_missed : List Parcel → ℕ
@@ -41,7 +48,8 @@ least-parts none = refl
 least-parts unknown = refl
 least-parts (counted events) = omega arith
 
-pages-missed : (cpu fill next : ℕ) (pages : List Page) → model_missed (parcels_from cpu fill next pages) ≡ counted_losses pages + unknown_losses pages
+pages-missed : (cpu fill next : ℕ) (pages : List Page)
+    → model_missed (parcels_from cpu fill next pages) ≡ counted_losses pages + unknown_losses pages
 unfolding model_missed
 pages-missed cpu fill next [] = refl
 pages-missed cpu fill next (intact read ∷ pages) =
@@ -62,7 +70,8 @@ pub capture-missed : (capture : Capture) (pages : List Page) → IsCapture captu
 capture-missed capture pages is =
     sym (as-model capture.parcels.items) ∙ ap model_missed is.parcels_are ∙ pages-missed capture.cpu.0 0 0 pages
 
-pub capture-fits : (capture : Capture) (pages : List Page) → IsCapture capture pages → missed_in capture.parcels.items ≤ end_from 0 pages
+pub capture-fits : (capture : Capture) (pages : List Page) → IsCapture capture pages
+    → missed_in capture.parcels.items ≤ end_from 0 pages
 capture-fits capture pages is = let low = pages-end 0 pages in omega (arith, capture-missed capture pages is, low)
 
 unknown-here : (next : ℕ) (missed : Missed) → length (unknown_at next missed) ≡ unknown_in missed
@@ -74,38 +83,52 @@ unknown-count : (next : ℕ) (pages : List Page) → length (unknown_from next p
 unknown-count next [] = refl
 unknown-count next (intact read ∷ pages) =
     let rest = unknown-count (behind next (intact read)) pages in
-    omega (arith, length-append (unknown_at next read.missed) (unknown_from (behind next (intact read)) pages), unknown-here next read.missed, rest)
+    omega (
+      arith,
+      length-append (unknown_at next read.missed) (unknown_from (behind next (intact read)) pages),
+      unknown-here next read.missed,
+      rest,
+    )
 unknown-count next (damaged cause ∷ pages) = unknown-count next pages
 
 -- how many losses of unknown number a capture has
-pub capture-unknown : (capture : Capture) (pages : List Page) → IsCapture capture pages → length capture.unknown.items ≡ unknown_losses pages
+pub capture-unknown : (capture : Capture) (pages : List Page) → IsCapture capture pages
+    → length capture.unknown.items ≡ unknown_losses pages
 capture-unknown capture pages is =
-    sym (length-map capture.unknown.items (λ number. number.0)) ∙ ap (length {A = ℕ}) is.unknown_are ∙ unknown-count 0 pages
+    sym (length-map capture.unknown.items (λ number. number.0)) ∙ ap (length {A = ℕ}) is.unknown_are
+    ∙ unknown-count 0 pages
 
-none-damaged : (index next : ℕ) (pages : List Page) → AreDamages [] (damages_from index next pages) → are_intact pages ≡ true
+none-damaged : (index next : ℕ) (pages : List Page) → AreDamages [] (damages_from index next pages)
+    → are_intact pages ≡ true
 none-damaged index next [] are = refl
 none-damaged index next (intact read ∷ pages) are = none-damaged (suc index) (behind next (intact read)) pages are
 none-damaged index next (damaged cause ∷ pages) are = absurd are
 
-some-damaged : (index next : ℕ) (pages : List Page) (d : Damaged) (more : List Damaged) → AreDamages (d ∷ more) (damages_from index next pages)
+some-damaged : (index next : ℕ) (pages : List Page) (d : Damaged) (more : List Damaged)
+    → AreDamages (d ∷ more) (damages_from index next pages)
     → are_intact pages ≡ false
 some-damaged index next [] d more are = absurd are
-some-damaged index next (intact read ∷ pages) d more are = some-damaged (suc index) (behind next (intact read)) pages d more are
+some-damaged index next (intact read ∷ pages) d more are =
+    some-damaged (suc index) (behind next (intact read)) pages d more are
 some-damaged index next (damaged cause ∷ pages) d more are = refl
 
-damaged-none : (items : List Damaged) (pages : List Page) → AreDamages items (damages_from 0 0 pages) → length items ≡ 0 → are_intact pages ≡ true
+damaged-none : (items : List Damaged) (pages : List Page) → AreDamages items (damages_from 0 0 pages) → length items ≡ 0
+    → are_intact pages ≡ true
 damaged-none [] pages are few = none-damaged 0 0 pages are
 damaged-none (d ∷ more) pages are few = absurd (omega (arith, few))
 
-damaged-some : (items : List Damaged) (pages : List Page) → AreDamages items (damages_from 0 0 pages) → 0 < length items → are_intact pages ≡ false
+damaged-some : (items : List Damaged) (pages : List Page) → AreDamages items (damages_from 0 0 pages) → 0 < length items
+    → are_intact pages ≡ false
 damaged-some [] pages are few = absurd (omega (arith, few))
 damaged-some (d ∷ more) pages are few = some-damaged 0 0 pages d more are
 
 -- whether no page of a capture is damaged
-pub capture-whole : (capture : Capture) (pages : List Page) → IsCapture capture pages → length capture.damaged.items ≡ 0 → are_intact pages ≡ true
+pub capture-whole : (capture : Capture) (pages : List Page) → IsCapture capture pages → length capture.damaged.items ≡ 0
+    → are_intact pages ≡ true
 capture-whole capture pages is few = damaged-none capture.damaged.items pages is.damaged_are few
 
-pub capture-broken : (capture : Capture) (pages : List Page) → IsCapture capture pages → 0 < length capture.damaged.items → are_intact pages ≡ false
+pub capture-broken : (capture : Capture) (pages : List Page) → IsCapture capture pages
+    → 0 < length capture.damaged.items → are_intact pages ≡ false
 capture-broken capture pages is some = damaged-some capture.damaged.items pages is.damaged_are some
 
 -- ---- the loss
@@ -143,18 +166,24 @@ lt-test a b e = grind (arith, common_steps)
 le-test : (a b : ℕ) → b ≤ a → nat_lt a b ≡ false
 le-test a b e = grind (arith, common_steps)
 
-pub loss-known : (overrun : ℕ) (pages : List Page) → unknown_losses pages ≡ 1 → are_intact pages ≡ true → counted_losses pages < overrun
+pub loss-known : (overrun : ℕ) (pages : List Page) → unknown_losses pages ≡ 1 → are_intact pages ≡ true
+    → counted_losses pages < overrun
     → loss_of (Some overrun) pages ≡ counted (overrun - counted_losses pages)
-loss-known overrun pages one whole more = picked (unknown_losses pages == 1) (are_intact pages) (nat_lt (counted_losses pages) overrun) _ _
+loss-known overrun pages one whole more =
+    picked (unknown_losses pages == 1) (are_intact pages) (nat_lt (counted_losses pages) overrun) _ _
     (is-test (unknown_losses pages) one) whole (lt-test (counted_losses pages) overrun more)
 
 pub loss-not-one : (overrun : ℕ) (pages : List Page) → unknown_losses pages ≢ 1 → loss_of (Some overrun) pages ≡ unknown
-loss-not-one overrun pages other = not-one (unknown_losses pages == 1) (are_intact pages) (nat_lt (counted_losses pages) overrun) _ _
+loss-not-one overrun pages other =
+    not-one (unknown_losses pages == 1) (are_intact pages) (nat_lt (counted_losses pages) overrun) _ _
     (is-not-test (unknown_losses pages) other)
 
 pub loss-damaged : (overrun : ℕ) (pages : List Page) → are_intact pages ≡ false → loss_of (Some overrun) pages ≡ unknown
-loss-damaged overrun pages some = not-intact (unknown_losses pages == 1) (are_intact pages) (nat_lt (counted_losses pages) overrun) _ _ some
+loss-damaged overrun pages some =
+    not-intact (unknown_losses pages == 1) (are_intact pages) (nat_lt (counted_losses pages) overrun) _ _ some
 
-pub loss-low : (overrun : ℕ) (pages : List Page) → overrun ≤ counted_losses pages → loss_of (Some overrun) pages ≡ unknown
-loss-low overrun pages low = not-more (unknown_losses pages == 1) (are_intact pages) (nat_lt (counted_losses pages) overrun) _ _
+pub loss-low : (overrun : ℕ) (pages : List Page) → overrun ≤ counted_losses pages
+    → loss_of (Some overrun) pages ≡ unknown
+loss-low overrun pages low =
+    not-more (unknown_losses pages == 1) (are_intact pages) (nat_lt (counted_losses pages) overrun) _ _
     (le-test (counted_losses pages) overrun low)

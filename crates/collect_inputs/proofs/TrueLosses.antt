@@ -1,5 +1,6 @@
 -- The only loss of unknown number is what is skipped and not counted.
-use Rattle.std.proofs.Common.{◌≡◌, ◌≢◌, ◌∙◌, ℕ, ◌+◌, ◌-◌, ◌<◌, ◌⊎◌, inl, inr, ⊎_elim, true, false, List, [], ◌∷◌, map, Option, Some, None, refl, sym, ap, subst, arith}
+use Rattle.std.proofs.Common.{◌≡◌, ◌≢◌, ◌∙◌, ℕ, ◌+◌, ◌-◌, ◌<◌, ◌⊎◌, inl, inr, ⊎_elim, true, false, List, [], ◌∷◌, map}
+use Rattle.std.proofs.Common.{Option, Some, None, refl, sym, ap, subst, arith}
 use Rattle.std.specs.List.{sum_by}
 use Rattle.std.proofs.lemmas.List.Sums.{sum_by-cons}
 use Rattle.trace_model.specs.Partition.{Piece}
@@ -8,7 +9,8 @@ use Rattle.trace_model.specs.Image.{Missed, none, unknown, counted}
 use Rattle.capture.specs.Pages.{Page, intact, damaged, told_of, told}
 use Rattle.capture.specs.Rings.{AreReported, HaveCounts}
 use Rattle.capture.proofs.Told.{all-told-unknown}
-use Rattle.collect_inputs.specs.Losses.{counted_in, counted_losses, unknown_in, unknown_losses, are_intact, loss_of, settled}
+use Rattle.collect_inputs.specs.Losses.{counted_in, counted_losses, unknown_in, unknown_losses, are_intact, loss_of}
+use Rattle.collect_inputs.specs.Losses.{settled}
 use Rattle.collect_inputs.proofs.LossSums.{loss-known, loss-not-one}
 
 -- how many records pieces skip

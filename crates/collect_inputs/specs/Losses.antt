@@ -1,5 +1,6 @@
 -- A loss of unknown number, which the kernel's counters may settle.
-use Rattle.std.specs.Prelude.{ℕ, ◌+◌, ◌-◌, ◌==◌, ◌&&◌, Bool, true, false, List, [], ◌∷◌, map, Option, Some, None, nat_lt, if◌then◌else◌}
+use Rattle.std.specs.Prelude.{ℕ, ◌+◌, ◌-◌, ◌==◌, ◌&&◌, Bool, true, false, List, [], ◌∷◌, map, Option, Some, None}
+use Rattle.std.specs.Prelude.{nat_lt, if◌then◌else◌}
 use Rattle.trace_model.specs.Image.{Missed, none, unknown, counted}
 use Rattle.page_numbers.specs.Parcels.{ParcelValue}
 use Rattle.capture.specs.Pages.{Page, intact, damaged, told}

@@ -1,5 +1,6 @@
 -- A parcel beside those that are kept: whether it fits, and whether it adds something, number by number.
-use Rattle.std.proofs.Common.{◌≡◌, ◌≢◌, ◌⊎◌, inl, inr, ⊎_elim, ℕ, ◌+◌, ◌-◌, ◌<◌, ◌≤◌, Bool, true, false, MatchBool, List, [], ◌∷◌, ◌++◌, length, Some, refl, sym, ap, ◌∙◌, subst, arith}
+use Rattle.std.proofs.Common.{◌≡◌, ◌≢◌, ◌⊎◌, inl, inr, ⊎_elim, ℕ, ◌+◌, ◌-◌, ◌<◌, ◌≤◌, Bool, true, false, MatchBool}
+use Rattle.std.proofs.Common.{List, [], ◌∷◌, ◌++◌, length, Some, refl, sym, ap, ◌∙◌, subst, arith}
 use Rattle.std.specs.List.{slice_get}
 use Rattle.std.proofs.lemmas.Bool.{cases_lt, cases_eq}
 use Rattle.std.proofs.lemmas.Option.{none-some, slice_get_within}
@@ -22,16 +23,21 @@ use Rattle.collector.proofs.Indexing.{same_record, record_at, in_taken}
 
 -- ---- who has it
 
-pub has_either : (ps : List Parcel) (p : Parcel) (cpu n : ℕ) (r : Record) → Has (ps ++ p ∷ []) cpu n r → (Has ps cpu n r) ⊎ (IsPairOf p cpu n r)
+pub has_either : (ps : List Parcel) (p : Parcel) (cpu n : ℕ) (r : Record) → Has (ps ++ p ∷ []) cpu n r
+    → (Has ps cpu n r) ⊎ (IsPairOf p cpu n r)
 has_either ps p cpu n r h = ⊎_elim
-    (λ (there : slice_get ps h.index ≡ Some h.parcel). inl record { index = h.index; parcel = h.parcel; at = there; pair = h.pair })
+    (λ (there : slice_get ps h.index ≡ Some h.parcel).
+    inl record { index = h.index; parcel = h.parcel; at = there; pair = h.pair })
     (λ (own : (h.index ≡ length ps) × (h.parcel ≡ p)). inr (subst (λ (q : Parcel). IsPairOf q cpu n r) own.1 h.pair))
     (get_pushed ps p h.index h.parcel h.at)
 
-pub misses_either : (ps : List Parcel) (p : Parcel) (cpu n : ℕ) → Misses (ps ++ p ∷ []) cpu n → (Misses ps cpu n) ⊎ (IsMissingOf p cpu n)
+pub misses_either : (ps : List Parcel) (p : Parcel) (cpu n : ℕ) → Misses (ps ++ p ∷ []) cpu n
+    → (Misses ps cpu n) ⊎ (IsMissingOf p cpu n)
 misses_either ps p cpu n m = ⊎_elim
-    (λ (there : slice_get ps m.index ≡ Some m.parcel). inl record { index = m.index; parcel = m.parcel; at = there; missing = m.missing })
-    (λ (own : (m.index ≡ length ps) × (m.parcel ≡ p)). inr (subst (λ (q : Parcel). IsMissingOf q cpu n) own.1 m.missing))
+    (λ (there : slice_get ps m.index ≡ Some m.parcel).
+    inl record { index = m.index; parcel = m.parcel; at = there; missing = m.missing })
+    (λ (own : (m.index ≡ length ps) × (m.parcel ≡ p)).
+    inr (subst (λ (q : Parcel). IsMissingOf q cpu n) own.1 m.missing))
     (get_pushed ps p m.index m.parcel m.at)
 
 pub has_own : (p : Parcel) (cpu n : ℕ) (r : Record) → IsPairOf p cpu n r → Has (p ∷ []) cpu n r
@@ -44,13 +50,16 @@ pub own_has : (p : Parcel) (cpu n : ℕ) (r : Record) → Has (p ∷ []) cpu n r
 own_has p cpu n r h = ⊎_elim (λ none. absurd (none-some none.parcel none.at)) (λ pair. pair) (has_either [] p cpu n r h)
 
 pub own_misses : (p : Parcel) (cpu n : ℕ) → Misses (p ∷ []) cpu n → IsMissingOf p cpu n
-own_misses p cpu n m = ⊎_elim (λ none. absurd (none-some none.parcel none.at)) (λ missing. missing) (misses_either [] p cpu n m)
+own_misses p cpu n m =
+    ⊎_elim (λ none. absurd (none-some none.parcel none.at)) (λ missing. missing) (misses_either [] p cpu n m)
 
 pair_from : (p : Parcel) (cpu n : ℕ) (r : Record) → IsPairOf p cpu n r → p.first ≤ n
 pair_from p cpu n r pair = let is = pair.number_is in omega arith
 
 pair_below : (p : Parcel) (cpu n : ℕ) (r : Record) → IsPairOf p cpu n r → n < p.first + length p.records
-pair_below p cpu n r pair = let is = pair.number_is in let within = slice_get_within p.records pair.index r pair.record_is in omega arith
+pair_below p cpu n r pair = let is = pair.number_is in
+    let within = slice_get_within p.records pair.index r pair.record_is in
+    omega arith
 
 -- ---- a parcel that fits
 
@@ -74,7 +83,8 @@ not_both ps p c n agree fits r h m = ⊎_elim
     (has_either ps p c n r h)
 
 -- if the parcel has nothing
-apart_fits : (ps : List Parcel) (p : Parcel) (c n : ℕ) → ((r : Record) → IsPairOf p c n r → ⊥) → (IsMissingOf p c n → ⊥) → FitsAt ps p c n
+apart_fits : (ps : List Parcel) (p : Parcel) (c n : ℕ) → ((r : Record) → IsPairOf p c n r → ⊥) → (IsMissingOf p c n → ⊥)
+    → FitsAt ps p c n
 apart_fits ps p c n no_pair not_missing = record {
   one_record = λ r other h pair. absurd (no_pair other pair);
   not_missing = λ r h m. not_missing m;
@@ -121,13 +131,18 @@ fits_agree ps p agree missing records = record {
 front_agrees : (ps : List Parcel) (p : Parcel) (n : ℕ) → Agree ps
     → ((m : ℕ) → p.first - p.missed ≤ m → m < n → FitsAt ps p p.cpu m) → AgreeBefore (ps ++ p ∷ []) p.cpu n
 front_agrees ps p n agree fits = record {
-  no_clash = λ c m front clash. clash.differ (one_of ps p c m agree (fits_front c m front) clash.one clash.other clash.has clash.has_other);
-  none_taken_and_missing = λ c m front both. not_both ps p c m agree (fits_front c m front) both.one both.has both.misses;
+  no_clash =
+      λ c m front clash.
+      clash.differ
+      (one_of ps p c m agree (fits_front c m front) clash.one clash.other clash.has clash.has_other);
+  none_taken_and_missing =
+      λ c m front both. not_both ps p c m agree (fits_front c m front) both.one both.has both.misses;
 }
   where
     fits_front : (c m : ℕ) → IsBeforeNumber c m p.cpu n → FitsAt ps p c m
     fits_front c m front = ⊎_elim
-        (λ (lt : c < p.cpu). apart_fits ps p c m (λ r pair. let e = pair.cpu_is in omega arith) (λ m. let e = m.cpu_is in omega arith))
+        (λ (lt : c < p.cpu).
+        apart_fits ps p c m (λ r pair. let e = pair.cpu_is in omega arith) (λ m. let e = m.cpu_is in omega arith))
         (λ (same : (c ≡ p.cpu) × (m < n)). subst (λ (q : ℕ). FitsAt ps p q m) (sym same.0) (⊎_elim
         (λ (lt : m < p.first - p.missed). front_fits ps p p.cpu m (omega arith))
         (λ (ge : p.first - p.missed ≤ m). fits m ge same.1)
@@ -142,7 +157,9 @@ missing_is_taken ps p i cpu n e agree x low high fits =
       record {
         one = found.0;
         has = (joined_left ps (p ∷ [])).has cpu n found.0 found.1;
-        misses = (joined_right ps (p ∷ [])).misses cpu n (misses_own p cpu n record { cpu_is = e; low = omega arith; high = high });
+        misses =
+            (joined_right ps (p ∷ [])).misses cpu n
+            (misses_own p cpu n record { cpu_is = e; low = omega arith; high = high });
       },
       subst (λ (q : ℕ). AgreeBefore (ps ++ p ∷ []) q n) (sym e) (front_agrees ps p n agree fits),
     )
@@ -161,9 +178,11 @@ record_is_missing ps p cpu n e agree m from below fits =
     )
 
 pair_of : (p : Parcel) (cpu n : ℕ) (r : Record) → IsPairOf p cpu n r → record_of p n ≡ Some r
-pair_of p cpu n r pair = let is = pair.number_is in ap (slice_get p.records) (let e : n - p.first ≡ pair.index = omega arith in e) ∙ pair.record_is
+pair_of p cpu n r pair = let is = pair.number_is in
+    ap (slice_get p.records) (let e : n - p.first ≡ pair.index = omega arith in e) ∙ pair.record_is
 
-pub records_clash : (ps : List Parcel) (p q : Parcel) (i cpu n : ℕ) → cpu ≡ p.cpu → Agree ps → IsIn ps i cpu n → slice_get ps i ≡ Some q
+pub records_clash : (ps : List Parcel) (p q : Parcel) (i cpu n : ℕ) → cpu ≡ p.cpu → Agree ps → IsIn ps i cpu n
+    → slice_get ps i ≡ Some q
     → p.first ≤ n → n < p.first + length p.records → record_of p n ≢ record_of q n
     → ((m : ℕ) → p.first - p.missed ≤ m → m < n → FitsAt ps p p.cpu m)
     → IsClashAt (ps ++ p ∷ []) cpu n × AgreeBefore (ps ++ p ∷ []) cpu n
@@ -174,9 +193,15 @@ records_clash ps p q i cpu n e agree x at from below differ fits =
       record {
         one = kept.0;
         other = own.0;
-        has = (joined_left ps (p ∷ [])).has cpu n kept.0 record { index = i; parcel = x.parcel; at = x.at; pair = kept.1 };
+        has =
+            (joined_left ps (p ∷ [])).has cpu n kept.0
+            record { index = i; parcel = x.parcel; at = x.at; pair = kept.1 };
         has_other = (joined_right ps (p ∷ [])).has cpu n own.0 (has_own p cpu n own.0 own.1);
-        differ = λ r. differ (pair_of p cpu n own.0 own.1 ∙ ap Some (sym r) ∙ sym (pair_of x.parcel cpu n kept.0 kept.1) ∙ ap (λ (z : Parcel). record_of z n) same);
+        differ =
+            λ r.
+            differ
+            (pair_of p cpu n own.0 own.1 ∙ ap Some (sym r) ∙ sym (pair_of x.parcel cpu n kept.0 kept.1)
+            ∙ ap (λ (z : Parcel). record_of z n) same);
       },
       subst (λ (z : ℕ). AgreeBefore (ps ++ p ∷ []) z n) (sym e) (front_agrees ps p n agree fits),
     )
@@ -203,18 +228,24 @@ grown ps p from at end grows seen fits new new_is = record {
   there = (new, new_is);
 }
 
-pub missing_known : (ps : List Parcel) (p : Parcel) (cpu at end : ℕ) (grows : Bool) → cpu ≡ p.cpu → Agree ps → end ≤ p.first
+pub missing_known : (ps : List Parcel) (p : Parcel) (cpu at end : ℕ) (grows : Bool) → cpu ≡ p.cpu → Agree ps
+    → end ≤ p.first
     → IsLookedAt ps p (p.first - p.missed) at grows → ((n : ℕ) → at ≤ n → n < end → Misses ps cpu n)
     → IsLookedAt ps p (p.first - p.missed) end grows
 missing_known ps p cpu at end grows e agree up seen misses =
-    let here : (n : ℕ) → at ≤ n → n < end → Misses ps p.cpu n = λ n a b. subst (λ (q : ℕ). Misses ps q n) e (misses n a b) in
+    let here : (n : ℕ) → at ≤ n → n < end → Misses ps p.cpu n =
+    λ n a b. subst (λ (q : ℕ). Misses ps q n) e (misses n a b) in
     further ps p (p.first - p.missed) at end grows seen
     (λ n a b. record {
       one_record = λ r other h pair. let from = pair_from p p.cpu n other pair in absurd (omega arith);
       not_missing = λ r h m. agree.not_missing p.cpu n r h (here n a b);
       not_taken = λ r m pair. let from = pair_from p p.cpu n r pair in omega arith;
     })
-    (λ n a b. record { has = λ r pair. let from = pair_from p p.cpu n r pair in absurd (omega arith); misses = λ m. here n a b })
+    (λ n a b.
+    record {
+      has = λ r pair. let from = pair_from p p.cpu n r pair in absurd (omega arith);
+      misses = λ m. here n a b;
+    })
 
 unknown_fits : (ps : List Parcel) (p : Parcel) (n : ℕ) → IsUnknown ps p.cpu n → FitsAt ps p p.cpu n
 unknown_fits ps p n u = record {
@@ -227,20 +258,25 @@ pub missing_new : (ps : List Parcel) (p : Parcel) (cpu at end : ℕ) (grows : Bo
     → p.first - p.missed ≤ at → at < end → at < p.first → IsLookedAt ps p (p.first - p.missed) at grows
     → ((n : ℕ) → at ≤ n → n < end → IsUnknown ps cpu n) → IsLookedAt ps p (p.first - p.missed) end true
 missing_new ps p cpu at end grows e low some high seen unknown =
-    let here : (n : ℕ) → at ≤ n → n < end → IsUnknown ps p.cpu n = λ n a b. subst (λ (q : ℕ). IsUnknown ps q n) e (unknown n a b) in
+    let here : (n : ℕ) → at ≤ n → n < end → IsUnknown ps p.cpu n =
+    λ n a b. subst (λ (q : ℕ). IsUnknown ps q n) e (unknown n a b) in
     grown ps p (p.first - p.missed) at end grows seen (λ n a b. unknown_fits ps p n (here n a b)) at
-    (λ there. (here at (omega arith) some).not_missing (there.misses record { cpu_is = refl; low = omega arith; high = high }))
+    (λ there.
+    (here at (omega arith) some).not_missing
+    (there.misses record { cpu_is = refl; low = omega arith; high = high }))
 
 pub records_new : (ps : List Parcel) (p : Parcel) (cpu at end : ℕ) (grows : Bool) → cpu ≡ p.cpu
     → p.first ≤ at → at < end → end ≤ p.first + length p.records → IsLookedAt ps p p.first at grows
     → ((n : ℕ) → at ≤ n → n < end → IsUnknown ps cpu n) → IsLookedAt ps p p.first end true
 records_new ps p cpu at end grows e from some up seen unknown =
-    let here : (n : ℕ) → at ≤ n → n < end → IsUnknown ps p.cpu n = λ n a b. subst (λ (q : ℕ). IsUnknown ps q n) e (unknown n a b) in
+    let here : (n : ℕ) → at ≤ n → n < end → IsUnknown ps p.cpu n =
+    λ n a b. subst (λ (q : ℕ). IsUnknown ps q n) e (unknown n a b) in
     let own = record_at p p.cpu at refl from (omega arith) in
     grown ps p p.first at end grows seen (λ n a b. unknown_fits ps p n (here n a b)) at
     (λ there. (here at (omega arith) some).no_record own.0 (there.has own.0 own.1))
 
-pub records_known : (ps : List Parcel) (p q : Parcel) (i cpu at end : ℕ) (grows : Bool) → cpu ≡ p.cpu → Agree ps → slice_get ps i ≡ Some q
+pub records_known : (ps : List Parcel) (p q : Parcel) (i cpu at end : ℕ) (grows : Bool) → cpu ≡ p.cpu → Agree ps
+    → slice_get ps i ≡ Some q
     → p.first ≤ at → IsLookedAt ps p p.first at grows
     → ((n : ℕ) → at ≤ n → n < end → IsIn ps i cpu n) → ((n : ℕ) → at ≤ n → n < end → record_of p n ≡ record_of q n)
     → IsLookedAt ps p p.first end grows
@@ -248,9 +284,21 @@ records_known ps p q i cpu at end grows e agree is_at from seen shown same =
     let here : (n : ℕ) → at ≤ n → n < end → (r : Record) → IsPairOf p p.cpu n r → Has ps p.cpu n r = λ n a b r pair.
     let x = shown n a b in
     let is_q : x.parcel ≡ q = some_is x.parcel q (sym x.at ∙ is_at) in
-    let there : record_of x.parcel n ≡ Some r = ap (λ (z : Parcel). record_of z n) is_q ∙ sym (same n a b) ∙ pair_of p p.cpu n r pair in
+    let there : record_of x.parcel n ≡ Some r =
+    ap (λ (z : Parcel). record_of z n) is_q ∙ sym (same n a b) ∙ pair_of p p.cpu n r pair in
     let up = x.from in
-    record { index = i; parcel = x.parcel; at = x.at; pair = record { index = n - x.parcel.first; cpu_is = sym e ∙ x.cpu_is; number_is = omega arith; record_is = there } } in
+    record {
+      index = i;
+      parcel = x.parcel;
+      at = x.at;
+      pair =
+          record {
+            index = n - x.parcel.first;
+            cpu_is = sym e ∙ x.cpu_is;
+            number_is = omega arith;
+            record_is = there;
+          };
+    } in
     further ps p p.first at end grows seen
     (λ n a b. record {
       one_record = λ r other h pair. agree.one_record p.cpu n r other h (here n a b other pair);
@@ -274,7 +322,8 @@ below_there : (ps : List Parcel) (p : Parcel)
 below_there ps p missing records = record {
   has = λ cpu n r h. let pair = own_has p cpu n r h in
       let here : IsPairOf p p.cpu n r = subst (λ (q : ℕ). IsPairOf p q n r) pair.cpu_is pair in
-      subst (λ (q : ℕ). Has ps q n r) (sym pair.cpu_is) ((records n (pair_from p cpu n r pair) (pair_below p cpu n r pair)).has r here);
+      subst (λ (q : ℕ). Has ps q n r) (sym pair.cpu_is)
+      ((records n (pair_from p cpu n r pair) (pair_below p cpu n r pair)).has r here);
   misses = λ cpu n m. let own = own_misses p cpu n m in
       let here : IsMissingOf p p.cpu n = subst (λ (q : ℕ). IsMissingOf p q n) own.cpu_is own in
       let low = own.low in
@@ -286,15 +335,18 @@ pub grows_first : (ps : List Parcel) (p : Parcel) (a : Bool) → a ≡ true → 
 grows_first ps p true e seen = λ below. seen.there.1 (there_below ps p below seen.there.0)
 grows_first ps p false e seen = cc
 
-pub grows_second : (ps : List Parcel) (p : Parcel) (a b : Bool) → a ≡ false → IsLookedAt ps p (p.first - p.missed) p.first a
-    → IsLookedAt ps p p.first (p.first + length p.records) b → MatchBool b (IsBelow (p ∷ []) ps → ⊥) (IsBelow (p ∷ []) ps)
+pub grows_second : (ps : List Parcel) (p : Parcel) (a b : Bool) → a ≡ false
+    → IsLookedAt ps p (p.first - p.missed) p.first a
+    → IsLookedAt ps p p.first (p.first + length p.records) b
+    → MatchBool b (IsBelow (p ∷ []) ps → ⊥) (IsBelow (p ∷ []) ps)
 grows_second ps p true b e seen recorded = cc
 grows_second ps p false true e seen recorded = λ below. recorded.there.1 (there_below ps p below recorded.there.0)
 grows_second ps p false false e seen recorded = below_there ps p seen.there recorded.there
 
 -- a parcel that is there already adds nothing
 pub known_same : (ps : List Parcel) (p : Parcel) → IsBelow (p ∷ []) ps → IsSame ps (ps ++ p ∷ [])
-known_same ps p below = record { below = joined_left ps (p ∷ []); above = joined_below ps (p ∷ []) ps (below_itself ps) below }
+known_same ps p below =
+    record { below = joined_left ps (p ∷ []); above = joined_below ps (p ∷ []) ps (below_itself ps) below }
 
 -- one that is at odds with those that are there isn't
 pub odds_not_below : (ps : List Parcel) (p : Parcel) (fault : AddFault) → Agree ps → IsAddFault (ps ++ p ∷ []) fault

@@ -1,5 +1,6 @@
 -- What an index states when the ranges of one CPU change, and when all are copied.
-use Rattle.std.proofs.Common.{◌≡◌, ◌≢◌, ℕ, ◌<◌, ◌≤◌, ◌↔◌, ⊎_elim, Option, Some, None, MatchOption, Result, Ok, Err, OnOk, OnErr, refl, sym, ap, ◌∙◌, subst, arith}
+use Rattle.std.proofs.Common.{◌≡◌, ◌≢◌, ℕ, ◌<◌, ◌≤◌, ◌↔◌, ⊎_elim, Option, Some, None, MatchOption, Result, Ok, Err}
+use Rattle.std.proofs.Common.{OnOk, OnErr, refl, sym, ap, ◌∙◌, subst, arith}
 use Rattle.std.specs.Option.{IfNone, IsSomeAnd}
 use Rattle.std.specs.Ordering.{nat_cmp}
 use Rattle.std.specs.BTreeMap.{get, is_at}
@@ -20,7 +21,8 @@ use Rattle.collector.proofs.Spans.{keys_report_same}
 pub reports_of : (index : Index) (cpu n : ℕ) (content : Content) (ranges : Ranges)
     → HasRanges index cpu ranges → ReportsOf index cpu n content → HasContent ranges n content
 reports_of index cpu n content ranges at t = let there = t.at in
-    subst (λ (x : Ranges). HasContent x n content) (let e : t.ranges ≡ ranges = some_is t.ranges ranges (sym there ∙ at) in e) t.reports
+    subst (λ (x : Ranges). HasContent x n content)
+    (let e : t.ranges ≡ ranges = some_is t.ranges ranges (sym there ∙ at) in e) t.reports
 
 -- of a CPU without ranges nothing is stated
 pub reports_none : (index : Index) (cpu n : ℕ) (content : Content) → get nat_cmp index.cpus cpu ≡ None
@@ -31,14 +33,16 @@ pub unreported_of : (index : Index) (cpu number end : ℕ) (ranges : Ranges) (o 
     → HasRanges index cpu ranges
     → IfNone o ((n : ℕ) (content : Content) → number ≤ n → n < end → HasContent ranges n content → ⊥)
     → IfNone o ((n : ℕ) (content : Content) → number ≤ n → n < end → ReportsOf index cpu n content → ⊥)
-unreported_of index cpu number end ranges None at unreported = λ n content from below t. unreported n content from below (reports_of index cpu n content ranges at t)
+unreported_of index cpu number end ranges None at unreported =
+    λ n content from below t. unreported n content from below (reports_of index cpu n content ranges at t)
 unreported_of index cpu number end ranges (Some content) at unreported = unreported
 
 pub unreported_here_of : (index : Index) (cpu number : ℕ) (ranges : Ranges) (o : Option Content)
     → HasRanges index cpu ranges
     → IfNone o ((content : Content) → HasContent ranges number content → ⊥)
     → IfNone o ((content : Content) → ReportsOf index cpu number content → ⊥)
-unreported_here_of index cpu number ranges None at unreported = λ content t. unreported content (reports_of index cpu number content ranges at t)
+unreported_here_of index cpu number ranges None at unreported =
+    λ content t. unreported content (reports_of index cpu number content ranges at t)
 unreported_here_of index cpu number ranges (Some content) at unreported = unreported
 
 -- what was stated of a CPU, by its ranges or by empty ones
@@ -62,24 +66,6 @@ module _ (old new : Index) (cpu : ℕ) (before after : Ranges)
   is : (n : ℕ) (content : Content) → (ReportsOf new cpu n content ↔ HasContent after n content)
   is n content = (reports_of new cpu n content after here, λ t. record { ranges = after; at = here; reports = t })
 
-  pub others_same : (q : ℕ) → q ≢ cpu → ReportSameOf old new q
-  others_same q apart n content = (
-    (λ t. record { ranges = t.ranges; at = other q apart ∙ t.at; reports = t.reports }),
-    (λ t. record { ranges = t.ranges; at = sym (other q apart) ∙ t.at; reports = t.reports }),
-  )
-
-  here_same : ReportSame before after → ReportSameOf old new cpu
-  here_same same n content = (
-    (λ t. (is n content).1 ((same n content).0 ((was n content).0 t))),
-    (λ t. (was n content).1 ((same n content).1 ((is n content).0 t))),
-  )
-
-  pub all_same : ReportSame before after → (q : ℕ) → ReportSameOf old new q
-  all_same same q = ⊎_elim
-      (λ (e : q ≡ cpu). subst (ReportSameOf old new) (sym e) (here_same same))
-      (λ (apart : q ≢ cpu). others_same q apart)
-      (cases_eq q cpu)
-
   -- what holds of the ranges of each CPU
   each : (P : Ranges → Type 0) → ((q : ℕ) (ranges : Ranges) → HasRanges old q ranges → P ranges) → P after
       → (q : ℕ) (ranges : Ranges) → HasRanges new q ranges → P ranges
@@ -89,9 +75,6 @@ module _ (old new : Index) (cpu : ℕ) (before after : Ranges)
       subst P same there)
       (λ (apart : q ≢ cpu). all q ranges (sym (other q apart) ∙ at))
       (cases_eq q cpu)
-
-  pub all_apart : AreAllApart old → AreApart after → AreAllApart new
-  all_apart = each AreApart
 
   pub all_stated : AreAllStated old → IsStated after → AreAllStated new
   all_stated = each IsStated
@@ -134,12 +117,14 @@ laid_or_refused (Err e) before after low first end parcel some laid same stated 
 
 -- ---- ranges copied
 
-copy_keys : (ranges copy : Ranges) → IsCopy ranges copy → (q : ℕ) → get nat_cmp copy.spans q ≡ get nat_cmp ranges.spans q
+copy_keys : (ranges copy : Ranges) → IsCopy ranges copy → (q : ℕ)
+    → get nat_cmp copy.spans q ≡ get nat_cmp ranges.spans q
 copy_keys ranges copy e q = ap (λ es. lookup (is_at (nat_cmp q)) es) e
 
 copy_apart : (ranges copy : Ranges) → IsCopy ranges copy → AreApart ranges → AreApart copy
 copy_apart ranges copy e apart first later span other at at_later lt =
-    apart first later span other (sym (copy_keys ranges copy e first) ∙ at) (sym (copy_keys ranges copy e later) ∙ at_later) lt
+    apart first later span other (sym (copy_keys ranges copy e first) ∙ at)
+    (sym (copy_keys ranges copy e later) ∙ at_later) lt
 
 source_of : (o c : Option Ranges) (copy : Ranges)
     → MatchOption o (c ≡ None) (λ ranges. IsSomeAnd c (λ other. IsCopy ranges other))
@@ -175,7 +160,15 @@ module _ (index copy : Index) (copied : IsIndexCopy index copy) where
   pub copies_same : (cpu : ℕ) → ReportSameOf index copy cpu
   copies_same cpu n content = (
     (λ t. let h = copy_at cpu t.ranges t.at in
-        record { ranges = h.0; at = h.1; reports = (keys_report_same t.ranges h.0 (copy_keys t.ranges h.0 h.2) n content).0 t.reports }),
+        record {
+          ranges = h.0;
+          at = h.1;
+          reports = (keys_report_same t.ranges h.0 (copy_keys t.ranges h.0 h.2) n content).0 t.reports;
+        }),
     (λ t. let h = source_at cpu t.ranges t.at in
-        record { ranges = h.0; at = h.1; reports = (keys_report_same h.0 t.ranges (copy_keys h.0 t.ranges h.2) n content).1 t.reports }),
+        record {
+          ranges = h.0;
+          at = h.1;
+          reports = (keys_report_same h.0 t.ranges (copy_keys h.0 t.ranges h.2) n content).1 t.reports;
+        }),
   )

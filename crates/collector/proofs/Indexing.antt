@@ -1,5 +1,6 @@
 -- An index stands for the kept parcels, from none on, through each one that is kept.
-use Rattle.std.proofs.Common.{◌≡◌, ◌≢◌, ⊎_elim, inl, inr, ℕ, ◌+◌, ◌-◌, ◌<◌, ◌≤◌, ◌↔◌, List, [], ◌∷◌, ◌++◌, length, Option, Some, None, IfSome, IfNone, IsSome, is_some, refl, sym, ap, ◌∙◌, subst, arith}
+use Rattle.std.proofs.Common.{◌≡◌, ◌≢◌, ⊎_elim, inl, inr, ℕ, ◌+◌, ◌-◌, ◌<◌, ◌≤◌, ◌↔◌, List, [], ◌∷◌, ◌++◌, length}
+use Rattle.std.proofs.Common.{Option, Some, None, IfSome, IfNone, IsSome, is_some, refl, sym, ap, ◌∙◌, subst, arith}
 use Rattle.std.specs.List.{slice_get}
 use Rattle.std.specs.Ordering.{nat_cmp}
 use Rattle.std.specs.BTreeMap.{get}
@@ -16,7 +17,8 @@ use Rattle.collector.specs.declared.ranges.Content.TheVariants.{Kept, Missing}
 use Rattle.collector.specs.declared.ranges.Ranges.{Ranges}
 use Rattle.collector.specs.declared.index.Index.{Index}
 use Rattle.collector.specs.Ranges.{IsLaid}
-use Rattle.collector.specs.Index.{ReportsOf, HasCpu, AreAllApart, AreAllStated, ReportSameOf, IsIndexCopy, IsIn, IsFoundBy, IsIndexed}
+use Rattle.collector.specs.Index.{ReportsOf, HasCpu, AreAllApart, AreAllStated, ReportSameOf, IsIndexCopy, IsIn}
+use Rattle.collector.specs.Index.{IsFoundBy, IsIndexed}
 use Rattle.collector.specs.Shown.{IsContentAt}
 use Rattle.collector.specs.Known.{IsTaken, IsKnown, IsCpuKnown}
 use Rattle.collector.proofs.Places.{get_pushed, get_last, get_within}
@@ -69,8 +71,10 @@ pub shown_of : (ps : List Parcel) (index : Index) → IsIndexed ps index → (cp
     → IfSome o (λ content. (n : ℕ) → number ≤ n → n < end → ReportsOf index cpu n content)
     → IfNone o ((n : ℕ) (content : Content) → number ≤ n → n < end → ReportsOf index cpu n content → ⊥)
     → (n : ℕ) → number ≤ n → n < end → IsContentAt ps cpu n o
-shown_of ps index x cpu number end (Some (Kept i)) reported unreported n from below = x.kept cpu n i (reported n from below)
-shown_of ps index x cpu number end (Some Missing) reported unreported n from below = x.missing cpu n (reported n from below)
+shown_of ps index x cpu number end (Some (Kept i)) reported unreported n from below =
+    x.kept cpu n i (reported n from below)
+shown_of ps index x cpu number end (Some Missing) reported unreported n from below =
+    x.missing cpu n (reported n from below)
 shown_of ps index x cpu number end None reported unreported n from below = record {
   no_record = λ r h. let a = x.has cpu n r h in unreported n (Kept a.kept) from below a.reports;
   not_missing = λ m. unreported n Missing from below (x.misses cpu n m);
@@ -133,7 +137,13 @@ indexed_same ps old new x apart stated same = record {
   kept = λ cpu n i t. x.kept cpu n i ((same cpu n (Kept i)).1 t);
   missing = λ cpu n t. x.missing cpu n ((same cpu n Missing).1 t);
   has = λ cpu n r h. let a = x.has cpu n r h in
-      record { kept = a.kept; parcel = a.parcel; reports = (same cpu n (Kept a.kept)).0 a.reports; at = a.at; pair = a.pair };
+      record {
+        kept = a.kept;
+        parcel = a.parcel;
+        reports = (same cpu n (Kept a.kept)).0 a.reports;
+        at = a.at;
+        pair = a.pair;
+      };
   misses = λ cpu n m. (same cpu n Missing).0 (x.misses cpu n m);
 }
 
@@ -146,7 +156,8 @@ copy_indexed ps index copy x copied = indexed_same ps index copy x
 
 -- ---- one more kept
 
-module _ (ps : List Parcel) (p : Parcel) (old new : Index) (x : IsIndexed ps old) (is : IsParcel p) (agree : Agree (ps ++ p ∷ []))
+module _ (ps : List Parcel) (p : Parcel) (old new : Index) (x : IsIndexed ps old) (is : IsParcel p)
+    (agree : Agree (ps ++ p ∷ []))
     (low end : ℕ) (low_is : low + p.missed ≡ p.first) (end_is : end ≡ p.first + length p.records)
     (apart : AreAllApart new) (stated : AreAllStated new)
     (laid : IsLaid (ReportsOf old p.cpu) (ReportsOf new p.cpu) low p.first end (length ps))
@@ -158,10 +169,12 @@ module _ (ps : List Parcel) (p : Parcel) (old new : Index) (x : IsIndexed ps old
 
   -- what becomes of a number
   data Part (cpu n : ℕ) : Type 0 where
-    elsewhere : ((content : Content) → (ReportsOf old cpu n content ↔ ReportsOf new cpu n content)) → IsApartFrom cpu n → Part cpu n
+    elsewhere : ((content : Content) → (ReportsOf old cpu n content ↔ ReportsOf new cpu n content)) → IsApartFrom cpu n
+        → Part cpu n
     missed : ReportsOf new cpu n Missing → ((content : Content) → ReportsOf new cpu n content → content ≡ Missing)
         → IsMissingOf p cpu n → Part cpu n
-    recorded : ReportsOf new cpu n (Kept (length ps)) → ((content : Content) → ReportsOf new cpu n content → content ≡ Kept (length ps))
+    recorded : ReportsOf new cpu n (Kept (length ps))
+        → ((content : Content) → ReportsOf new cpu n content → content ≡ Kept (length ps))
         → cpu ≡ p.cpu → p.first ≤ n → n < p.first + length p.records → Part cpu n
 
   part_here : (n : ℕ) → Part p.cpu n
@@ -174,9 +187,12 @@ module _ (ps : List Parcel) (p : Parcel) (old new : Index) (x : IsIndexed ps old
       (λ (lt : n < p.first). missed (laid.missing n ge lt) (λ content. laid.missing_alone n content ge lt)
       record { cpu_is = refl; low = omega arith; high = lt })
       (λ (from : p.first ≤ n). ⊎_elim
-      (λ (lt : n < end). recorded (laid.kept n from lt) (λ content. laid.kept_alone n content from lt) refl from (omega arith))
+      (λ (lt : n < end).
+      recorded (laid.kept n from lt) (λ content. laid.kept_alone n content from lt) refl from (omega arith))
       (λ (ge : end ≤ n). elsewhere (λ content. laid.behind n content ge) record {
-        no_pair = λ r pair. let is = pair.number_is in let within = slice_get_within p.records pair.index r pair.record_is in omega arith;
+        no_pair = λ r pair. let is = pair.number_is in
+            let within = slice_get_within p.records pair.index r pair.record_is in
+            omega arith;
         not_missing = λ m. let under = m.high in omega arith;
       })
       (cases_lt n end))
@@ -198,35 +214,67 @@ module _ (ps : List Parcel) (p : Parcel) (old new : Index) (x : IsIndexed ps old
   misses_own : (cpu n : ℕ) → IsMissingOf p cpu n → Misses (ps ++ p ∷ []) cpu n
   misses_own cpu n missing = record { index = length ps; parcel = p; at = get_last ps p; missing = missing }
 
-  one_of : (cpu n : ℕ) (content other : Content) → Part cpu n → ReportsOf new cpu n content → ReportsOf new cpu n other → content ≡ other
-  one_of cpu n content other (elsewhere same not) t u = x.one cpu n content other ((same content).1 t) ((same other).1 u)
+  one_of : (cpu n : ℕ) (content other : Content) → Part cpu n → ReportsOf new cpu n content → ReportsOf new cpu n other
+      → content ≡ other
+  one_of cpu n content other (elsewhere same not) t u =
+      x.one cpu n content other ((same content).1 t) ((same other).1 u)
   one_of cpu n content other (missed there alone m) t u = alone content t ∙ sym (alone other u)
   one_of cpu n content other (recorded there alone c from below) t u = alone content t ∙ sym (alone other u)
 
   kept_of : (cpu n i : ℕ) → Part cpu n → ReportsOf new cpu n (Kept i) → IsIn (ps ++ p ∷ []) i cpu n
   kept_of cpu n i (elsewhere same not) t = let a = x.kept cpu n i ((same (Kept i)).1 t) in
-      record { parcel = a.parcel; at = get_in_front ps (p ∷ []) i a.parcel a.at; cpu_is = a.cpu_is; from = a.from; below = a.below }
+      record {
+        parcel = a.parcel;
+        at = get_in_front ps (p ∷ []) i a.parcel a.at;
+        cpu_is = a.cpu_is;
+        from = a.from;
+        below = a.below;
+      }
   kept_of cpu n i (missed there alone m) t = absurd (let e = alone (Kept i) t in cc)
-  kept_of cpu n i (recorded there alone c from below) t = let e : i ≡ length ps = kept_same i (length ps) (alone (Kept i) t) in
-      record { parcel = p; at = ap (slice_get (ps ++ p ∷ [])) e ∙ get_last ps p; cpu_is = c; from = from; below = below }
+  kept_of cpu n i (recorded there alone c from below) t =
+      let e : i ≡ length ps =
+      kept_same i (length ps) (alone (Kept i) t) in
+      record {
+        parcel = p;
+        at = ap (slice_get (ps ++ p ∷ [])) e ∙ get_last ps p;
+        cpu_is = c;
+        from = from;
+        below = below;
+      }
 
   missing_of : (cpu n : ℕ) → Part cpu n → ReportsOf new cpu n Missing → Misses (ps ++ p ∷ []) cpu n
-  missing_of cpu n (elsewhere same not) t = (joined_left ps (p ∷ [])).misses cpu n (x.missing cpu n ((same Missing).1 t))
+  missing_of cpu n (elsewhere same not) t =
+      (joined_left ps (p ∷ [])).misses cpu n (x.missing cpu n ((same Missing).1 t))
   missing_of cpu n (missed there alone m) t = misses_own cpu n m
   missing_of cpu n (recorded there alone c from below) t = absurd (let e = alone Missing t in cc)
 
   old_has : (cpu n : ℕ) (r : Record) → Part cpu n → Has ps cpu n r → IsFoundBy (ps ++ p ∷ []) new cpu n r
   old_has cpu n r (elsewhere same not) h = let a = x.has cpu n r h in
-      record { kept = a.kept; parcel = a.parcel; reports = (same (Kept a.kept)).0 a.reports; at = get_in_front ps (p ∷ []) a.kept a.parcel a.at; pair = a.pair }
-  old_has cpu n r (missed there alone m) h = absurd (agree.not_missing cpu n r ((joined_left ps (p ∷ [])).has cpu n r h) (misses_own cpu n m))
+      record {
+        kept = a.kept;
+        parcel = a.parcel;
+        reports = (same (Kept a.kept)).0 a.reports;
+        at = get_in_front ps (p ∷ []) a.kept a.parcel a.at;
+        pair = a.pair;
+      }
+  old_has cpu n r (missed there alone m) h =
+      absurd (agree.not_missing cpu n r ((joined_left ps (p ∷ [])).has cpu n r h) (misses_own cpu n m))
   old_has cpu n r (recorded there alone c from below) h =
       let own = record_at p cpu n c from below in
-      let e : own.0 ≡ r = agree.one_record cpu n own.0 r (has_own cpu n own.0 own.1) ((joined_left ps (p ∷ [])).has cpu n r h) in
-      record { kept = length ps; parcel = p; reports = there; at = get_last ps p; pair = subst (IsPairOf p cpu n) e own.1 }
+      let e : own.0 ≡ r =
+      agree.one_record cpu n own.0 r (has_own cpu n own.0 own.1) ((joined_left ps (p ∷ [])).has cpu n r h) in
+      record {
+        kept = length ps;
+        parcel = p;
+        reports = there;
+        at = get_last ps p;
+        pair = subst (IsPairOf p cpu n) e own.1;
+      }
 
   own_has : (cpu n : ℕ) (r : Record) → Part cpu n → IsPairOf p cpu n r → IsFoundBy (ps ++ p ∷ []) new cpu n r
   own_has cpu n r (elsewhere same not) pair = absurd (not.no_pair r pair)
-  own_has cpu n r (missed there alone m) pair = absurd (agree.not_missing cpu n r (has_own cpu n r pair) (misses_own cpu n m))
+  own_has cpu n r (missed there alone m) pair =
+      absurd (agree.not_missing cpu n r (has_own cpu n r pair) (misses_own cpu n m))
   own_has cpu n r (recorded there alone c from below) pair =
       record { kept = length ps; parcel = p; reports = there; at = get_last ps p; pair = pair }
 
@@ -253,25 +301,35 @@ module _ (ps : List Parcel) (p : Parcel) (old new : Index) (x : IsIndexed ps old
     kept = λ cpu n i t. kept_of cpu n i (part cpu n) t;
     missing = λ cpu n t. missing_of cpu n (part cpu n) t;
     has = λ cpu n r h. ⊎_elim
-        (λ (there : slice_get ps h.index ≡ Some h.parcel). old_has cpu n r (part cpu n) record { index = h.index; parcel = h.parcel; at = there; pair = h.pair })
-        (λ (own : (h.index ≡ length ps) × (h.parcel ≡ p)). own_has cpu n r (part cpu n) (subst (λ (q : Parcel). IsPairOf q cpu n r) own.1 h.pair))
+        (λ (there : slice_get ps h.index ≡ Some h.parcel).
+        old_has cpu n r (part cpu n) record { index = h.index; parcel = h.parcel; at = there; pair = h.pair })
+        (λ (own : (h.index ≡ length ps) × (h.parcel ≡ p)).
+        own_has cpu n r (part cpu n) (subst (λ (q : Parcel). IsPairOf q cpu n r) own.1 h.pair))
         (get_pushed ps p h.index h.parcel h.at);
     misses = λ cpu n m. ⊎_elim
-        (λ (there : slice_get ps m.index ≡ Some m.parcel). old_misses cpu n (part cpu n) record { index = m.index; parcel = m.parcel; at = there; missing = m.missing })
-        (λ (own : (m.index ≡ length ps) × (m.parcel ≡ p)). own_misses cpu n (part cpu n) (subst (λ (q : Parcel). IsMissingOf q cpu n) own.1 m.missing))
+        (λ (there : slice_get ps m.index ≡ Some m.parcel).
+        old_misses cpu n (part cpu n)
+        record { index = m.index; parcel = m.parcel; at = there; missing = m.missing })
+        (λ (own : (m.index ≡ length ps) × (m.parcel ≡ p)).
+        own_misses cpu n (part cpu n) (subst (λ (q : Parcel). IsMissingOf q cpu n) own.1 m.missing))
         (get_pushed ps p m.index m.parcel m.at);
   }
 
 -- the same, by what the parcel's calls state of it
-pub kept_indexed_at : (ps : List Parcel) (p : Parcel) (old new : Index) → IsIndexed ps old → IsParcel p → Agree (ps ++ p ∷ [])
-    → (cpu low first end at : ℕ) → cpu ≡ p.cpu → first ≡ p.first → low + p.missed ≡ p.first → end ≡ p.first + length p.records
+pub kept_indexed_at : (ps : List Parcel) (p : Parcel) (old new : Index) → IsIndexed ps old → IsParcel p
+    → Agree (ps ++ p ∷ [])
+    → (cpu low first end at : ℕ) → cpu ≡ p.cpu → first ≡ p.first → low + p.missed ≡ p.first
+    → end ≡ p.first + length p.records
     → at ≡ length ps → AreAllApart new → AreAllStated new
     → IsLaid (ReportsOf old cpu) (ReportsOf new cpu) low first end at
     → ((other : ℕ) → other ≢ cpu → ReportSameOf old new other) → IsIndexed (ps ++ p ∷ []) new
 kept_indexed_at ps p old new x is agree cpu low first end at cpu_is first_is low_is end_is at_is apart stated laid
     others =
-    let at_cpu : IsLaid (ReportsOf old p.cpu) (ReportsOf new p.cpu) low first end at = subst (λ (q : ℕ). IsLaid (ReportsOf old q) (ReportsOf new q) low first end at) cpu_is laid in
-    let at_first : IsLaid (ReportsOf old p.cpu) (ReportsOf new p.cpu) low p.first end at = subst (λ (q : ℕ). IsLaid (ReportsOf old p.cpu) (ReportsOf new p.cpu) low q end at) first_is at_cpu in
-    let laid_at : IsLaid (ReportsOf old p.cpu) (ReportsOf new p.cpu) low p.first end (length ps) = subst (λ (q : ℕ). IsLaid (ReportsOf old p.cpu) (ReportsOf new p.cpu) low p.first end q) at_is at_first in
+    let at_cpu : IsLaid (ReportsOf old p.cpu) (ReportsOf new p.cpu) low first end at =
+    subst (λ (q : ℕ). IsLaid (ReportsOf old q) (ReportsOf new q) low first end at) cpu_is laid in
+    let at_first : IsLaid (ReportsOf old p.cpu) (ReportsOf new p.cpu) low p.first end at =
+    subst (λ (q : ℕ). IsLaid (ReportsOf old p.cpu) (ReportsOf new p.cpu) low q end at) first_is at_cpu in
+    let laid_at : IsLaid (ReportsOf old p.cpu) (ReportsOf new p.cpu) low p.first end (length ps) =
+    subst (λ (q : ℕ). IsLaid (ReportsOf old p.cpu) (ReportsOf new p.cpu) low p.first end q) at_is at_first in
     kept_indexed ps p old new x is agree low end low_is end_is apart stated laid_at
     (subst (λ (q : ℕ). (other : ℕ) → other ≢ q → ReportSameOf old new other) cpu_is others)

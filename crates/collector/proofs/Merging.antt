@@ -1,5 +1,6 @@
 -- A collector that is made parcel by parcel: what it has, and which parcels it keeps.
-use Rattle.std.proofs.Common.{◌≡◌, inl, inr, ℕ, ◌+◌, ◌<◌, ◌≤◌, ◌↔◌, Bool, true, false, MatchBool, List, [], ◌∷◌, ◌++◌, length, take, drop, get_or, append_assoc, append-nil, ⊎_elim, refl, sym, ap, ◌∙◌, subst}
+use Rattle.std.proofs.Common.{◌≡◌, inl, inr, ℕ, ◌+◌, ◌<◌, ◌≤◌, ◌↔◌, Bool, true, false, MatchBool, List, [], ◌∷◌, ◌++◌}
+use Rattle.std.proofs.Common.{length, take, drop, get_or, append_assoc, append-nil, ⊎_elim, refl, sym, ap, ◌∙◌, subst}
 use Rattle.std.proofs.lemmas.List.{take_more, take_all, take-append-drop}
 use Rattle.trace_model.specs.Parcel.{Parcel}
 use Rattle.trace_model.specs.Collection.{Agree, IsBelow, IsSame, IsLeastUpperBound}
@@ -11,27 +12,35 @@ use Rattle.collector.specs.Merged.{IsKeptBehind, IsMerged}
 
 -- ---- one more of the other's
 
-pub next_same : (ps qs joined new : List Parcel) (k : ℕ) (q : Parcel) → k < length qs → q ≡ get_or qs k q → IsSame joined (ps ++ take k qs)
+pub next_same : (ps qs joined new : List Parcel) (k : ℕ) (q : Parcel) → k < length qs → q ≡ get_or qs k q
+    → IsSame joined (ps ++ take k qs)
     → IsSame new (joined ++ q ∷ []) → IsSame new (ps ++ take (k + 1) qs)
 next_same ps qs joined new k q within is same union =
     let more : (ps ++ take k qs) ++ q ∷ [] ≡ ps ++ take (k + 1) qs =
-    append_assoc ps (take k qs) (q ∷ []) ∙ ap (λ (xs : List Parcel). ps ++ xs) (ap (λ (x : Parcel). take k qs ++ x ∷ []) is ∙ sym (take_more qs k q within)) in
+    append_assoc ps (take k qs) (q ∷ [])
+    ∙ ap (λ (xs : List Parcel). ps ++ xs)
+    (ap (λ (x : Parcel). take k qs ++ x ∷ []) is ∙ sym (take_more qs k q within)) in
     same_same new (joined ++ q ∷ []) (ps ++ take (k + 1) qs) union
-    (subst (IsSame (joined ++ q ∷ [])) more (same_joined joined (q ∷ []) (ps ++ take k qs) (q ∷ []) same (same_itself (q ∷ []))))
+    (subst (IsSame (joined ++ q ∷ [])) more
+    (same_joined joined (q ∷ []) (ps ++ take k qs) (q ∷ []) same (same_itself (q ∷ []))))
 
-pub kept_behind : (joined new : List Parcel) (q : Parcel) (a : Added) → (a ≡ New → new ≡ joined ++ q ∷ []) → (a ≡ Known → new ≡ joined)
+pub kept_behind : (joined new : List Parcel) (q : Parcel) (a : Added) → (a ≡ New → new ≡ joined ++ q ∷ [])
+    → (a ≡ Known → new ≡ joined)
     → ((a ≡ Known) ↔ IsBelow (q ∷ []) joined) → IsKeptBehind joined q new
 kept_behind joined new q New is_new is_known known = inr ((λ below. let e = known.1 below in cc), is_new refl)
 kept_behind joined new q Known is_new is_known known = inl (known.0 refl, is_known refl)
 
-merged_more : (old xs mid new : List Parcel) (q : Parcel) → IsMerged old xs mid → IsKeptBehind mid q new → IsMerged old (xs ++ q ∷ []) new
+merged_more : (old xs mid new : List Parcel) (q : Parcel) → IsMerged old xs mid → IsKeptBehind mid q new
+    → IsMerged old (xs ++ q ∷ []) new
 merged_more old [] mid new q merged kept = (new, subst (λ (ps : List Parcel). IsKeptBehind ps q new) merged kept, refl)
 merged_more old (x ∷ xs) mid new q merged kept = (merged.0, merged.1, merged_more merged.0 xs mid new q merged.2 kept)
 
-pub next_merged : (old qs mid new : List Parcel) (k : ℕ) (q : Parcel) → k < length qs → q ≡ get_or qs k q → IsMerged old (take k qs) mid
+pub next_merged : (old qs mid new : List Parcel) (k : ℕ) (q : Parcel) → k < length qs → q ≡ get_or qs k q
+    → IsMerged old (take k qs) mid
     → IsKeptBehind mid q new → IsMerged old (take (k + 1) qs) new
 next_merged old qs mid new k q within is merged kept =
-    subst (λ (xs : List Parcel). IsMerged old xs new) (ap (λ (x : Parcel). take k qs ++ x ∷ []) is ∙ sym (take_more qs k q within))
+    subst (λ (xs : List Parcel). IsMerged old xs new)
+    (ap (λ (x : Parcel). take k qs ++ x ∷ []) is ∙ sym (take_more qs k q within))
     (merged_more old (take k qs) mid new q merged kept)
 
 -- ---- back to the own parcels
@@ -57,9 +66,11 @@ merged_goes_back old xs new merged =
 
 -- ---- all of them
 
-pub same_least : (ps qs joined : List Parcel) (k : ℕ) → length qs ≤ k → Agree (ps ++ qs) → IsSame joined (ps ++ take k qs) → IsLeastUpperBound ps qs joined
+pub same_least : (ps qs joined : List Parcel) (k : ℕ) → length qs ≤ k → Agree (ps ++ qs)
+    → IsSame joined (ps ++ take k qs) → IsLeastUpperBound ps qs joined
 same_least ps qs joined k all agree partly =
-    let same : IsSame joined (ps ++ qs) = subst (λ (xs : List Parcel). IsSame joined (ps ++ xs)) (take_all k qs all) partly in
+    let same : IsSame joined (ps ++ qs) =
+    subst (λ (xs : List Parcel). IsSame joined (ps ++ xs)) (take_all k qs all) partly in
     record {
       agree = below_agrees joined (ps ++ qs) same.below agree;
       left = below_below ps (ps ++ qs) joined (joined_left ps qs) same.above;
@@ -69,13 +80,16 @@ same_least ps qs joined k all agree partly =
 
 -- ---- nothing new
 
-more_taken : (qs : List Parcel) (k : ℕ) (q : Parcel) → k < length qs → q ≡ get_or qs k q → take k qs ++ q ∷ [] ≡ take (k + 1) qs
+more_taken : (qs : List Parcel) (k : ℕ) (q : Parcel) → k < length qs → q ≡ get_or qs k q
+    → take k qs ++ q ∷ [] ≡ take (k + 1) qs
 more_taken qs k q within is = ap (λ (x : Parcel). take k qs ++ x ∷ []) is ∙ sym (take_more qs k q within)
 
-pub taken_below : (ps qs : List Parcel) (k : ℕ) (q : Parcel) → k < length qs → q ≡ get_or qs k q → IsBelow (take k qs) ps
+pub taken_below : (ps qs : List Parcel) (k : ℕ) (q : Parcel) → k < length qs → q ≡ get_or qs k q
+    → IsBelow (take k qs) ps
     → IsBelow (q ∷ []) ps → IsBelow (take (k + 1) qs) ps
 taken_below ps qs k q within is below next =
-    subst (λ (xs : List Parcel). IsBelow xs ps) (more_taken qs k q within is) (joined_below (take k qs) (q ∷ []) ps below next)
+    subst (λ (xs : List Parcel). IsBelow xs ps) (more_taken qs k q within is)
+    (joined_below (take k qs) (q ∷ []) ps below next)
 
 pub all_below : (ps qs : List Parcel) (k : ℕ) → length qs ≤ k → IsBelow (take k qs) ps → IsBelow qs ps
 all_below ps qs k all below = subst (λ (xs : List Parcel). IsBelow xs ps) (take_all k qs all) below

@@ -1,5 +1,6 @@
 -- Whether a number of a CPU is of a kind: computed, and as what is stated of it.
-use Rattle.std.proofs.Common.{◌≡◌, ◌⊎◌, ⊎_elim, inl, inr, ℕ, ◌<◌, Bool, true, false, not, ◌||◌, is_some, ◌-◌, ◌^◌, List, Option, Some, None, refl, sym, ap, ◌∙◌, arith}
+use Rattle.std.proofs.Common.{◌≡◌, ◌⊎◌, ⊎_elim, inl, inr, ℕ, ◌<◌, Bool, true, false, not, ◌||◌, is_some, ◌-◌, ◌^◌, List}
+use Rattle.std.proofs.Common.{Option, Some, None, refl, sym, ap, ◌∙◌, arith}
 use Rattle.std.proofs.lemmas.Bool.{false≢true}
 use Rattle.trace_model.specs.Record.{Record}
 use Rattle.trace_model.specs.Parcel.{Parcel}
@@ -14,7 +15,8 @@ use Rattle.collector.specs.Known.{IsKnown}
 use Rattle.collector.specs.Listed.{first_record}
 use Rattle.collector.specs.Runs.{IsOfKind, is_missed, is_unknown, is_of_kind, states_kind}
 use Rattle.collector.proofs.Indexing.{in_taken, known_of}
-use Rattle.collector.proofs.Stretches.{record_fits, missing_fits, or_right, false_unless, is_missed_true, misses_of_true, is_missed_false}
+use Rattle.collector.proofs.Stretches.{record_fits, missing_fits, or_right, false_unless, is_missed_true}
+use Rattle.collector.proofs.Stretches.{misses_of_true, is_missed_false}
 use Rattle.collector.proofs.RecordsLeft.{first_has, some_first, has_none}
 
 -- ---- unknown, computed

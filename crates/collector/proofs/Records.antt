@@ -1,5 +1,6 @@
 -- The records of one parcel, one by one.
-use Rattle.std.proofs.Common.{◌≡◌, ◌⊎◌, inl, inr, ⊎_elim, ℕ, zero, suc, ◌+◌, ◌-◌, ◌≤◌, Bool, true, false, ◌&&◌, eqb, eqb-true, eq-eqb, List, [], ◌∷◌, drop, Option, Some, None, refl, sym, ap, ◌∙◌, arith}
+use Rattle.std.proofs.Common.{◌≡◌, ◌⊎◌, inl, inr, ⊎_elim, ℕ, zero, suc, ◌+◌, ◌-◌, ◌≤◌, Bool, true, false, ◌&&◌, eqb}
+use Rattle.std.proofs.Common.{eqb-true, eq-eqb, List, [], ◌∷◌, drop, Option, Some, None, refl, sym, ap, ◌∙◌, arith}
 use Rattle.std.specs.List.{slice_get, enumerate_from}
 use Rattle.std.specs.Str.{bytes_eq}
 use Rattle.std.proofs.lemmas.Slice.Eq.{bytes_eq-Decides}
@@ -21,7 +22,8 @@ drop_at (x ∷ xs) zero = inr (x, refl, refl)
 drop_at (x ∷ xs) (suc k) = drop_at xs k
 
 -- what `==` of entries says
-entry_test : (a b : Entry) → eq-value.it a b ≡ (eqb a.number.0 b.number.0 && (eqb a.moment.0 b.moment.0 && bytes_eq a.bytes.now b.bytes.now))
+entry_test : (a b : Entry)
+    → eq-value.it a b ≡ (eqb a.number.0 b.number.0 && (eqb a.moment.0 b.moment.0 && bytes_eq a.bytes.now b.bytes.now))
 entry_test a b = refl
 
 both : (p q : Bool) → (p && q) ≡ true → (p ≡ true) × (q ≡ true)
@@ -30,7 +32,9 @@ both false q e = cc
 
 same_reported : (a b : Entry) → eq-value.it a b ≡ true → numbered_record a ≡ numbered_record b
 same_reported a b e =
-    let first = both (eqb a.number.0 b.number.0) (eqb a.moment.0 b.moment.0 && bytes_eq a.bytes.now b.bytes.now) (sym (entry_test a b) ∙ e) in
+    let first =
+    both (eqb a.number.0 b.number.0) (eqb a.moment.0 b.moment.0 && bytes_eq a.bytes.now b.bytes.now)
+    (sym (entry_test a b) ∙ e) in
     let second = both (eqb a.moment.0 b.moment.0) (bytes_eq a.bytes.now b.bytes.now) first.1 in
     let number = eqb-true a.number.0 b.number.0 first.0 in
     let moment = eqb-true a.moment.0 b.moment.0 second.0 in
@@ -45,13 +49,15 @@ reported_same a b e =
     entry_test a b ∙ rw (number, moment, bytes) refl
 
 -- what `==` of what two calls of `next` gave says
-pub entries_same : (r s : Option Entry) → option_eq eq-value.it r s ≡ true → option_map numbered_record r ≡ option_map numbered_record s
+pub entries_same : (r s : Option Entry) → option_eq eq-value.it r s ≡ true
+    → option_map numbered_record r ≡ option_map numbered_record s
 entries_same None None e = refl
 entries_same None (Some b) e = cc
 entries_same (Some a) None e = cc
 entries_same (Some a) (Some b) e = ap Some (same_reported a b e)
 
-pub entries_differ : (r s : Option Entry) → option_eq eq-value.it r s ≡ false → option_map numbered_record r ≡ option_map numbered_record s → ⊥
+pub entries_differ : (r s : Option Entry) → option_eq eq-value.it r s ≡ false
+    → option_map numbered_record r ≡ option_map numbered_record s → ⊥
 entries_differ None None e same = cc
 entries_differ None (Some b) e same = cc
 entries_differ (Some a) None e same = cc
@@ -61,10 +67,13 @@ entries_differ (Some a) (Some b) e same =
 -- one call of `next`
 pub next_is : (n k : ℕ) (rs : List Record) (s t : List (ℕ × Record)) (r : Option Entry)
     → s ≡ enumerate_from n (drop k rs) → YieldsFirstBy numbered_record (λ (left : List (ℕ × Record)). left) s r t
-    → (option_map numbered_record r ≡ option_map (numbered n) (slice_get rs k)) × (t ≡ enumerate_from (n + 1) (drop (suc k) rs))
+    → (option_map numbered_record r ≡ option_map (numbered n) (slice_get rs k))
+    × (t ≡ enumerate_from (n + 1) (drop (suc k) rs))
 next_is n k rs s t None left step = ⊎_elim
     (λ none. (sym (ap (option_map (numbered n)) none.1), step.1 ∙ sym (ap (enumerate_from (n + 1)) none.2)))
-    (λ some. absurd (cons_not_none (n, some.0) (enumerate_from (n + 1) (drop (suc k) rs)) (sym (ap (enumerate_from n) some.1) ∙ sym left ∙ step.0)))
+    (λ some.
+    absurd (cons_not_none (n, some.0) (enumerate_from (n + 1) (drop (suc k) rs))
+    (sym (ap (enumerate_from n) some.1) ∙ sym left ∙ step.0)))
     (drop_at rs k)
   where
     cons_not_none : {A : Type 0} (x : A) (xs : List A) → x ∷ xs ≡ [] → ⊥
@@ -72,7 +81,8 @@ next_is n k rs s t None left step = ⊎_elim
 next_is n k rs s t (Some entry) left step = ⊎_elim
     (λ none. absurd (cons_not_none (numbered_record entry) t (sym step ∙ left ∙ ap (enumerate_from n) none.0)))
     (λ some.
-    let e : numbered_record entry ∷ t ≡ (n, some.0) ∷ enumerate_from (n + 1) (drop (suc k) rs) = sym step ∙ left ∙ ap (enumerate_from n) some.1 in
+    let e : numbered_record entry ∷ t ≡ (n, some.0) ∷ enumerate_from (n + 1) (drop (suc k) rs) =
+    sym step ∙ left ∙ ap (enumerate_from n) some.1 in
     (ap Some (let h : numbered_record entry ≡ (n, some.0) = cc in h) ∙ sym (ap (option_map (numbered n)) some.2), cc))
     (drop_at rs k)
   where
@@ -83,12 +93,15 @@ numbered_same : (n : ℕ) (a b : Option Record) → option_map (numbered n) a �
 numbered_same n None None e = refl
 numbered_same n None (Some b) e = cc
 numbered_same n (Some a) None e = cc
-numbered_same n (Some a) (Some b) e = ap Some (let h : numbered n a ≡ numbered n b = cc in ap (λ (p : ℕ × Record). p.1) h)
+numbered_same n (Some a) (Some b) e =
+    ap Some (let h : numbered n a ≡ numbered n b = cc in ap (λ (p : ℕ × Record). p.1) h)
 
 -- two parcels' records under one number, by what two calls of `next` gave
 module _ (p q : Parcel) (n : ℕ) (s t u v : List (ℕ × Record)) (r o : Option Entry)
-    (left : s ≡ enumerate_from n (drop (n - p.first) p.records)) (step : YieldsFirstBy numbered_record (λ (left : List (ℕ × Record)). left) s r t)
-    (left' : u ≡ enumerate_from n (drop (n - q.first) q.records)) (step' : YieldsFirstBy numbered_record (λ (left : List (ℕ × Record)). left) u o v) where
+    (left : s ≡ enumerate_from n (drop (n - p.first) p.records))
+    (step : YieldsFirstBy numbered_record (λ (left : List (ℕ × Record)). left) s r t)
+    (left' : u ≡ enumerate_from n (drop (n - q.first) q.records))
+    (step' : YieldsFirstBy numbered_record (λ (left : List (ℕ × Record)). left) u o v) where
   own : option_map numbered_record r ≡ option_map (numbered n) (record_of p n)
   own = (next_is n (n - p.first) p.records s t r left step).0
 
@@ -103,7 +116,8 @@ module _ (p q : Parcel) (n : ℕ) (s t u v : List (ℕ × Record)) (r o : Option
 
 -- what is left after one call of `next`
 pub left_behind : (p : Parcel) (n : ℕ) (s t : List (ℕ × Record)) (r : Option Entry) → p.first ≤ n
-    → s ≡ enumerate_from n (drop (n - p.first) p.records) → YieldsFirstBy numbered_record (λ (left : List (ℕ × Record)). left) s r t
+    → s ≡ enumerate_from n (drop (n - p.first) p.records)
+    → YieldsFirstBy numbered_record (λ (left : List (ℕ × Record)). left) s r t
     → t ≡ enumerate_from (n + 1) (drop (n + 1 - p.first) p.records)
 left_behind p n s t r from left step =
     let e : suc (n - p.first) ≡ n + 1 - p.first = omega arith in

@@ -1,5 +1,6 @@
 -- Two collectors side by side: whether they are the same, and whether they fit together, number by number.
-use Rattle.std.proofs.Common.{◌≡◌, ◌≢◌, ◌⊎◌, inl, inr, ⊎_elim, ℕ, ◌+◌, ◌-◌, ◌<◌, ◌≤◌, ◌^◌, List, ◌++◌, length, Option, Some, None, sym, ap, ◌∙◌, subst, arith}
+use Rattle.std.proofs.Common.{◌≡◌, ◌≢◌, ◌⊎◌, inl, inr, ⊎_elim, ℕ, ◌+◌, ◌-◌, ◌<◌, ◌≤◌, ◌^◌, List, ◌++◌, length, Option}
+use Rattle.std.proofs.Common.{Some, None, sym, ap, ◌∙◌, subst, arith}
 use Rattle.std.specs.List.{slice_get}
 use Rattle.std.proofs.lemmas.Bool.{cases_lt}
 use Rattle.std.proofs.lemmas.Option.{slice_get_within}
@@ -25,7 +26,8 @@ use Rattle.collector.proofs.Walks.{one_of_both}
 use Rattle.collector.proofs.Indexing.{record_at, in_taken, known_of}
 use Rattle.collector.proofs.Looking.{in_within}
 
-pub beside_of : (ps qs : List Parcel) (cpu n : ℕ) (o p : Option Content) → IsContentAt ps cpu n o → IsContentAt qs cpu n p → IsBeside ps qs cpu n (pair_of o p)
+pub beside_of : (ps qs : List Parcel) (cpu n : ℕ) (o p : Option Content) → IsContentAt ps cpu n o
+    → IsContentAt qs cpu n p → IsBeside ps qs cpu n (pair_of o p)
 beside_of ps qs cpu n None None a b = inl (a, b)
 beside_of ps qs cpu n None (Some content) a b = inl (a, known_of qs cpu n content b)
 beside_of ps qs cpu n (Some content) None a b = inr (known_of ps cpu n content a, b)
@@ -42,7 +44,8 @@ both_unknown ps qs c n unknown others_unknown = record {
   misses = (λ m. absurd (unknown.not_missing m), λ m. absurd (others_unknown.not_missing m));
 }
 
-pub alike_same : (ps qs : List Parcel) (cpu n : ℕ) → Agree ps → Agree qs → IsBeside ps qs cpu n Alike → IsSameAt ps qs cpu n
+pub alike_same : (ps qs : List Parcel) (cpu n : ℕ) → Agree ps → Agree qs → IsBeside ps qs cpu n Alike
+    → IsSameAt ps qs cpu n
 alike_same ps qs cpu n agree others_agree beside = ⊎_elim
     (λ (u : IsUnknown ps cpu n × IsUnknown qs cpu n). both_unknown ps qs cpu n u.0 u.1)
     (λ (m : Misses ps cpu n × Misses qs cpu n). record {
@@ -51,7 +54,8 @@ alike_same ps qs cpu n agree others_agree beside = ⊎_elim
     })
     beside
 
-pub odds_not_same : (ps qs : List Parcel) (cpu n : ℕ) → Agree ps → Agree qs → IsBeside ps qs cpu n AtOdds → IsSameAt ps qs cpu n → ⊥
+pub odds_not_same : (ps qs : List Parcel) (cpu n : ℕ) → Agree ps → Agree qs → IsBeside ps qs cpu n AtOdds
+    → IsSameAt ps qs cpu n → ⊥
 odds_not_same ps qs cpu n agree others_agree beside same = ⊎_elim
     (λ (b : IsTaken ps cpu n × Misses qs cpu n). others_agree.not_missing cpu n b.0.0 ((same.has b.0.0).0 b.0.1) b.1)
     (λ (b : Misses ps cpu n × IsTaken qs cpu n). agree.not_missing cpu n b.1.0 ((same.has b.1.0).1 b.1.1) b.0)
@@ -77,7 +81,9 @@ has_record ps i cpu n p at x =
     let is = found.1.number_is in
     let same : x.parcel ≡ p = some_is x.parcel p (sym x.at ∙ at) in (
       found.0,
-      ap (λ (q : Parcel). record_of q n) (sym same) ∙ ap (slice_get x.parcel.records) (let e : n - x.parcel.first ≡ found.1.index = omega arith in e) ∙ found.1.record_is,
+      ap (λ (q : Parcel). record_of q n) (sym same)
+          ∙ ap (slice_get x.parcel.records) (let e : n - x.parcel.first ≡ found.1.index = omega arith in e)
+          ∙ found.1.record_is,
       record { index = i; parcel = x.parcel; at = x.at; pair = found.1 },
     )
 
@@ -98,12 +104,18 @@ module _ (ps qs : List Parcel) (i j cpu n : ℕ) (p q : Parcel) (agree : Agree p
       (λ h. subst (Has qs cpu n) (sym (equal same) ∙ agree.one_record cpu n one.0 r one.2 h) that.2),
       (λ h. subst (Has ps cpu n) (equal same ∙ others_agree.one_record cpu n that.0 r that.2 h) one.2),
     );
-    misses = (λ m. absurd (agree.not_missing cpu n one.0 one.2 m), λ m. absurd (others_agree.not_missing cpu n that.0 that.2 m));
+    misses = (
+      λ m. absurd (agree.not_missing cpu n one.0 one.2 m),
+      λ m. absurd (others_agree.not_missing cpu n that.0 that.2 m),
+    );
   }
 
   pub records_fit : record_of p n ≡ record_of q n → FitTogether ps qs cpu n
   records_fit same = record {
-    one_record = λ r other h g. agree.one_record cpu n r one.0 h one.2 ∙ equal same ∙ others_agree.one_record cpu n that.0 other that.2 g;
+    one_record =
+        λ r other h g.
+        agree.one_record cpu n r one.0 h one.2 ∙ equal same
+        ∙ others_agree.one_record cpu n that.0 other that.2 g;
     not_missing = λ r h m. others_agree.not_missing cpu n that.0 that.2 m;
     not_taken = λ r m h. agree.not_missing cpu n one.0 one.2 m;
   }
@@ -131,23 +143,31 @@ module _ (ps qs : List Parcel) (cpu at : ℕ) (both : Both) (seen : IsSeen ps qs
   pub own_within : (i j : ℕ) → both.beside ≡ Records i j → at < both.end → i < length ps
   own_within i j is some = in_within ps i cpu at (seen_as (Records i j) is at (omega arith) some).0
 
-  module _ (i j : ℕ) (p q : Parcel) (is : both.beside ≡ Records i j) (own : slice_get ps i ≡ Some p) (others : slice_get qs j ≡ Some q)
+  module _ (i j : ℕ) (p q : Parcel) (is : both.beside ≡ Records i j) (own : slice_get ps i ≡ Some p)
+      (others : slice_get qs j ≡ Some q)
       (n : ℕ) (from : at ≤ n) (below : n < both.end) where
     pub fit_seen : record_of p n ≡ record_of q n → FitTogether ps qs cpu n
-    fit_seen = records_fit ps qs i j cpu n p q seen.agree seen.others_agree own others (seen_as (Records i j) is n from below)
+    fit_seen =
+        records_fit ps qs i j cpu n p q seen.agree seen.others_agree own others (seen_as (Records i j) is n from below)
 
     pub clash_seen : record_of p n ≢ record_of q n → IsClashAt (ps ++ qs) cpu n
-    clash_seen = records_clash ps qs i j cpu n p q seen.agree seen.others_agree own others (seen_as (Records i j) is n from below)
+    clash_seen =
+        records_clash ps qs i j cpu n p q seen.agree seen.others_agree own others
+        (seen_as (Records i j) is n from below)
 
     pub same_seen : record_of p n ≡ record_of q n → IsSameAt ps qs cpu n
-    same_seen = records_same ps qs i j cpu n p q seen.agree seen.others_agree own others (seen_as (Records i j) is n from below)
+    same_seen =
+        records_same ps qs i j cpu n p q seen.agree seen.others_agree own others (seen_as (Records i j) is n from below)
 
     pub not_same_seen : record_of p n ≢ record_of q n → IsSameAt ps qs cpu n → ⊥
-    not_same_seen = records_not_same ps qs i j cpu n p q seen.agree seen.others_agree own others (seen_as (Records i j) is n from below)
+    not_same_seen =
+        records_not_same ps qs i j cpu n p q seen.agree seen.others_agree own others
+        (seen_as (Records i j) is n from below)
 
 -- ---- fitting together
 
-pub alike_fit : (ps qs : List Parcel) (cpu n : ℕ) → Agree ps → Agree qs → IsBeside ps qs cpu n Alike → FitTogether ps qs cpu n
+pub alike_fit : (ps qs : List Parcel) (cpu n : ℕ) → Agree ps → Agree qs → IsBeside ps qs cpu n Alike
+    → FitTogether ps qs cpu n
 alike_fit ps qs cpu n agree others_agree beside = ⊎_elim
     (λ (u : IsUnknown ps cpu n × IsUnknown qs cpu n). record {
       one_record = λ r other h g. absurd (u.0.no_record r h);
@@ -224,7 +244,8 @@ fit_one : (ps qs : List Parcel) (c n : ℕ) → Agree ps → Agree qs → FitTog
     → Has (ps ++ qs) c n r → Has (ps ++ qs) c n other → r ≡ other
 fit_one ps qs c n agree others_agree fit r other h g = one_of_both (Has ps c n) (Has qs c n) r other
     (has_either ps qs c n r h) (has_either ps qs c n other g)
-    (agree.one_record c n r other) (fit.one_record r other) (fit.one_record other r) (others_agree.one_record c n r other)
+    (agree.one_record c n r other) (fit.one_record r other) (fit.one_record other r)
+    (others_agree.one_record c n r other)
 
 fit_not_both : (ps qs : List Parcel) (c n : ℕ) → Agree ps → Agree qs → FitTogether ps qs c n → (r : Record)
     → Has (ps ++ qs) c n r → Misses (ps ++ qs) c n → ⊥
@@ -241,7 +262,8 @@ fit_not_both ps qs c n agree others_agree fit r h m = ⊎_elim
 
 -- ---- numbers that no parcel can have
 
-pub has_bounds : (ps : List Parcel) (c n : ℕ) (r : Record) → AreSound ps → Has ps c n r → (c < MAX_CPUS) × (n + 1 < 2 ^ 64)
+pub has_bounds : (ps : List Parcel) (c n : ℕ) (r : Record) → AreSound ps → Has ps c n r
+    → (c < MAX_CPUS) × (n + 1 < 2 ^ 64)
 has_bounds ps c n r sound h =
     let is = sound h.index h.parcel h.at in
     let cpu = h.pair.cpu_is in
@@ -272,7 +294,8 @@ same_at ps qs same c n = record {
   misses = (same.below.misses c n, same.above.misses c n);
 }
 
-unbound_fit : (ps qs : List Parcel) (c n : ℕ) → AreSound ps → ((c < MAX_CPUS) × (n + 1 < 2 ^ 64) → ⊥) → FitTogether ps qs c n
+unbound_fit : (ps qs : List Parcel) (c n : ℕ) → AreSound ps → ((c < MAX_CPUS) × (n + 1 < 2 ^ 64) → ⊥)
+    → FitTogether ps qs c n
 unbound_fit ps qs c n sound out = record {
   one_record = λ r other h g. absurd (out (has_bounds ps c n r sound h));
   not_missing = λ r h m. out (has_bounds ps c n r sound h);
@@ -289,8 +312,12 @@ pub front_fits : (ps qs : List Parcel) (cpu n : ℕ) → AreSound ps → Agree p
     → ((c m : ℕ) → c < cpu → m < 2 ^ 64 - 1 → FitTogether ps qs c m) → ((m : ℕ) → m < n → FitTogether ps qs cpu m)
     → AgreeBefore (ps ++ qs) cpu n
 front_fits ps qs cpu n sound agree others_agree before here = record {
-  no_clash = λ c m front clash. clash.differ (fit_one ps qs c m agree others_agree (fit c m front) clash.one clash.other clash.has clash.has_other);
-  none_taken_and_missing = λ c m front both. fit_not_both ps qs c m agree others_agree (fit c m front) both.one both.has both.misses;
+  no_clash =
+      λ c m front clash.
+      clash.differ
+      (fit_one ps qs c m agree others_agree (fit c m front) clash.one clash.other clash.has clash.has_other);
+  none_taken_and_missing =
+      λ c m front both. fit_not_both ps qs c m agree others_agree (fit c m front) both.one both.has both.misses;
 }
   where
     fit : (c m : ℕ) → IsBeforeNumber c m cpu n → FitTogether ps qs c m

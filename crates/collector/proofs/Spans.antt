@@ -1,5 +1,6 @@
 -- What a change of one range does to what is stated.
-use Rattle.std.proofs.Common.{◌≡◌, ◌≢◌, ⊎_elim, ℕ, ◌<◌, ◌≤◌, ◌↔◌, false, List, [], ◌∷◌, ◌++◌, Option, Some, None, IsSome, is_some, refl, sym, ap, ◌∙◌, subst, arith}
+use Rattle.std.proofs.Common.{◌≡◌, ◌≢◌, ⊎_elim, ℕ, ◌<◌, ◌≤◌, ◌↔◌, false, List, [], ◌∷◌, ◌++◌, Option, Some, None}
+use Rattle.std.proofs.Common.{IsSome, is_some, refl, sym, ap, ◌∙◌, subst, arith}
 use Rattle.std.specs.Ordering.{nat_cmp, is_eq}
 use Rattle.std.specs.Cmp.{nat_cmp_is}
 use Rattle.std.specs.declared.cmp.Ordering.TheVariants.{Less, Greater}
@@ -33,7 +34,9 @@ none_behind_last m end r t first x range e q behind up_to =
 not_at : (k q : ℕ) → (q ≡ k → ⊥) → is_eq (nat_cmp k q) ≡ false
 not_at k q apart = ⊎_elim
     (λ (lt : k < q). ap is_eq (sym (nat_cmp_is k q Less lt)))
-    (λ (ge : q ≤ k). ⊎_elim (λ (lt : q < k). ap is_eq (sym (nat_cmp_is k q Greater lt))) (λ (le : k ≤ q). absurd (apart (omega arith))) (cases_lt q k))
+    (λ (ge : q ≤ k).
+    ⊎_elim (λ (lt : q < k). ap is_eq (sym (nat_cmp_is k q Greater lt)))
+    (λ (le : k ≤ q). absurd (apart (omega arith))) (cases_lt q k))
     (cases_lt k q)
 
 -- a write at one key leaves the others
@@ -47,49 +50,97 @@ module _ (old mid new : BTreeMap ℕ Span) (first place : ℕ) (span front : Spa
     (at : get nat_cmp old first ≡ Some span) (before : first < place) (over : place < span.end)
     (none : (q : ℕ) → first < q → q ≤ place → get nat_cmp old q ≡ None)
     (end_is : front.end ≡ place) (content_is : front.content ≡ span.content)
-    (behind_set : Updates nat_cmp old mid place (Some span)) (front_set : Updates nat_cmp mid new first (Some front)) where
-  behind_is : get nat_cmp new place ≡ Some span
-  behind_is = others_stay mid new first (Some front) front_set place (λ e. omega arith) ∙ behind_set.1
+    (behind_set : Updates nat_cmp old mid place (Some span)) (front_set : Updates nat_cmp mid new first (Some front))
+  where
+    behind_is : get nat_cmp new place ≡ Some span
+    behind_is = others_stay mid new first (Some front) front_set place (λ e. omega arith) ∙ behind_set.1
 
-  others_are : (q : ℕ) → (q ≡ first → ⊥) → (q ≡ place → ⊥) → get nat_cmp new q ≡ get nat_cmp old q
-  others_are q not_first not_place = others_stay mid new first (Some front) front_set q not_first
-      ∙ others_stay old mid place (Some span) behind_set q not_place
+    others_are : (q : ℕ) → (q ≡ first → ⊥) → (q ≡ place → ⊥) → get nat_cmp new q ≡ get nat_cmp old q
+    others_are q not_first not_place = others_stay mid new first (Some front) front_set q not_first
+        ∙ others_stay old mid place (Some span) behind_set q not_place
 
-  old_reported : (number : ℕ) (content : Content) → HasContent record { spans = old } number content → HasContent record { spans = new } number content
-  old_reported number content t = ⊎_elim
-      (λ (e : t.first ≡ first).
-      let same : t.span ≡ span = let a = t.at in let b = subst (λ (q : ℕ). get nat_cmp old q ≡ Some t.span) e t.at in cc in
-      let below : number < span.end = subst (λ (s : Span). number < s.end) same t.below in
-      let is : span.content ≡ content = ap (λ (s : Span). s.content) (sym same) ∙ t.content_is in
-      let from : first ≤ number = subst (λ (q : ℕ). q ≤ number) e t.from in
-      ⊎_elim
-      (λ (lt : number < place). record { first = first; span = front; at = front_set.1; from = from; below = omega arith; content_is = content_is ∙ is })
-      (λ (ge : place ≤ number). record { first = place; span = span; at = behind_is; from = ge; below = below; content_is = is })
-      (cases_lt number place))
-      (λ (apart : t.first ≡ first → ⊥).
-      let not_place : t.first ≡ place → ⊥ = λ e. let n = none place before (omega arith) in let b = subst (λ (q : ℕ). get nat_cmp old q ≡ Some t.span) e t.at in cc in
-      record { first = t.first; span = t.span; at = others_are t.first apart not_place ∙ t.at; from = t.from; below = t.below; content_is = t.content_is })
-      (cases_eq t.first first)
+    old_reported : (number : ℕ) (content : Content) → HasContent record { spans = old } number content
+        → HasContent record { spans = new } number content
+    old_reported number content t = ⊎_elim
+        (λ (e : t.first ≡ first).
+        let same : t.span ≡ span = let a = t.at in
+        let b = subst (λ (q : ℕ). get nat_cmp old q ≡ Some t.span) e t.at in
+        cc in
+        let below : number < span.end = subst (λ (s : Span). number < s.end) same t.below in
+        let is : span.content ≡ content = ap (λ (s : Span). s.content) (sym same) ∙ t.content_is in
+        let from : first ≤ number = subst (λ (q : ℕ). q ≤ number) e t.from in
+        ⊎_elim
+        (λ (lt : number < place).
+        record {
+          first = first;
+          span = front;
+          at = front_set.1;
+          from = from;
+          below = omega arith;
+          content_is = content_is ∙ is;
+        })
+        (λ (ge : place ≤ number).
+        record { first = place; span = span; at = behind_is; from = ge; below = below; content_is = is })
+        (cases_lt number place))
+        (λ (apart : t.first ≡ first → ⊥).
+        let not_place : t.first ≡ place → ⊥ = λ e. let n = none place before (omega arith) in
+        let b = subst (λ (q : ℕ). get nat_cmp old q ≡ Some t.span) e t.at in
+        cc in
+        record {
+          first = t.first;
+          span = t.span;
+          at = others_are t.first apart not_place ∙ t.at;
+          from = t.from;
+          below = t.below;
+          content_is = t.content_is;
+        })
+        (cases_eq t.first first)
 
-  new_reported : (number : ℕ) (content : Content) → HasContent record { spans = new } number content → HasContent record { spans = old } number content
-  new_reported number content t = ⊎_elim
-      (λ (e : t.first ≡ first).
-      let same : t.span ≡ front = let b = subst (λ (q : ℕ). get nat_cmp new q ≡ Some t.span) e t.at in let h = front_set.1 in cc in
-      let below : number < front.end = subst (λ (s : Span). number < s.end) same t.below in
-      let is : front.content ≡ content = ap (λ (s : Span). s.content) (sym same) ∙ t.content_is in
-      record { first = first; span = span; at = at; from = subst (λ (q : ℕ). q ≤ number) e t.from; below = omega arith; content_is = sym content_is ∙ is })
-      (λ (apart : t.first ≡ first → ⊥). ⊎_elim
-      (λ (e : t.first ≡ place).
-      let same : t.span ≡ span = let b = subst (λ (q : ℕ). get nat_cmp new q ≡ Some t.span) e t.at in let h = behind_is in cc in
-      let from : place ≤ number = subst (λ (q : ℕ). q ≤ number) e t.from in
-      record { first = first; span = span; at = at; from = omega arith; below = subst (λ (s : Span). number < s.end) same t.below; content_is = ap (λ (s : Span). s.content) (sym same) ∙ t.content_is })
-      (λ (not_place : t.first ≡ place → ⊥).
-      record { first = t.first; span = t.span; at = sym (others_are t.first apart not_place) ∙ t.at; from = t.from; below = t.below; content_is = t.content_is })
-      (cases_eq t.first place))
-      (cases_eq t.first first)
+    new_reported : (number : ℕ) (content : Content) → HasContent record { spans = new } number content
+        → HasContent record { spans = old } number content
+    new_reported number content t = ⊎_elim
+        (λ (e : t.first ≡ first).
+        let same : t.span ≡ front = let b = subst (λ (q : ℕ). get nat_cmp new q ≡ Some t.span) e t.at in
+        let h = front_set.1 in
+        cc in
+        let below : number < front.end = subst (λ (s : Span). number < s.end) same t.below in
+        let is : front.content ≡ content = ap (λ (s : Span). s.content) (sym same) ∙ t.content_is in
+        record {
+          first = first;
+          span = span;
+          at = at;
+          from = subst (λ (q : ℕ). q ≤ number) e t.from;
+          below = omega arith;
+          content_is = sym content_is ∙ is;
+        })
+        (λ (apart : t.first ≡ first → ⊥). ⊎_elim
+        (λ (e : t.first ≡ place).
+        let same : t.span ≡ span = let b = subst (λ (q : ℕ). get nat_cmp new q ≡ Some t.span) e t.at in
+        let h = behind_is in
+        cc in
+        let from : place ≤ number = subst (λ (q : ℕ). q ≤ number) e t.from in
+        record {
+          first = first;
+          span = span;
+          at = at;
+          from = omega arith;
+          below = subst (λ (s : Span). number < s.end) same t.below;
+          content_is = ap (λ (s : Span). s.content) (sym same) ∙ t.content_is;
+        })
+        (λ (not_place : t.first ≡ place → ⊥).
+        record {
+          first = t.first;
+          span = t.span;
+          at = sym (others_are t.first apart not_place) ∙ t.at;
+          from = t.from;
+          below = t.below;
+          content_is = t.content_is;
+        })
+        (cases_eq t.first place))
+        (cases_eq t.first first)
 
-  pub cut_reports_same : ReportSame record { spans = old } record { spans = new }
-  cut_reports_same number content = (old_reported number content, new_reported number content)
+    pub cut_reports_same : ReportSame record { spans = old } record { spans = new }
+    cut_reports_same number content = (old_reported number content, new_reported number content)
 
 -- ---- a mark
 
@@ -98,7 +149,9 @@ pub edges_unchanged : (ranges : Ranges) (mid new : BTreeMap ℕ Span) → new.en
     → KeepsEdges ranges record { spans = mid } → KeepsEdges ranges record { spans = new }
 edges_unchanged ranges mid new e keeps = record {
   marks = λ place marked. ap (λ es. is_some (lookup (is_at (nat_cmp place)) es)) e ∙ keeps.marks place marked;
-  cuts = λ place cut first span at. keeps.cuts place cut first span (ap (λ es. lookup (is_at (nat_cmp first)) es) (sym e) ∙ at);
+  cuts =
+      λ place cut first span at.
+      keeps.cuts place cut first span (ap (λ es. lookup (is_at (nat_cmp first)) es) (sym e) ∙ at);
 }
 
 -- an empty range at a place that had none leaves them
@@ -108,14 +161,16 @@ pub edges_marked : (ranges : Ranges) (mid new : BTreeMap ℕ Span) (place : ℕ)
 edges_marked ranges mid new place empty end_is set keeps = record {
   marks = λ q marked. ⊎_elim
       (λ (e : q ≡ place). ap is_some (ap (λ (k : ℕ). get nat_cmp new k) e ∙ set.1))
-      (λ (apart : q ≡ place → ⊥). ap is_some (others_stay mid new place (Some empty) set q apart) ∙ keeps.marks q marked)
+      (λ (apart : q ≡ place → ⊥).
+      ap is_some (others_stay mid new place (Some empty) set q apart) ∙ keeps.marks q marked)
       (cases_eq q place);
   cuts = λ q cut first span at lt. ⊎_elim
       (λ (e : first ≡ place).
       let same : span ≡ empty = let b = subst (λ (k : ℕ). get nat_cmp new k ≡ Some span) e at in let h = set.1 in cc in
       let is = ap (λ (s : Span). s.end) same in
       omega arith)
-      (λ (apart : first ≡ place → ⊥). keeps.cuts q cut first span (sym (others_stay mid new place (Some empty) set first apart) ∙ at) lt)
+      (λ (apart : first ≡ place → ⊥).
+      keeps.cuts q cut first span (sym (others_stay mid new place (Some empty) set first apart) ∙ at) lt)
       (cases_eq first place);
 }
 
@@ -132,8 +187,10 @@ pub record IsSet (old new : Ranges) (first end : ℕ) (content : Content) : Type
   pub in_front : (n : ℕ) (other : Content) → n < first → (HasContent old n other ↔ HasContent new n other)
   pub behind : (n : ℕ) (other : Content) → end ≤ n → (HasContent old n other ↔ HasContent new n other)
 
-pub both_laid : (old ready mid new : Ranges) (low first end parcel : ℕ) → low ≤ first → first ≤ end → ReportSame old ready
-    → IsSet ready mid low first Missing → IsSet mid new first end (Kept parcel) → IsLaid (HasContent old) (HasContent new) low first end parcel
+pub both_laid : (old ready mid new : Ranges) (low first end parcel : ℕ) → low ≤ first → first ≤ end
+    → ReportSame old ready
+    → IsSet ready mid low first Missing → IsSet mid new first end (Kept parcel)
+    → IsLaid (HasContent old) (HasContent new) low first end parcel
 both_laid old ready mid new low first end parcel up on same a b = record {
   missing = λ n from below. (b.in_front n Missing below).0 (a.inside n from below);
   missing_alone = λ n content from below t. a.alone n content from below ((b.in_front n content below).1 t);
@@ -152,16 +209,34 @@ both_laid old ready mid new low first end parcel up on same a b = record {
 -- ---- a parcel laid where nothing is stated
 
 -- the same ranges state the same
-pub keys_report_same : (old new : Ranges) → ((q : ℕ) → get nat_cmp new.spans q ≡ get nat_cmp old.spans q) → ReportSame old new
+pub keys_report_same : (old new : Ranges) → ((q : ℕ) → get nat_cmp new.spans q ≡ get nat_cmp old.spans q)
+    → ReportSame old new
 keys_report_same old new same number content = (
-  (λ t. record { first = t.first; span = t.span; at = same t.first ∙ t.at; from = t.from; below = t.below; content_is = t.content_is }),
-  (λ t. record { first = t.first; span = t.span; at = sym (same t.first) ∙ t.at; from = t.from; below = t.below; content_is = t.content_is }),
+  (λ t.
+      record {
+        first = t.first;
+        span = t.span;
+        at = same t.first ∙ t.at;
+        from = t.from;
+        below = t.below;
+        content_is = t.content_is;
+      }),
+  (λ t.
+      record {
+        first = t.first;
+        span = t.span;
+        at = sym (same t.first) ∙ t.at;
+        from = t.from;
+        below = t.below;
+        content_is = t.content_is;
+      }),
 )
 
 module _ (old mid : Ranges) (low first end : ℕ) (up : low ≤ first) (on : first ≤ end) (free : IsFree old low end)
     (others : (q : ℕ) → (low < first → q ≢ low) → get nat_cmp mid.spans q ≡ get nat_cmp old.spans q) where
   -- what follows the missing numbers is still free
-  pub free_behind : (low < first → (span : Span) → get nat_cmp mid.spans low ≡ Some span → span.end ≤ first) → IsFree mid first end
+  pub free_behind : (low < first → (span : Span) → get nat_cmp mid.spans low ≡ Some span → span.end ≤ first)
+      → IsFree mid first end
   free_behind ends = record {
     cut = λ f span at lt. ⊎_elim
         (λ (e : f ≡ low). ends (omega arith) span (subst (λ (q : ℕ). get nat_cmp mid.spans q ≡ Some span) e at))
@@ -181,5 +256,6 @@ module _ (old mid : Ranges) (low first end : ℕ) (up : low ≤ first) (on : fir
   undone refused new some same removed = keys_report_same old new (λ q. ⊎_elim
       (λ (e : q ≡ low). ap (λ (k : ℕ). get nat_cmp new.spans k) e ∙ removed.1
       ∙ sym (ap (λ (k : ℕ). get nat_cmp old.spans k) e ∙ free.none low (omega arith) (omega arith)))
-      (λ (apart : q ≡ low → ⊥). others_stay refused.spans new.spans low None removed q apart ∙ same q ∙ others q (λ _. apart))
+      (λ (apart : q ≡ low → ⊥).
+      others_stay refused.spans new.spans low None removed q apart ∙ same q ∙ others q (λ _. apart))
       (cases_eq q low))

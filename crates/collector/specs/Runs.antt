@@ -1,5 +1,6 @@
 -- The missing numbers of a CPU, and those of which nothing is known, as runs.
-use Rattle.std.specs.Prelude.{ℕ, zero, suc, ◌+◌, ◌-◌, ◌<◌, Bool, true, false, not, cond, eqb, leb, ltb, ◌&&◌, ◌||◌, is_some, List, [], ◌∷◌, Option, Some, None}
+use Rattle.std.specs.Prelude.{ℕ, zero, suc, ◌+◌, ◌-◌, ◌<◌, Bool, true, false, not, cond, eqb, leb, ltb, ◌&&◌, ◌||◌}
+use Rattle.std.specs.Prelude.{is_some, List, [], ◌∷◌, Option, Some, None}
 use Rattle.trace_model.specs.Parcel.{Parcel}
 use Rattle.trace_model.specs.Collection.{Misses}
 pub use Rattle.trace_model.specs.Runs.{InRun, AreRuns}

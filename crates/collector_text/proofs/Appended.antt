@@ -1,5 +1,6 @@
 -- Texts that are put one after the other.
-use Rattle.std.proofs.Common.{◌≡◌, ℕ, ◌+◌, ◌<◌, ◌≤◌, List, [], ◌∷◌, ◌++◌, length, get_or, take, flat_map, refl, sym, ap, ◌∙◌, subst, arith, length-take-le}
+use Rattle.std.proofs.Common.{◌≡◌, ℕ, ◌+◌, ◌<◌, ◌≤◌, List, [], ◌∷◌, ◌++◌, length, get_or, take, flat_map, refl, sym, ap}
+use Rattle.std.proofs.Common.{◌∙◌, subst, arith, length-take-le}
 use Rattle.std.specs.List.{AllZip, enumerate_from}
 use Rattle.std.proofs.lemmas.List.{append-nil, flat_map_more, take_all, take_more}
 
@@ -46,7 +47,8 @@ zip_more R (w ∷ xs) (z ∷ ys) x y all one = (all.0, zip_more R xs ys x y all.
 -- ---- what is put of each
 
 -- out is what was there before, then the text of these elements: of each what is shown of it, numbered from 0.
-pub record ArePut (A B : Type 0) (IsShown : A → B → Type 0) (text_of : ℕ × B → List ℕ) (xs : List A) (before out : List ℕ)
+pub record ArePut (A B : Type 0) (IsShown : A → B → Type 0) (text_of : ℕ × B → List ℕ) (xs : List A)
+    (before out : List ℕ)
     : Type 0 where
   pub shown : List B
   pub each : AllZip IsShown xs shown

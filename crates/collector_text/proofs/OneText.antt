@@ -30,7 +30,8 @@ same_are_reported parcels others shown same reported = record {
 }
 
 -- a collector has one text
-pub one_text : (parcels : List Parcel) (shown other : Shown) (number : ℕ) → IsPrintOf parcels shown → IsPrintOf parcels other
+pub one_text : (parcels : List Parcel) (shown other : Shown) (number : ℕ) → IsPrintOf parcels shown
+    → IsPrintOf parcels other
     → printed_collector number shown ≡ printed_collector number other
 one_text parcels shown other number reported also =
     let lines = one_listing parcels parcels shown.lines other.lines (same_itself parcels) reported.lines also.lines in

@@ -1,12 +1,13 @@
 -- What the program's command line is on words that call for `collect` and are written out.
-use Rattle.std.proofs.Common.{◌≡◌, ◌⊎◌, inl, inr, List, ◌∷◌, [], Result, Ok, Err, Some, None, Option, ℕ, Bool, true, false, codes, is_some, refl, sym, ap, ◌∙◌}
+use Rattle.std.proofs.Common.{◌≡◌, ◌⊎◌, inl, inr, List, ◌∷◌, [], Result, Ok, Err, Some, None, Option, ℕ, Bool, true}
+use Rattle.std.proofs.Common.{false, codes, is_some, refl, sym, ap, ◌∙◌}
 use Rattle.clap.specs.Words.{Row, Text, first_of}
 use Rattle.clap.proofs.OnLiterals.{clap_on_literals}
 use Rattle.command_line.proofs.Names.{collect_is_not_recover}
 use Rattle.command_line.specs.Calls.{Asked, AsksFor, AreUnread, IsAsked, asked_of, files_matched, page_matched}
-use Rattle.command_line.specs.CommandLine.{IsCallOf, IsAccepted, names_command, rows_named}
+use Rattle.command_line.specs.CommandLine.{IsParseOf, IsAccepted, names_command, rows_named}
 use Rattle.command_line.specs.declared.call.Call.{Call}
-use Rattle.command_line.specs.declared.call.Call.TheVariants.{Replay, Run, Steps, Dump, Collect, Recover}
+use Rattle.command_line.specs.declared.call.Call.TheVariants.{Replay, Run, Steps, Dump, Collect, Recover, Version}
 use Rattle.command_line.specs.declared.call.CallFault.{CallFault}
 use Rattle.command_line.specs.declared.call.CallFault.TheVariants.{Usage, NoMemory}
 
@@ -39,7 +40,8 @@ same_some : {T : Type 0} (a b : T) (o : Option T) → o ≡ Some a → o ≡ Som
 same_some a b o x y = let both : Some a ≡ Some b = sym x ∙ y in cc
 
 module _ (words : List Text) (named : names_command words ≡ Some (codes "collect")) where
-  asks : (asked : Asked) (result : Result Call CallFault) → IsAccepted words → Says (rows_named words) asked → IsCallOf words result → IsAsked result asked
+  asks : (asked : Asked) (result : Result Call CallFault) → IsAccepted words → Says (rows_named words) asked
+      → IsParseOf words result → IsAsked result asked
   asks asked (Ok (Collect call)) accepted says a =
       let asks = a.collect call refl in
       same_asked (asked_of call) asked
@@ -51,7 +53,9 @@ module _ (words : List Text) (named : names_command words ≡ Some (codes "colle
   asks asked (Ok Run) accepted says a = absurd (let wrong = sym named ∙ a.named Run refl in cc)
   asks asked (Ok Steps) accepted says a = absurd (let wrong = sym named ∙ a.named Steps refl in cc)
   asks asked (Ok Dump) accepted says a = absurd (let wrong = sym named ∙ a.named Dump refl in cc)
-  asks asked (Ok (Recover call)) accepted says a = absurd (collect_is_not_recover (sym named ∙ a.named (Recover call) refl))
+  asks asked (Ok (Recover call)) accepted says a =
+      absurd (collect_is_not_recover (sym named ∙ a.named (Recover call) refl))
+  asks asked (Ok Version) accepted says a = absurd (a.no_version refl)
   asks asked (Err Usage) accepted says a = absurd (unread (a.no_collect refl accepted named))
     where
       unread : AreUnread (rows_named words) → ⊥
@@ -59,7 +63,8 @@ module _ (words : List Text) (named : names_command words ≡ Some (codes "colle
       unread (inr none) = let wrong = sym none ∙ says.files in cc
   asks asked (Err NoMemory) accepted says a = tt
 
-  unreadable : (result : Result Call CallFault) → AreUnread (rows_named words) → IsCallOf words result → (result ≡ Err Usage) ⊎ (result ≡ Err NoMemory)
+  unreadable : (result : Result Call CallFault) → AreUnread (rows_named words) → IsParseOf words result
+      → (result ≡ Err Usage) ⊎ (result ≡ Err NoMemory)
   unreadable (Ok (Collect call)) (inl none) a = absurd (let wrong = sym none ∙ (a.collect call refl).page in cc)
   unreadable (Ok (Collect call)) (inr none) a = absurd (let wrong = sym none ∙ (a.collect call refl).files in cc)
   unreadable (Ok (Replay log)) none a = absurd (let wrong = sym named ∙ a.named (Replay log) refl in cc)
@@ -67,6 +72,7 @@ module _ (words : List Text) (named : names_command words ≡ Some (codes "colle
   unreadable (Ok Steps) none a = absurd (let wrong = sym named ∙ a.named Steps refl in cc)
   unreadable (Ok Dump) none a = absurd (let wrong = sym named ∙ a.named Dump refl in cc)
   unreadable (Ok (Recover call)) none a = absurd (collect_is_not_recover (sym named ∙ a.named (Recover call) refl))
+  unreadable (Ok Version) none a = absurd (a.no_version refl)
   unreadable (Err Usage) none a = inl refl
   unreadable (Err NoMemory) none a = inr refl
 
@@ -74,106 +80,428 @@ collect_accepted : (first : List ℕ) → IsAccepted (first ∷ codes "collect" 
 unfolding clap_on_literals
 collect_accepted first = refl
 
-collect_named : (first : List ℕ) → names_command (first ∷ codes "collect" ∷ codes "a" ∷ codes "b" ∷ []) ≡ Some (codes "collect")
+collect_named : (first : List ℕ)
+    → names_command (first ∷ codes "collect" ∷ codes "a" ∷ codes "b" ∷ []) ≡ Some (codes "collect")
 unfolding clap_on_literals names_command
 collect_named first = refl
 
-collect_says : (first : List ℕ) → Says (rows_named (first ∷ codes "collect" ∷ codes "a" ∷ codes "b" ∷ [])) (record { page = 4096; has_page = false; names = false; json = false; formats = None; keep = None; parcels = false; files = (0, codes "a") ∷ (1, codes "b") ∷ [] })
+collect_says : (first : List ℕ)
+    → Says (rows_named (first ∷ codes "collect" ∷ codes "a" ∷ codes "b" ∷ []))
+    (record {
+      page = 4096;
+      has_page = false;
+      names = false;
+      json = false;
+      formats = None;
+      keep = None;
+      parcels = false;
+      files = (0, codes "a") ∷ (1, codes "b") ∷ [];
+    })
 unfolding clap_on_literals rows_named
-collect_says first = record { page = refl; has_page = refl; files = refl; formats = refl; keep = refl; parcels = λ asks h. h.no_parcels refl; json = λ asks h. h.no_json refl; names = λ asks h. h.no_names refl (sym h.formats) }
+collect_says first =
+    record {
+      page = refl;
+      has_page = refl;
+      files = refl;
+      formats = refl;
+      keep = refl;
+      parcels = λ asks h. h.no_parcels refl;
+      json = λ asks h. h.no_json refl;
+      names = λ asks h. h.no_names refl (sym h.formats);
+    }
 
-pub asked_collect : (first : List ℕ) (result : Result Call CallFault) → IsCallOf (first ∷ codes "collect" ∷ codes "a" ∷ codes "b" ∷ []) result → IsAsked result (record { page = 4096; has_page = false; names = false; json = false; formats = None; keep = None; parcels = false; files = (0, codes "a") ∷ (1, codes "b") ∷ [] })
-asked_collect first result a = asks (first ∷ codes "collect" ∷ codes "a" ∷ codes "b" ∷ []) (collect_named first) (record { page = 4096; has_page = false; names = false; json = false; formats = None; keep = None; parcels = false; files = (0, codes "a") ∷ (1, codes "b") ∷ [] }) result (collect_accepted first) (collect_says first) a
+pub asked_collect : (first : List ℕ) (result : Result Call CallFault)
+    → IsParseOf (first ∷ codes "collect" ∷ codes "a" ∷ codes "b" ∷ []) result
+    → IsAsked result
+    (record {
+      page = 4096;
+      has_page = false;
+      names = false;
+      json = false;
+      formats = None;
+      keep = None;
+      parcels = false;
+      files = (0, codes "a") ∷ (1, codes "b") ∷ [];
+    })
+asked_collect first result a =
+    asks (first ∷ codes "collect" ∷ codes "a" ∷ codes "b" ∷ []) (collect_named first)
+    (record {
+      page = 4096;
+      has_page = false;
+      names = false;
+      json = false;
+      formats = None;
+      keep = None;
+      parcels = false;
+      files = (0, codes "a") ∷ (1, codes "b") ∷ [];
+    }) result (collect_accepted first) (collect_says first) a
 
 cpu_accepted : (first : List ℕ) → IsAccepted (first ∷ codes "collect" ∷ codes "3=a" ∷ codes "-" ∷ [])
 unfolding clap_on_literals
 cpu_accepted first = refl
 
-cpu_named : (first : List ℕ) → names_command (first ∷ codes "collect" ∷ codes "3=a" ∷ codes "-" ∷ []) ≡ Some (codes "collect")
+cpu_named : (first : List ℕ)
+    → names_command (first ∷ codes "collect" ∷ codes "3=a" ∷ codes "-" ∷ []) ≡ Some (codes "collect")
 unfolding clap_on_literals names_command
 cpu_named first = refl
 
-cpu_says : (first : List ℕ) → Says (rows_named (first ∷ codes "collect" ∷ codes "3=a" ∷ codes "-" ∷ [])) (record { page = 4096; has_page = false; names = false; json = false; formats = None; keep = None; parcels = false; files = (3, codes "a") ∷ (1, codes "-") ∷ [] })
+cpu_says : (first : List ℕ)
+    → Says (rows_named (first ∷ codes "collect" ∷ codes "3=a" ∷ codes "-" ∷ []))
+    (record {
+      page = 4096;
+      has_page = false;
+      names = false;
+      json = false;
+      formats = None;
+      keep = None;
+      parcels = false;
+      files = (3, codes "a") ∷ (1, codes "-") ∷ [];
+    })
 unfolding clap_on_literals rows_named
-cpu_says first = record { page = refl; has_page = refl; files = refl; formats = refl; keep = refl; parcels = λ asks h. h.no_parcels refl; json = λ asks h. h.no_json refl; names = λ asks h. h.no_names refl (sym h.formats) }
+cpu_says first =
+    record {
+      page = refl;
+      has_page = refl;
+      files = refl;
+      formats = refl;
+      keep = refl;
+      parcels = λ asks h. h.no_parcels refl;
+      json = λ asks h. h.no_json refl;
+      names = λ asks h. h.no_names refl (sym h.formats);
+    }
 
-pub asked_cpu : (first : List ℕ) (result : Result Call CallFault) → IsCallOf (first ∷ codes "collect" ∷ codes "3=a" ∷ codes "-" ∷ []) result → IsAsked result (record { page = 4096; has_page = false; names = false; json = false; formats = None; keep = None; parcels = false; files = (3, codes "a") ∷ (1, codes "-") ∷ [] })
-asked_cpu first result a = asks (first ∷ codes "collect" ∷ codes "3=a" ∷ codes "-" ∷ []) (cpu_named first) (record { page = 4096; has_page = false; names = false; json = false; formats = None; keep = None; parcels = false; files = (3, codes "a") ∷ (1, codes "-") ∷ [] }) result (cpu_accepted first) (cpu_says first) a
+pub asked_cpu : (first : List ℕ) (result : Result Call CallFault)
+    → IsParseOf (first ∷ codes "collect" ∷ codes "3=a" ∷ codes "-" ∷ []) result
+    → IsAsked result
+    (record {
+      page = 4096;
+      has_page = false;
+      names = false;
+      json = false;
+      formats = None;
+      keep = None;
+      parcels = false;
+      files = (3, codes "a") ∷ (1, codes "-") ∷ [];
+    })
+asked_cpu first result a =
+    asks (first ∷ codes "collect" ∷ codes "3=a" ∷ codes "-" ∷ []) (cpu_named first)
+    (record {
+      page = 4096;
+      has_page = false;
+      names = false;
+      json = false;
+      formats = None;
+      keep = None;
+      parcels = false;
+      files = (3, codes "a") ∷ (1, codes "-") ∷ [];
+    }) result (cpu_accepted first) (cpu_says first) a
 
-flags_accepted : (first : List ℕ) → IsAccepted (first ∷ codes "collect" ∷ codes "--json" ∷ codes "--names" ∷ codes "a" ∷ [])
+flags_accepted : (first : List ℕ)
+    → IsAccepted (first ∷ codes "collect" ∷ codes "--json" ∷ codes "--names" ∷ codes "a" ∷ [])
 unfolding clap_on_literals
 flags_accepted first = refl
 
-flags_named : (first : List ℕ) → names_command (first ∷ codes "collect" ∷ codes "--json" ∷ codes "--names" ∷ codes "a" ∷ []) ≡ Some (codes "collect")
+flags_named : (first : List ℕ)
+    → names_command (first ∷ codes "collect" ∷ codes "--json" ∷ codes "--names" ∷ codes "a" ∷ [])
+    ≡ Some (codes "collect")
 unfolding clap_on_literals names_command
 flags_named first = refl
 
-flags_says : (first : List ℕ) → Says (rows_named (first ∷ codes "collect" ∷ codes "--json" ∷ codes "--names" ∷ codes "a" ∷ [])) (record { page = 4096; has_page = false; names = true; json = true; formats = None; keep = None; parcels = false; files = (0, codes "a") ∷ [] })
+flags_says : (first : List ℕ)
+    → Says (rows_named (first ∷ codes "collect" ∷ codes "--json" ∷ codes "--names" ∷ codes "a" ∷ []))
+    (record {
+      page = 4096;
+      has_page = false;
+      names = true;
+      json = true;
+      formats = None;
+      keep = None;
+      parcels = false;
+      files = (0, codes "a") ∷ [];
+    })
 unfolding clap_on_literals rows_named
-flags_says first = record { page = refl; has_page = refl; files = refl; formats = refl; keep = refl; parcels = λ asks h. h.no_parcels refl; json = λ asks h. h.json refl; names = λ asks h. h.names refl }
+flags_says first =
+    record {
+      page = refl;
+      has_page = refl;
+      files = refl;
+      formats = refl;
+      keep = refl;
+      parcels = λ asks h. h.no_parcels refl;
+      json = λ asks h. h.json refl;
+      names = λ asks h. h.names refl;
+    }
 
-pub asked_flags : (first : List ℕ) (result : Result Call CallFault) → IsCallOf (first ∷ codes "collect" ∷ codes "--json" ∷ codes "--names" ∷ codes "a" ∷ []) result → IsAsked result (record { page = 4096; has_page = false; names = true; json = true; formats = None; keep = None; parcels = false; files = (0, codes "a") ∷ [] })
-asked_flags first result a = asks (first ∷ codes "collect" ∷ codes "--json" ∷ codes "--names" ∷ codes "a" ∷ []) (flags_named first) (record { page = 4096; has_page = false; names = true; json = true; formats = None; keep = None; parcels = false; files = (0, codes "a") ∷ [] }) result (flags_accepted first) (flags_says first) a
+pub asked_flags : (first : List ℕ) (result : Result Call CallFault)
+    → IsParseOf (first ∷ codes "collect" ∷ codes "--json" ∷ codes "--names" ∷ codes "a" ∷ []) result
+    → IsAsked result
+    (record {
+      page = 4096;
+      has_page = false;
+      names = true;
+      json = true;
+      formats = None;
+      keep = None;
+      parcels = false;
+      files = (0, codes "a") ∷ [];
+    })
+asked_flags first result a =
+    asks (first ∷ codes "collect" ∷ codes "--json" ∷ codes "--names" ∷ codes "a" ∷ []) (flags_named first)
+    (record {
+      page = 4096;
+      has_page = false;
+      names = true;
+      json = true;
+      formats = None;
+      keep = None;
+      parcels = false;
+      files = (0, codes "a") ∷ [];
+    }) result (flags_accepted first) (flags_says first) a
 
 page_accepted : (first : List ℕ) → IsAccepted (first ∷ codes "collect" ∷ codes "--page" ∷ codes "8192" ∷ codes "a" ∷ [])
 unfolding clap_on_literals
 page_accepted first = refl
 
-page_named : (first : List ℕ) → names_command (first ∷ codes "collect" ∷ codes "--page" ∷ codes "8192" ∷ codes "a" ∷ []) ≡ Some (codes "collect")
+page_named : (first : List ℕ)
+    → names_command (first ∷ codes "collect" ∷ codes "--page" ∷ codes "8192" ∷ codes "a" ∷ []) ≡ Some (codes "collect")
 unfolding clap_on_literals names_command
 page_named first = refl
 
-page_says : (first : List ℕ) → Says (rows_named (first ∷ codes "collect" ∷ codes "--page" ∷ codes "8192" ∷ codes "a" ∷ [])) (record { page = 8192; has_page = true; names = false; json = false; formats = None; keep = None; parcels = false; files = (0, codes "a") ∷ [] })
+page_says : (first : List ℕ)
+    → Says (rows_named (first ∷ codes "collect" ∷ codes "--page" ∷ codes "8192" ∷ codes "a" ∷ []))
+    (record {
+      page = 8192;
+      has_page = true;
+      names = false;
+      json = false;
+      formats = None;
+      keep = None;
+      parcels = false;
+      files = (0, codes "a") ∷ [];
+    })
 unfolding clap_on_literals rows_named
-page_says first = record { page = refl; has_page = refl; files = refl; formats = refl; keep = refl; parcels = λ asks h. h.no_parcels refl; json = λ asks h. h.no_json refl; names = λ asks h. h.no_names refl (sym h.formats) }
+page_says first =
+    record {
+      page = refl;
+      has_page = refl;
+      files = refl;
+      formats = refl;
+      keep = refl;
+      parcels = λ asks h. h.no_parcels refl;
+      json = λ asks h. h.no_json refl;
+      names = λ asks h. h.no_names refl (sym h.formats);
+    }
 
-pub asked_page : (first : List ℕ) (result : Result Call CallFault) → IsCallOf (first ∷ codes "collect" ∷ codes "--page" ∷ codes "8192" ∷ codes "a" ∷ []) result → IsAsked result (record { page = 8192; has_page = true; names = false; json = false; formats = None; keep = None; parcels = false; files = (0, codes "a") ∷ [] })
-asked_page first result a = asks (first ∷ codes "collect" ∷ codes "--page" ∷ codes "8192" ∷ codes "a" ∷ []) (page_named first) (record { page = 8192; has_page = true; names = false; json = false; formats = None; keep = None; parcels = false; files = (0, codes "a") ∷ [] }) result (page_accepted first) (page_says first) a
+pub asked_page : (first : List ℕ) (result : Result Call CallFault)
+    → IsParseOf (first ∷ codes "collect" ∷ codes "--page" ∷ codes "8192" ∷ codes "a" ∷ []) result
+    → IsAsked result
+    (record {
+      page = 8192;
+      has_page = true;
+      names = false;
+      json = false;
+      formats = None;
+      keep = None;
+      parcels = false;
+      files = (0, codes "a") ∷ [];
+    })
+asked_page first result a =
+    asks (first ∷ codes "collect" ∷ codes "--page" ∷ codes "8192" ∷ codes "a" ∷ []) (page_named first)
+    (record {
+      page = 8192;
+      has_page = true;
+      names = false;
+      json = false;
+      formats = None;
+      keep = None;
+      parcels = false;
+      files = (0, codes "a") ∷ [];
+    }) result (page_accepted first) (page_says first) a
 
-formats_accepted : (first : List ℕ) → IsAccepted (first ∷ codes "collect" ∷ codes "a" ∷ codes "--formats" ∷ codes "d" ∷ codes "b" ∷ [])
+formats_accepted : (first : List ℕ)
+    → IsAccepted (first ∷ codes "collect" ∷ codes "a" ∷ codes "--formats" ∷ codes "d" ∷ codes "b" ∷ [])
 unfolding clap_on_literals
 formats_accepted first = refl
 
-formats_named : (first : List ℕ) → names_command (first ∷ codes "collect" ∷ codes "a" ∷ codes "--formats" ∷ codes "d" ∷ codes "b" ∷ []) ≡ Some (codes "collect")
+formats_named : (first : List ℕ)
+    → names_command (first ∷ codes "collect" ∷ codes "a" ∷ codes "--formats" ∷ codes "d" ∷ codes "b" ∷ [])
+    ≡ Some (codes "collect")
 unfolding clap_on_literals names_command
 formats_named first = refl
 
-formats_says : (first : List ℕ) → Says (rows_named (first ∷ codes "collect" ∷ codes "a" ∷ codes "--formats" ∷ codes "d" ∷ codes "b" ∷ [])) (record { page = 4096; has_page = false; names = true; json = false; formats = Some (codes "d"); keep = None; parcels = false; files = (0, codes "a") ∷ (1, codes "b") ∷ [] })
+formats_says : (first : List ℕ)
+    → Says (rows_named (first ∷ codes "collect" ∷ codes "a" ∷ codes "--formats" ∷ codes "d" ∷ codes "b" ∷ []))
+    (record {
+      page = 4096;
+      has_page = false;
+      names = true;
+      json = false;
+      formats = Some (codes "d");
+      keep = None;
+      parcels = false;
+      files = (0, codes "a") ∷ (1, codes "b") ∷ [];
+    })
 unfolding clap_on_literals rows_named
-formats_says first = record { page = refl; has_page = refl; files = refl; formats = refl; keep = refl; parcels = λ asks h. h.no_parcels refl; json = λ asks h. h.no_json refl; names = λ asks h. h.named_formats (let is : asks.formats ≡ Some (codes "d") = sym h.formats in ap is_some is) }
+formats_says first =
+    record {
+      page = refl;
+      has_page = refl;
+      files = refl;
+      formats = refl;
+      keep = refl;
+      parcels = λ asks h. h.no_parcels refl;
+      json = λ asks h. h.no_json refl;
+      names =
+          λ asks h. h.named_formats (let is : asks.formats ≡ Some (codes "d") = sym h.formats in ap is_some is);
+    }
 
-pub asked_formats : (first : List ℕ) (result : Result Call CallFault) → IsCallOf (first ∷ codes "collect" ∷ codes "a" ∷ codes "--formats" ∷ codes "d" ∷ codes "b" ∷ []) result → IsAsked result (record { page = 4096; has_page = false; names = true; json = false; formats = Some (codes "d"); keep = None; parcels = false; files = (0, codes "a") ∷ (1, codes "b") ∷ [] })
-asked_formats first result a = asks (first ∷ codes "collect" ∷ codes "a" ∷ codes "--formats" ∷ codes "d" ∷ codes "b" ∷ []) (formats_named first) (record { page = 4096; has_page = false; names = true; json = false; formats = Some (codes "d"); keep = None; parcels = false; files = (0, codes "a") ∷ (1, codes "b") ∷ [] }) result (formats_accepted first) (formats_says first) a
+pub asked_formats : (first : List ℕ) (result : Result Call CallFault)
+    → IsParseOf (first ∷ codes "collect" ∷ codes "a" ∷ codes "--formats" ∷ codes "d" ∷ codes "b" ∷ []) result
+    → IsAsked result
+    (record {
+      page = 4096;
+      has_page = false;
+      names = true;
+      json = false;
+      formats = Some (codes "d");
+      keep = None;
+      parcels = false;
+      files = (0, codes "a") ∷ (1, codes "b") ∷ [];
+    })
+asked_formats first result a =
+    asks (first ∷ codes "collect" ∷ codes "a" ∷ codes "--formats" ∷ codes "d" ∷ codes "b" ∷ []) (formats_named first)
+    (record {
+      page = 4096;
+      has_page = false;
+      names = true;
+      json = false;
+      formats = Some (codes "d");
+      keep = None;
+      parcels = false;
+      files = (0, codes "a") ∷ (1, codes "b") ∷ [];
+    }) result (formats_accepted first) (formats_says first) a
 
-keep_accepted : (first : List ℕ) → IsAccepted (first ∷ codes "collect" ∷ codes "--keep" ∷ codes "k" ∷ codes "--json" ∷ codes "a" ∷ [])
+keep_accepted : (first : List ℕ)
+    → IsAccepted (first ∷ codes "collect" ∷ codes "--keep" ∷ codes "k" ∷ codes "--json" ∷ codes "a" ∷ [])
 unfolding clap_on_literals
 keep_accepted first = refl
 
-keep_named : (first : List ℕ) → names_command (first ∷ codes "collect" ∷ codes "--keep" ∷ codes "k" ∷ codes "--json" ∷ codes "a" ∷ []) ≡ Some (codes "collect")
+keep_named : (first : List ℕ)
+    → names_command (first ∷ codes "collect" ∷ codes "--keep" ∷ codes "k" ∷ codes "--json" ∷ codes "a" ∷ [])
+    ≡ Some (codes "collect")
 unfolding clap_on_literals names_command
 keep_named first = refl
 
-keep_says : (first : List ℕ) → Says (rows_named (first ∷ codes "collect" ∷ codes "--keep" ∷ codes "k" ∷ codes "--json" ∷ codes "a" ∷ [])) (record { page = 4096; has_page = false; names = false; json = true; formats = None; keep = Some (codes "k"); parcels = false; files = (0, codes "a") ∷ [] })
+keep_says : (first : List ℕ)
+    → Says (rows_named (first ∷ codes "collect" ∷ codes "--keep" ∷ codes "k" ∷ codes "--json" ∷ codes "a" ∷ []))
+    (record {
+      page = 4096;
+      has_page = false;
+      names = false;
+      json = true;
+      formats = None;
+      keep = Some (codes "k");
+      parcels = false;
+      files = (0, codes "a") ∷ [];
+    })
 unfolding clap_on_literals rows_named
-keep_says first = record { page = refl; has_page = refl; files = refl; formats = refl; keep = refl; parcels = λ asks h. h.no_parcels refl; json = λ asks h. h.json refl; names = λ asks h. h.no_names refl (sym h.formats) }
+keep_says first =
+    record {
+      page = refl;
+      has_page = refl;
+      files = refl;
+      formats = refl;
+      keep = refl;
+      parcels = λ asks h. h.no_parcels refl;
+      json = λ asks h. h.json refl;
+      names = λ asks h. h.no_names refl (sym h.formats);
+    }
 
-pub asked_keep : (first : List ℕ) (result : Result Call CallFault) → IsCallOf (first ∷ codes "collect" ∷ codes "--keep" ∷ codes "k" ∷ codes "--json" ∷ codes "a" ∷ []) result → IsAsked result (record { page = 4096; has_page = false; names = false; json = true; formats = None; keep = Some (codes "k"); parcels = false; files = (0, codes "a") ∷ [] })
-asked_keep first result a = asks (first ∷ codes "collect" ∷ codes "--keep" ∷ codes "k" ∷ codes "--json" ∷ codes "a" ∷ []) (keep_named first) (record { page = 4096; has_page = false; names = false; json = true; formats = None; keep = Some (codes "k"); parcels = false; files = (0, codes "a") ∷ [] }) result (keep_accepted first) (keep_says first) a
+pub asked_keep : (first : List ℕ) (result : Result Call CallFault)
+    → IsParseOf (first ∷ codes "collect" ∷ codes "--keep" ∷ codes "k" ∷ codes "--json" ∷ codes "a" ∷ []) result
+    → IsAsked result
+    (record {
+      page = 4096;
+      has_page = false;
+      names = false;
+      json = true;
+      formats = None;
+      keep = Some (codes "k");
+      parcels = false;
+      files = (0, codes "a") ∷ [];
+    })
+asked_keep first result a =
+    asks (first ∷ codes "collect" ∷ codes "--keep" ∷ codes "k" ∷ codes "--json" ∷ codes "a" ∷ []) (keep_named first)
+    (record {
+      page = 4096;
+      has_page = false;
+      names = false;
+      json = true;
+      formats = None;
+      keep = Some (codes "k");
+      parcels = false;
+      files = (0, codes "a") ∷ [];
+    }) result (keep_accepted first) (keep_says first) a
 
 parcels_accepted : (first : List ℕ) → IsAccepted (first ∷ codes "collect" ∷ codes "--parcels" ∷ codes "a" ∷ [])
 unfolding clap_on_literals
 parcels_accepted first = refl
 
-parcels_named : (first : List ℕ) → names_command (first ∷ codes "collect" ∷ codes "--parcels" ∷ codes "a" ∷ []) ≡ Some (codes "collect")
+parcels_named : (first : List ℕ)
+    → names_command (first ∷ codes "collect" ∷ codes "--parcels" ∷ codes "a" ∷ []) ≡ Some (codes "collect")
 unfolding clap_on_literals names_command
 parcels_named first = refl
 
-parcels_says : (first : List ℕ) → Says (rows_named (first ∷ codes "collect" ∷ codes "--parcels" ∷ codes "a" ∷ [])) (record { page = 4096; has_page = false; names = false; json = false; formats = None; keep = None; parcels = true; files = (0, codes "a") ∷ [] })
+parcels_says : (first : List ℕ)
+    → Says (rows_named (first ∷ codes "collect" ∷ codes "--parcels" ∷ codes "a" ∷ []))
+    (record {
+      page = 4096;
+      has_page = false;
+      names = false;
+      json = false;
+      formats = None;
+      keep = None;
+      parcels = true;
+      files = (0, codes "a") ∷ [];
+    })
 unfolding clap_on_literals rows_named
-parcels_says first = record { page = refl; has_page = refl; files = refl; formats = refl; keep = refl; parcels = λ asks h. h.parcels refl; json = λ asks h. h.no_json refl; names = λ asks h. h.no_names refl (sym h.formats) }
+parcels_says first =
+    record {
+      page = refl;
+      has_page = refl;
+      files = refl;
+      formats = refl;
+      keep = refl;
+      parcels = λ asks h. h.parcels refl;
+      json = λ asks h. h.no_json refl;
+      names = λ asks h. h.no_names refl (sym h.formats);
+    }
 
-pub asked_parcels : (first : List ℕ) (result : Result Call CallFault) → IsCallOf (first ∷ codes "collect" ∷ codes "--parcels" ∷ codes "a" ∷ []) result → IsAsked result (record { page = 4096; has_page = false; names = false; json = false; formats = None; keep = None; parcels = true; files = (0, codes "a") ∷ [] })
-asked_parcels first result a = asks (first ∷ codes "collect" ∷ codes "--parcels" ∷ codes "a" ∷ []) (parcels_named first) (record { page = 4096; has_page = false; names = false; json = false; formats = None; keep = None; parcels = true; files = (0, codes "a") ∷ [] }) result (parcels_accepted first) (parcels_says first) a
+pub asked_parcels : (first : List ℕ) (result : Result Call CallFault)
+    → IsParseOf (first ∷ codes "collect" ∷ codes "--parcels" ∷ codes "a" ∷ []) result
+    → IsAsked result
+    (record {
+      page = 4096;
+      has_page = false;
+      names = false;
+      json = false;
+      formats = None;
+      keep = None;
+      parcels = true;
+      files = (0, codes "a") ∷ [];
+    })
+asked_parcels first result a =
+    asks (first ∷ codes "collect" ∷ codes "--parcels" ∷ codes "a" ∷ []) (parcels_named first)
+    (record {
+      page = 4096;
+      has_page = false;
+      names = false;
+      json = false;
+      formats = None;
+      keep = None;
+      parcels = true;
+      files = (0, codes "a") ∷ [];
+    }) result (parcels_accepted first) (parcels_says first) a
 
 high_named : (first : List ℕ) → names_command (first ∷ codes "collect" ∷ codes "256=a" ∷ []) ≡ Some (codes "collect")
 unfolding clap_on_literals names_command
@@ -183,21 +511,30 @@ high_unread : (first : List ℕ) → AreUnread (rows_named (first ∷ codes "col
 unfolding clap_on_literals rows_named
 high_unread first = inr refl
 
-pub refused_high : (first : List ℕ) (result : Result Call CallFault) → IsCallOf (first ∷ codes "collect" ∷ codes "256=a" ∷ []) result → (result ≡ Err Usage) ⊎ (result ≡ Err NoMemory)
-refused_high first result a = unreadable (first ∷ codes "collect" ∷ codes "256=a" ∷ []) (high_named first) result (high_unread first) a
+pub refused_high : (first : List ℕ) (result : Result Call CallFault)
+    → IsParseOf (first ∷ codes "collect" ∷ codes "256=a" ∷ []) result → (result ≡ Err Usage) ⊎ (result ≡ Err NoMemory)
+refused_high first result a =
+    unreadable (first ∷ codes "collect" ∷ codes "256=a" ∷ []) (high_named first) result (high_unread first) a
 
-small_named : (first : List ℕ) → names_command (first ∷ codes "collect" ∷ codes "--page" ∷ codes "47" ∷ codes "a" ∷ []) ≡ Some (codes "collect")
+small_named : (first : List ℕ)
+    → names_command (first ∷ codes "collect" ∷ codes "--page" ∷ codes "47" ∷ codes "a" ∷ []) ≡ Some (codes "collect")
 unfolding clap_on_literals names_command
 small_named first = refl
 
-small_unread : (first : List ℕ) → AreUnread (rows_named (first ∷ codes "collect" ∷ codes "--page" ∷ codes "47" ∷ codes "a" ∷ []))
+small_unread : (first : List ℕ)
+    → AreUnread (rows_named (first ∷ codes "collect" ∷ codes "--page" ∷ codes "47" ∷ codes "a" ∷ []))
 unfolding clap_on_literals rows_named
 small_unread first = inl refl
 
-pub refused_small : (first : List ℕ) (result : Result Call CallFault) → IsCallOf (first ∷ codes "collect" ∷ codes "--page" ∷ codes "47" ∷ codes "a" ∷ []) result → (result ≡ Err Usage) ⊎ (result ≡ Err NoMemory)
-refused_small first result a = unreadable (first ∷ codes "collect" ∷ codes "--page" ∷ codes "47" ∷ codes "a" ∷ []) (small_named first) result (small_unread first) a
+pub refused_small : (first : List ℕ) (result : Result Call CallFault)
+    → IsParseOf (first ∷ codes "collect" ∷ codes "--page" ∷ codes "47" ∷ codes "a" ∷ []) result
+    → (result ≡ Err Usage) ⊎ (result ≡ Err NoMemory)
+refused_small first result a =
+    unreadable (first ∷ codes "collect" ∷ codes "--page" ∷ codes "47" ∷ codes "a" ∷ []) (small_named first) result
+    (small_unread first) a
 
-inputs_named : (first : List ℕ) → names_command (first ∷ codes "collect" ∷ codes "-" ∷ codes "3=-" ∷ []) ≡ Some (codes "collect")
+inputs_named : (first : List ℕ)
+    → names_command (first ∷ codes "collect" ∷ codes "-" ∷ codes "3=-" ∷ []) ≡ Some (codes "collect")
 unfolding clap_on_literals names_command
 inputs_named first = refl
 
@@ -205,14 +542,19 @@ inputs_unread : (first : List ℕ) → AreUnread (rows_named (first ∷ codes "c
 unfolding clap_on_literals rows_named
 inputs_unread first = inr refl
 
-pub refused_inputs : (first : List ℕ) (result : Result Call CallFault) → IsCallOf (first ∷ codes "collect" ∷ codes "-" ∷ codes "3=-" ∷ []) result → (result ≡ Err Usage) ⊎ (result ≡ Err NoMemory)
-refused_inputs first result a = unreadable (first ∷ codes "collect" ∷ codes "-" ∷ codes "3=-" ∷ []) (inputs_named first) result (inputs_unread first) a
+pub refused_inputs : (first : List ℕ) (result : Result Call CallFault)
+    → IsParseOf (first ∷ codes "collect" ∷ codes "-" ∷ codes "3=-" ∷ []) result
+    → (result ≡ Err Usage) ⊎ (result ≡ Err NoMemory)
+refused_inputs first result a =
+    unreadable (first ∷ codes "collect" ∷ codes "-" ∷ codes "3=-" ∷ []) (inputs_named first) result
+    (inputs_unread first) a
 
 none_refused : (first : List ℕ) → IsAccepted (first ∷ codes "collect" ∷ []) → ⊥
 unfolding clap_on_literals
 none_refused first accepted = cc
 
-pub refused_none : (first : List ℕ) (result : Result Call CallFault) → IsCallOf (first ∷ codes "collect" ∷ []) result → (result ≡ Err Usage) ⊎ (result ≡ Err NoMemory)
+pub refused_none : (first : List ℕ) (result : Result Call CallFault) → IsParseOf (first ∷ codes "collect" ∷ []) result
+    → (result ≡ Err Usage) ⊎ (result ≡ Err NoMemory)
 refused_none first (Ok call) a = absurd (none_refused first (a.accepted call refl))
 refused_none first (Err Usage) a = inl refl
 refused_none first (Err NoMemory) a = inr refl

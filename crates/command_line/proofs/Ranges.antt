@@ -1,5 +1,6 @@
 -- What `collect` is asked for is in range.
-use Rattle.std.proofs.Common.{◌≡◌, ℕ, suc, ◌+◌, ◌-◌, ◌<◌, ◌≤◌, Bool, true, false, if◌then◌else◌, List, [], ◌∷◌, length, codes, drop, map, take, All, Option, None, Some, refl, ap, subst, arith}
+use Rattle.std.proofs.Common.{◌≡◌, ℕ, suc, ◌+◌, ◌-◌, ◌<◌, ◌≤◌, Bool, true, false, if◌then◌else◌, List, [], ◌∷◌, length}
+use Rattle.std.proofs.Common.{codes, drop, map, take, All, Option, None, Some, refl, ap, subst, arith}
 use Rattle.std.specs.Prelude.{option_and_then, option_map}
 use Rattle.std.proofs.lemmas.List.{get_or-map, length-map}
 use Rattle.std.proofs.lemmas.List.Elements.{All-nil, All-cons}
@@ -7,7 +8,8 @@ use Rattle.std.proofs.lemmas.Bool.Decides.{nat_tests}
 use Rattle.std.specs.List.{position as first_place}
 use Rattle.clap.specs.Words.{Row, all_of, first_of}
 use Rattle.command_line.specs.Calls.{AsksFor, IsInRange, asked_of, file_seen}
-use Rattle.command_line.specs.FileWords.{file_list, file_split, file_word, file_words, is_equals, is_number, number_in, page_word, with_one_input}
+use Rattle.command_line.specs.FileWords.{file_list, file_split, file_word, file_words, is_equals, is_number, number_in}
+use Rattle.command_line.specs.FileWords.{page_word, with_one_input}
 use Rattle.command_line.specs.declared.call.CollectCall.{CollectCall}
 use Rattle.command_line.specs.declared.call.CpuFile.{CpuFile}
 use Rattle.command_line.specs.declared.words.TheConstants.{MIN_PAGE, MAX_PAGE}
@@ -20,13 +22,17 @@ page_bounds : (word : Option (List ℕ)) (n : ℕ) → page_word word ≡ Some n
 page_bounds None n is = grind (arith, nat_tests)
 page_bounds (Some text) n is = number_bounds MIN_PAGE MAX_PAGE text n is
 
-split_bound : (position : ℕ) (word : List ℕ) (at : Option ℕ) (file : ℕ × List ℕ) → file_split position word at ≡ Some file
+split_bound : (position : ℕ) (word : List ℕ) (at : Option ℕ) (file : ℕ × List ℕ)
+    → file_split position word at ≡ Some file
     → position < MAX_CPUS → file.0 < MAX_CPUS
 split_bound position word None file is low = subst (λ f. f.0 < MAX_CPUS) (let e : (position, word) ≡ file = cc in e) low
-split_bound position word (Some at) file is low = by_digits (is_number (take at word)) (number_in 0 (MAX_CPUS - 1) (take at word)) (λ n. number_bounds 0 (MAX_CPUS - 1) (take at word) n) is
+split_bound position word (Some at) file is low =
+    by_digits (is_number (take at word)) (number_in 0 (MAX_CPUS - 1) (take at word))
+    (λ n. number_bounds 0 (MAX_CPUS - 1) (take at word) n) is
   where
     by_digits : (digits : Bool) (cpu : Option ℕ) → ((n : ℕ) → cpu ≡ Some n → (0 ≤ n) × (n ≤ MAX_CPUS - 1))
-        → (if digits then option_map (λ cpu. (cpu, drop (at + 1) word)) cpu else Some (position, word)) ≡ Some file → file.0 < MAX_CPUS
+        → (if digits then option_map (λ cpu. (cpu, drop (at + 1) word)) cpu else Some (position, word)) ≡ Some file
+        → file.0 < MAX_CPUS
     by_digits false cpu bounds is = subst (λ f. f.0 < MAX_CPUS) (let e : (position, word) ≡ file = cc in e) low
     by_digits true None bounds is = absurd (cc)
     by_digits true (Some n) bounds is =
@@ -37,7 +43,8 @@ split_bound position word (Some at) file is low = by_digits (is_number (take at 
 abbrev in_cpus : ℕ × List ℕ → Type 0
 in_cpus file = file.0 < MAX_CPUS
 
-words_bound : (position : ℕ) (words : List (List ℕ)) (files : List (ℕ × List ℕ)) → file_words position words ≡ Some files
+words_bound : (position : ℕ) (words : List (List ℕ)) (files : List (ℕ × List ℕ))
+    → file_words position words ≡ Some files
     → position + length words ≤ MAX_CPUS → (length files ≡ length words) × All (λ file. file.0 < MAX_CPUS) files
 words_bound position [] files is low =
     let e : [] ≡ files = cc in
@@ -49,7 +56,8 @@ words_bound position (word ∷ words) files is low =
   where
     with_first : (first : Option (ℕ × List ℕ)) (rest : Option (List (ℕ × List ℕ)))
         → ((file : ℕ × List ℕ) → first ≡ Some file → file.0 < MAX_CPUS)
-        → ((more : List (ℕ × List ℕ)) → rest ≡ Some more → (length more ≡ length words) × All (λ file. file.0 < MAX_CPUS) more)
+        → ((more : List (ℕ × List ℕ)) → rest ≡ Some more
+        → (length more ≡ length words) × All (λ file. file.0 < MAX_CPUS) more)
         → option_and_then (λ file. option_map (λ files. file ∷ files) rest) first ≡ Some files
         → (length files ≡ suc (length words)) × All (λ file. file.0 < MAX_CPUS) files
     with_first None rest one all is = absurd (cc)
@@ -57,9 +65,11 @@ words_bound position (word ∷ words) files is low =
     with_first (Some file) (Some more) one all is =
         let e : file ∷ more ≡ files = cc in
         let others = all more refl in
-        subst (λ fs. (length fs ≡ suc (length words)) × All (λ file. file.0 < MAX_CPUS) fs) e (ap suc others.0, All-cons in_cpus file more (one file refl) others.1)
+        subst (λ fs. (length fs ≡ suc (length words)) × All (λ file. file.0 < MAX_CPUS) fs) e
+        (ap suc others.0, All-cons in_cpus file more (one file refl) others.1)
 
-one_input_same : (read : Option (List (ℕ × List ℕ))) (files : List (ℕ × List ℕ)) → option_and_then with_one_input read ≡ Some files
+one_input_same : (read : Option (List (ℕ × List ℕ))) (files : List (ℕ × List ℕ))
+    → option_and_then with_one_input read ≡ Some files
     → read ≡ Some files
 one_input_same None files is = absurd (cc)
 one_input_same (Some read) files is = grind (arith, nat_tests)
@@ -67,21 +77,31 @@ one_input_same (Some read) files is = grind (arith, nat_tests)
 list_bound : (words : List (List ℕ)) (files : List (ℕ × List ℕ)) → file_list words ≡ Some files
     → (0 < length files) × All (λ file. file.0 < MAX_CPUS) files
 list_bound words files is =
-    let counted : (0 < length words) × ((length words ≤ MAX_CPUS) × (option_and_then with_one_input (file_words 0 words) ≡ Some files)) = grind (arith, nat_tests) in
-    let bound = words_bound 0 words files (one_input_same (file_words 0 words) files counted.1.1) (omega (arith, counted)) in
+    let counted : (0 < length words)
+    × ((length words ≤ MAX_CPUS) × (option_and_then with_one_input (file_words 0 words) ≡ Some files)) =
+    grind (arith, nat_tests) in
+    let bound =
+    words_bound 0 words files (one_input_same (file_words 0 words) files counted.1.1) (omega (arith, counted)) in
     (rw bound.0 counted.0, bound.1)
 
-listed_bound : (words : Option (List (List ℕ))) (files : List (ℕ × List ℕ)) → option_and_then file_list words ≡ Some files
+listed_bound : (words : Option (List (List ℕ))) (files : List (ℕ × List ℕ))
+    → option_and_then file_list words ≡ Some files
     → (0 < length files) × All in_cpus files
 listed_bound None files is = absurd (cc)
 listed_bound (Some words) files is = list_bound words files is
 
 seen_bound : (files : List CpuFile) → All in_cpus (map file_seen files) → All (λ file. file.cpu.0 < MAX_CPUS) files
 seen_bound files all k d inside =
-    subst in_cpus (get_or-map file_seen files k d (file_seen d) inside) (all k (file_seen d) (omega (arith, inside, length-map files file_seen)))
+    subst in_cpus (get_or-map file_seen files k d (file_seen d) inside)
+    (all k (file_seen d) (omega (arith, inside, length-map files file_seen)))
 
 pub asked_in_range : (rows : List Row) (call : CollectCall) → AsksFor rows (asked_of call) → IsInRange call
 asked_in_range rows call asks =
     let page = page_bounds (first_of (codes "page") rows) call.page asks.page in
     let files = listed_bound (all_of (codes "file") rows) (map file_seen call.files.items) asks.files in
-    record { smallest = page.0; largest = page.1; some = omega (arith, files.0, length-map call.files.items file_seen); cpus = seen_bound call.files.items files.1 }
+    record {
+      smallest = page.0;
+      largest = page.1;
+      some = omega (arith, files.0, length-map call.files.items file_seen);
+      cpus = seen_bound call.files.items files.1;
+    }

@@ -1,10 +1,11 @@
 -- What the commands `collect` and `recover` are asked for, and what the matches of their words say of that.
-use Rattle.std.specs.Prelude.{◌≡◌, ◌≤◌, ◌<◌, ◌⊎◌, ℕ, All, Bool, true, false, List, Option, None, Some, Result, Ok, Err, codes, is_some, length, map, option_and_then, option_map, ⊤}
+use Rattle.std.specs.Prelude.{◌≡◌, ◌≤◌, ◌<◌, ◌⊎◌, ℕ, All, Bool, true, false, List, Option, None, Some, Result, Ok, Err}
+use Rattle.std.specs.Prelude.{codes, is_some, length, map, option_and_then, option_map, ⊤}
 use Rattle.trace_model.specs.declared.limits.TheConstants.{MAX_CPUS}
 use Rattle.clap.specs.Words.{Row, Text, all_of, first_of, one_of}
 use Rattle.command_line.specs.FileWords.{file_list, page_word, path_list}
 use Rattle.command_line.specs.declared.call.Call.{Call}
-use Rattle.command_line.specs.declared.call.Call.TheVariants.{Replay, Run, Steps, Dump, Collect, Recover}
+use Rattle.command_line.specs.declared.call.Call.TheVariants.{Replay, Run, Steps, Dump, Collect, Recover, Version}
 use Rattle.command_line.specs.declared.call.CallFault.{CallFault}
 use Rattle.command_line.specs.declared.call.CallFault.TheVariants.{Usage, NoMemory}
 use Rattle.command_line.specs.declared.call.CollectCall.{CollectCall}
@@ -83,6 +84,7 @@ IsAsked (Ok Run) asked = ⊥
 IsAsked (Ok Steps) asked = ⊥
 IsAsked (Ok Dump) asked = ⊥
 IsAsked (Ok (Recover call)) asked = ⊥
+IsAsked (Ok Version) asked = ⊥
 IsAsked (Err Usage) asked = ⊥
 IsAsked (Err NoMemory) asked = ⊤
 
@@ -121,5 +123,6 @@ IsAskedToRecover (Ok (Replay log)) asked = ⊥
 IsAskedToRecover (Ok Run) asked = ⊥
 IsAskedToRecover (Ok Steps) asked = ⊥
 IsAskedToRecover (Ok Dump) asked = ⊥
+IsAskedToRecover (Ok Version) asked = ⊥
 IsAskedToRecover (Err Usage) asked = ⊥
 IsAskedToRecover (Err NoMemory) asked = ⊤

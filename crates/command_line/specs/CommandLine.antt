@@ -1,11 +1,13 @@
 -- The program's command line as `clap` parses it.
-use Rattle.std.specs.Prelude.{◌≡◌, ◌≢◌, List, [], Option, None, Some, Result, Ok, Err, true, false, codes, option_and_then, option_map, ⊤}
-use Rattle.clap.specs.Words.{App, Row, Rule, Text, fault_of, new_app, new_rule, one_of, subcommand_of, with_rule, with_subcommand}
+use Rattle.std.specs.Prelude.{◌≡◌, ◌≢◌, Bool, List, [], ◌∷◌, Option, None, Some, Result, Ok, Err, true, false, codes}
+use Rattle.std.specs.Prelude.{bytes_eq, option_and_then, option_map, ⊤}
+use Rattle.clap.specs.Words.{App, Row, Rule, Text, fault_of, new_app, new_rule, one_of, subcommand_of, with_rule}
+use Rattle.clap.specs.Words.{with_subcommand}
 use Rattle.clap.specs.declared.builder.action.ArgAction.TheVariants.{Append, Set, SetTrue}
 use Rattle.clap.specs.declared.error.ErrorKind.{ErrorKind}
 use Rattle.clap.specs.declared.error.ErrorKind.TheVariants.{OutOfMemory}
 use Rattle.command_line.specs.declared.call.Call.{Call}
-use Rattle.command_line.specs.declared.call.Call.TheVariants.{Replay, Run, Steps, Dump, Collect, Recover}
+use Rattle.command_line.specs.declared.call.Call.TheVariants.{Replay, Run, Steps, Dump, Collect, Recover, Version}
 use Rattle.command_line.specs.Calls.{AreUnread, AsksFor, AsksToRecover, asked_of, recovering_of, regions_matched}
 use Rattle.command_line.specs.declared.call.CollectCall.{CollectCall}
 use Rattle.command_line.specs.declared.call.RecoverCall.{RecoverCall}
@@ -91,7 +93,7 @@ rows_found (Some found) = found.1
 unfoldable pub rows_named : List Text → List Row
 rows_named words = rows_found (subcommand_of command_line words)
 
--- the name of the command that is asked for
+-- the word by which a call is asked for
 abbrev pub name_of : Call → Text
 name_of (Replay log) = codes "replay"
 name_of Run = codes "run"
@@ -99,17 +101,21 @@ name_of Steps = codes "steps"
 name_of Dump = codes "dump"
 name_of (Collect call) = codes "collect"
 name_of (Recover call) = codes "recover"
+name_of Version = codes "--version"
 
--- the command that is called reads one source; `collect` and `recover` have files of their own
+-- the command that is called reads one source; `collect` and `recover` have files of their own, and the version is
+-- printed without any
 abbrev pub HasSource : Call → Type 0
 HasSource (Collect call) = ⊥
 HasSource (Recover call) = ⊥
+HasSource Version = ⊥
 HasSource _ = ⊤
 
--- What the program makes of its words: the command and what else the parse finds, if it accepts the words; if it
--- doesn't, or finds no command, or what it finds for `collect` or `recover` can't be read, the usage line. Memory is
--- refused at any of them.
-pub record IsCallOf (words : List Text) (result : Result Call CallFault) : Type 0 where
+-- What the parse makes of the words: the command and what else it finds, if it accepts the words; if it doesn't, or
+-- finds no command, or what it finds for `collect` or `recover` can't be read, the usage line. Memory is refused at any
+-- of them.
+pub record IsParseOf (words : List Text) (result : Result Call CallFault) : Type 0 where
+  pub no_version : result ≢ Ok Version
   pub accepted : (call : Call) → result ≡ Ok call → IsAccepted words
   pub named : (call : Call) → result ≡ Ok call → names_command words ≡ Some (name_of call)
   pub log : log_text words ≡ Some (codes "true") → result ≢ Ok (Replay false)
@@ -125,6 +131,19 @@ pub record IsCallOf (words : List Text) (result : Result Call CallFault) : Type 
       → AsksToRecover (rows_named words) (recovering_of call)
   pub no_recover : result ≡ Err Usage → IsAccepted words → names_command words ≡ Some (codes "recover")
       → regions_matched (rows_named words) ≡ None
+
+-- whether the words ask for the version: one word follows the program's name, and it is `--version`
+abbrev pub is_version : List Text → Bool
+is_version (first ∷ word ∷ []) = bytes_eq word (codes "--version")
+is_version [] = false
+is_version (first ∷ []) = false
+is_version (first ∷ word ∷ other ∷ words) = false
+
+-- What the program makes of its words: the version, for which no memory is needed, if they ask for it; and else what
+-- the parse makes of them.
+pub record IsCallOf (words : List Text) (result : Result Call CallFault) : Type 0 where
+  pub version : is_version words ≡ true → result ≡ Ok Version
+  pub parsed : is_version words ≡ false → IsParseOf words result
 
 -- the parse fails because memory was refused, or at the words
 abbrev pub fault_of_kind : ErrorKind → CallFault

@@ -1,5 +1,6 @@
 -- How the words of `collect` and `recover` are read.
-use Rattle.std.specs.Prelude.{◌≡◌, ℕ, ◌-◌, ◌==◌, ◌&&◌, Bool, false, List, [], ◌∷◌, Option, Some, None, length, nat_lt, nat_le, if◌then◌else◌, option_map, option_and_then, ◌+◌, take, drop}
+use Rattle.std.specs.Prelude.{◌≡◌, ℕ, ◌-◌, ◌==◌, ◌&&◌, Bool, false, List, [], ◌∷◌, Option, Some, None, length, nat_lt}
+use Rattle.std.specs.Prelude.{nat_le, if◌then◌else◌, option_map, option_and_then, ◌+◌, take, drop}
 use Rattle.std.specs.Char.{is_ascii_digit}
 use Rattle.std.specs.List.{list_all, position as first_place}
 use Rattle.std.specs.Str.Parse.{digits_value}

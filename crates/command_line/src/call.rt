@@ -65,6 +65,8 @@ pub enum Call<'a> {
     Collect(CollectCall<'a>),
     /// `tracering recover`.
     Recover(RecoverCall<'a>),
+    /// `tracering --version`.
+    Version,
 }
 
 /// Why the command line asks for nothing.

@@ -4,7 +4,7 @@ ghost use Rattle.clap.specs.declared.builder.command.Command.TheViews.{out-Comma
 ghost use Rattle.clap.specs.Words.{HasMatchesOf, Text, app_of, subcommand_name_of, subcommand_rows_of, with_rule};
 ghost use Rattle.command_line.specs.Calls.{IsAsked, IsAskedToRecover, IsInRange};
 ghost use Rattle.command_line.specs.declared.call.CollectCall.{CollectCall};
-ghost use Rattle.command_line.specs.CommandLine.{HasSource, IsAccepted, IsCallOf, collect_commands, collect_options, command_line, flag_rule, flag_text, image_commands, name_of, option_rule, recover_command, script_commands, values_rule};
+ghost use Rattle.command_line.specs.CommandLine.{HasSource, IsAccepted, IsCallOf, IsParseOf, collect_commands, collect_options, command_line, flag_rule, flag_text, image_commands, is_version, name_of, option_rule, recover_command, script_commands, values_rule};
 
 use crate::call::{Call, CallFault};
 use crate::collect::collect_call;
@@ -146,7 +146,7 @@ fn call_of_matches<'a>(matches: &ArgMatches<'a>) -> Option<Call<'a>>
 /// The call that these matches make, if they make one other than `collect`.
 fn other_call<'a>(alloc: Global, matches: &ArgMatches<'a>) -> Result<Call<'a>, CallFault>
     ensures { (words : List Text) → HasMatchesOf command_line words matches.now → IsAccepted words
-        → subcommand_name_of matches.now ≢ Some (codes "collect") → IsCallOf words result }
+        → subcommand_name_of matches.now ≢ Some (codes "collect") → IsParseOf words result }
 {
     match matches.subcommand_matches("recover") {
         Some(found) => match recover_call(alloc, found) {
@@ -159,7 +159,7 @@ fn other_call<'a>(alloc: Global, matches: &ArgMatches<'a>) -> Result<Call<'a>, C
 
 /// The parse of the words.
 fn parse_words<'a, S: AsStr>(alloc: Global, words: &'a [S]) -> Result<Call<'a>, CallFault>
-    ensures { IsCallOf (map S.text words.now) result }
+    ensures { IsParseOf (map S.text words.now) result }
 {
     let matches = program(alloc)?.try_get_matches_from(words)?;
     match matches.subcommand_matches("collect") {
@@ -171,9 +171,29 @@ fn parse_words<'a, S: AsStr>(alloc: Global, words: &'a [S]) -> Result<Call<'a>, 
     }
 }
 
+/// Whether the words ask for the version: one follows the program's name, and it is `--version`.
+fn asks_for_version<S: AsStr>(words: &[S]) -> bool
+    ensures { result ≡ is_version (map S.text words.now) }
+{
+    match words {
+        [_, word] => word.as_str() == "--version",
+        _ => false,
+    }
+}
+
+/// The call that the words make: that for the version, or else what their parse finds.
+fn read_words<'a, S: AsStr>(alloc: Global, words: &'a [S]) -> Result<Call<'a>, CallFault>
+    ensures { IsCallOf (map S.text words.now) result }
+{
+    if asks_for_version(words) {
+        return Ok(Call::Version);
+    }
+    parse_words(alloc, words)
+}
+
 /// What these words ask for. The first is the program's own name, whatever it is.
 pub fn call_of<'a, S: AsStr>(alloc: Global, words: &'a [S]) -> Result<Call<'a>, CallFault>
-    // Except that memory may be refused, it is what the parse of the words finds.
+    // Except that memory may be refused, it is the version, or what the parse of the words finds.
     ensures call { IsCallOf (map S.text words.now) result }
     ensures in_range { (asked : CollectCall) → result ≡ Ok (Call.Collect asked) → IsInRange asked }
 
@@ -196,8 +216,8 @@ pub fn call_of<'a, S: AsStr>(alloc: Global, words: &'a [S]) -> Result<Call<'a>, 
         → map S.text words.now ≡ first ∷ codes "dump" ∷ codes "--log" ∷ []
         → (result ≡ Err CallFault.Usage) ⊎ (result ≡ Err CallFault.NoMemory) }
 
-    // Or of `collect`, with files alone, a CPU and standard input, flags, a size of a page, formats, and a file for what
-    // is new.
+    // Or of `collect`, with files alone, a CPU and standard input, flags, a size of a page, formats, and a file for
+    // what is new.
     ensures collect { (first : List ℕ)
         → map S.text words.now ≡ first ∷ codes "collect" ∷ codes "a" ∷ codes "b" ∷ []
         → IsAsked result (record {
@@ -322,6 +342,16 @@ pub fn call_of<'a, S: AsStr>(alloc: Global, words: &'a [S]) -> Result<Call<'a>, 
     ensures recover_page { (first : List ℕ)
         → map S.text words.now ≡ first ∷ codes "recover" ∷ codes "--page" ∷ codes "64" ∷ codes "a" ∷ []
         → (result ≡ Err CallFault.Usage) ⊎ (result ≡ Err CallFault.NoMemory) }
+
+    // Or of the version alone, which no other word may follow or precede.
+    ensures version { (first : List ℕ) → map S.text words.now ≡ first ∷ codes "--version" ∷ []
+        → result ≡ Ok Call.Version }
+    ensures version_and_more { (first : List ℕ)
+        → map S.text words.now ≡ first ∷ codes "--version" ∷ codes "replay" ∷ []
+        → (result ≡ Err CallFault.Usage) ⊎ (result ≡ Err CallFault.NoMemory) }
+    ensures replay_version { (first : List ℕ)
+        → map S.text words.now ≡ first ∷ codes "replay" ∷ codes "--version" ∷ []
+        → (result ≡ Err CallFault.Usage) ⊎ (result ≡ Err CallFault.NoMemory) }
 {
-    parse_words(alloc, words)
+    read_words(alloc, words)
 }

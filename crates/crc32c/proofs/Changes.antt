@@ -1,10 +1,13 @@
 -- Which changes the sum shows: the highest bit of the polynomial is 1, so that no bit that goes out is lost.
-use Rattle.std.proofs.Common.{◌≡◌, ◌≢◌, ℕ, zero, suc, ◌+◌, ◌*◌, ◌/◌, ◌%◌, ◌^◌, ◌<◌, ◌≤◌, ◌-◌, inl, inr, List, [], ◌∷◌, ◌++◌, length, get_or, take, drop, set, refl, sym, ap, ap₂, ◌∙◌, zero-mul, lt_of_lt_of_le, arith}
+use Rattle.std.proofs.Common.{◌≡◌, ◌≢◌, ℕ, zero, suc, ◌+◌, ◌*◌, ◌/◌, ◌%◌, ◌^◌, ◌<◌, ◌≤◌, ◌-◌, inl, inr, List, [], ◌∷◌}
+use Rattle.std.proofs.Common.{◌++◌, length, get_or, take, drop, set, refl, sym, ap, ap₂, ◌∙◌, zero-mul, lt_of_lt_of_le}
+use Rattle.std.proofs.Common.{arith}
 use Rattle.std.specs.Int.Bits.{bit_xor, xor_self, xor_zero_r}
 use Rattle.std.proofs.lemmas.Nat.{xor_lt, pow-add}
 use Rattle.std.proofs.lemmas.Bool.{cases_eq, cases_lt}
 use Rattle.std.proofs.lemmas.Grind.{same_number_lists}
-use Rattle.std.proofs.lemmas.List.{take-append-drop, take-set, drop-set-lt, length-set, get_or_past, get_or-set_same, get_or-set_other}
+use Rattle.std.proofs.lemmas.List.{take-append-drop, take-set, drop-set-lt, length-set, get_or_past, get_or-set_same}
+use Rattle.std.proofs.lemmas.List.{get_or-set_other}
 use Rattle.std.proofs.Math.Seq.{drop-cons}
 use Rattle.std.proofs.Math.Nat.{pow-le-pow_right}
 use Rattle.crc32c.specs.Castagnoli.{polynomial, all_ones, next_bit, next_bits, next_byte, remainder_after, crc32c}

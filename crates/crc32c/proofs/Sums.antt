@@ -1,8 +1,10 @@
 -- What holds of sums: pieces that are summed in turn, and how large a sum is.
-use Rattle.std.proofs.Common.{◌≡◌, ℕ, zero, suc, ◌*◌, ◌/◌, ◌%◌, ◌^◌, ◌<◌, List, [], ◌∷◌, ◌++◌, refl, sym, ap, ◌∙◌, subst, arith}
+use Rattle.std.proofs.Common.{◌≡◌, ℕ, zero, suc, ◌*◌, ◌/◌, ◌%◌, ◌^◌, ◌<◌, List, [], ◌∷◌, ◌++◌, refl, sym, ap, ◌∙◌}
+use Rattle.std.proofs.Common.{subst, arith}
 use Rattle.std.specs.Int.Bits.{bit_xor, xor_assoc, xor_self, xor_zero_r}
 use Rattle.std.proofs.lemmas.Nat.{xor_lt}
-use Rattle.crc32c.specs.Castagnoli.{polynomial, all_ones, next_bit, next_bits, next_byte, remainder_after, crc32c, crc32c_after}
+use Rattle.crc32c.specs.Castagnoli.{polynomial, all_ones, next_bit, next_bits, next_byte, remainder_after, crc32c}
+use Rattle.crc32c.specs.Castagnoli.{crc32c_after}
 use Rattle.crc32c.specs.Changes.{AreBytes}
 use Rattle.crc32c.proofs.Bits.{next_bit-sum}
 use Rattle.crc32c.proofs.Bytes.{AreBytes-tail, remainder_after-append}

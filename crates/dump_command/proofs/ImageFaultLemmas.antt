@@ -15,29 +15,45 @@ use Rattle.dump_command.specs.Dumps.{PrintsImageFault}
 use Rattle.dump_command.specs.ImageFaults.{reader_fault_text, word_fault_text}
 
 -- a name and an offset that were put are the text of the cause of this name
-placed_text : (cause : Cause) (at : ℕ) (name old new : List ℕ) → cause_text cause ≡ name → new ≡ old ++ (name ++ codes " at " ++ decimal at) → new ≡ old ++ image_fault_text (bad_word cause at)
-placed_text cause at name old new is put = subst (λ (n : List ℕ). new ≡ old ++ (n ++ codes " at " ++ decimal at)) (sym is) put
+placed_text : (cause : Cause) (at : ℕ) (name old new : List ℕ) → cause_text cause ≡ name
+    → new ≡ old ++ (name ++ codes " at " ++ decimal at) → new ≡ old ++ image_fault_text (bad_word cause at)
+placed_text cause at name old new is put =
+    subst (λ (n : List ℕ). new ≡ old ++ (n ++ codes " at " ++ decimal at)) (sym is) put
 
 -- the text of a time that overflows
-pub overflow_text : (fault : WordFault) (at : ℕ) (name old new : List ℕ) → fault ≡ TimeOverflow at → cause_text time_overflow ≡ name → new ≡ old ++ (name ++ codes " at " ++ decimal at) → new ≡ old ++ word_fault_text fault
-overflow_text fault at name old new is named put = subst (λ (f : WordFault). new ≡ old ++ word_fault_text f) (sym is) (placed_text time_overflow at name old new named put)
+pub overflow_text : (fault : WordFault) (at : ℕ) (name old new : List ℕ) → fault ≡ TimeOverflow at
+    → cause_text time_overflow ≡ name → new ≡ old ++ (name ++ codes " at " ++ decimal at)
+    → new ≡ old ++ word_fault_text fault
+overflow_text fault at name old new is named put =
+    subst (λ (f : WordFault). new ≡ old ++ word_fault_text f) (sym is)
+    (placed_text time_overflow at name old new named put)
 
 -- what the reading of an image says of its first fault
 pub record SaysFirst (text : List ℕ) (r : Result Image ImageFault) : Type 0 where
   pub short : (r ≡ Err TooShort) ↔ FirstImageFault text too_short
   pub size : (r ≡ Err BadSize) ↔ FirstImageFault text bad_size
   pub count : (r ≡ Err BadCount) ↔ FirstImageFault text bad_count
-  pub word : (cause : Cause) (at : ℕ) → (r ≡ Err (Word (word_fault cause at))) ↔ FirstImageFault text (bad_word cause at)
+  pub word : (cause : Cause) (at : ℕ)
+      → (r ≡ Err (Word (word_fault cause at))) ↔ FirstImageFault text (bad_word cause at)
 
-printed_first : (text : List ℕ) (cause : ImageCause) (line : List ℕ) → FirstImageFault text cause → line ≡ printed_image_fault cause → PrintsImageFault text line REFUSED
+printed_first : (text : List ℕ) (cause : ImageCause) (line : List ℕ) → FirstImageFault text cause
+    → line ≡ printed_image_fault cause → PrintsImageFault text line REFUSED
 printed_first text cause line first printed = record { cause = cause; first = first; printed = printed; refused = refl }
 
 -- every fault but refused memory is the first one, and its line is printed
-pub first_fault_is_printed : (text : List ℕ) (r : Result Image ImageFault) (fault : ImageFault) (line : List ℕ) → SaysFirst text r → r ≡ Err fault → fault ≢ NoMemory → line ≡ codes "image: " ++ reader_fault_text fault ++ 10 ∷ [] → PrintsImageFault text line REFUSED
-first_fault_is_printed text r TooShort line says is other printed = printed_first text too_short line (says.short.0 is) printed
-first_fault_is_printed text r BadSize line says is other printed = printed_first text bad_size line (says.size.0 is) printed
-first_fault_is_printed text r BadCount line says is other printed = printed_first text bad_count line (says.count.0 is) printed
-first_fault_is_printed text r (Word (Cut at)) line says is other printed = printed_first text (bad_word cut at) line ((says.word cut at).0 is) printed
-first_fault_is_printed text r (Word (BadLength at)) line says is other printed = printed_first text (bad_word bad_length at) line ((says.word bad_length at).0 is) printed
-first_fault_is_printed text r (Word (TimeOverflow at)) line says is other printed = printed_first text (bad_word time_overflow at) line ((says.word time_overflow at).0 is) printed
+pub first_fault_is_printed : (text : List ℕ) (r : Result Image ImageFault) (fault : ImageFault) (line : List ℕ)
+    → SaysFirst text r → r ≡ Err fault → fault ≢ NoMemory → line ≡ codes "image: " ++ reader_fault_text fault ++ 10 ∷ []
+    → PrintsImageFault text line REFUSED
+first_fault_is_printed text r TooShort line says is other printed =
+    printed_first text too_short line (says.short.0 is) printed
+first_fault_is_printed text r BadSize line says is other printed =
+    printed_first text bad_size line (says.size.0 is) printed
+first_fault_is_printed text r BadCount line says is other printed =
+    printed_first text bad_count line (says.count.0 is) printed
+first_fault_is_printed text r (Word (Cut at)) line says is other printed =
+    printed_first text (bad_word cut at) line ((says.word cut at).0 is) printed
+first_fault_is_printed text r (Word (BadLength at)) line says is other printed =
+    printed_first text (bad_word bad_length at) line ((says.word bad_length at).0 is) printed
+first_fault_is_printed text r (Word (TimeOverflow at)) line says is other printed =
+    printed_first text (bad_word time_overflow at) line ((says.word time_overflow at).0 is) printed
 first_fault_is_printed text r NoMemory line says is other printed = absurd (other refl)

@@ -1,11 +1,13 @@
 -- Events by their numbers, as formats come one after the other.
-use Rattle.std.proofs.Common.{◌≡◌, ℕ, ◌+◌, ◌<◌, List, [], ◌∷◌, ◌++◌, length, get_or, take, map, Option, Some, None, refl, sym, ap, ◌∙◌, append_assoc}
+use Rattle.std.proofs.Common.{◌≡◌, ℕ, ◌+◌, ◌<◌, List, [], ◌∷◌, ◌++◌, length, get_or, take, map, Option, Some, None}
+use Rattle.std.proofs.Common.{refl, sym, ap, ◌∙◌, append_assoc}
 use Rattle.std.proofs.lemmas.List.{map-append, length-map, take-map, take_more}
 use Rattle.std.specs.Prelude.{Result, Ok, Err, OnErr}
 use Rattle.trace_dat.specs.declared.contents.Format.{Format}
 use Rattle.trace_dat.specs.Contents.{EventFormat, format_seen}
 use Rattle.kernel_texts.specs.declared.names.EventNames.{EventNames}
-use Rattle.kernel_texts.specs.Names.{Event, described_in, event_under, first_of, event_of, events_of, HasEvents, HasEventsOfSome}
+use Rattle.kernel_texts.specs.Names.{Event, described_in, event_under, first_of, event_of, events_of, HasEvents}
+use Rattle.kernel_texts.specs.Names.{HasEventsOfSome}
 
 regroup : (a b c : Option Event) → first_of (first_of a b) c ≡ first_of a (first_of b c)
 regroup (Some x) b c = refl
@@ -49,8 +51,11 @@ pub events_of_some : (names names' : EventNames) (known : List EventFormat) (for
     → i < length formats → ((id : ℕ) → events_of names' id ≡ events_of names id)
     → HasEvents names (known ++ map format_seen (take i formats))
     → HasEventsOfSome names' known (map format_seen formats)
-events_of_some names names' known formats i below same has =
-    (i, rw length-map below, λ id. same id ∙ has id ∙ sym (ap (λ fs. event_of id (known ++ fs)) (take-map format_seen i formats)))
+events_of_some names names' known formats i below same has = (
+  i,
+  rw length-map below,
+  λ id. same id ∙ has id ∙ sym (ap (λ fs. event_of id (known ++ fs)) (take-map format_seen i formats)),
+)
 
 pub on_err : {A E P : Type 0} (result : Result A E) → P → OnErr result P
 on_err (Ok x) p = tt

@@ -1,5 +1,6 @@
 -- Lines of the form KEY VALUE, and numbers.
-use Rattle.std.specs.Prelude.{ℕ, ◌+◌, ◌-◌, ◌*◌, ◌^◌, ◌&&◌, ◌==◌, Bool, true, List, [], ◌∷◌, length, take, drop, position, unwrap_or, Option, Some, None, nat_lt, nat_eq, if◌then◌else◌}
+use Rattle.std.specs.Prelude.{ℕ, ◌+◌, ◌-◌, ◌*◌, ◌^◌, ◌&&◌, ◌==◌, Bool, true, List, [], ◌∷◌, length, take, drop}
+use Rattle.std.specs.Prelude.{position, unwrap_or, Option, Some, None, nat_lt, nat_eq, if◌then◌else◌}
 use Rattle.std.specs.Char.{is_ascii_digit}
 use Rattle.std.specs.Option.{option_and_then}
 use Rattle.std.specs.List.{starts_with}

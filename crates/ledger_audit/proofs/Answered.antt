@@ -22,14 +22,17 @@ same_stray a b f g cpu fill = λ i. Stray record { 0 = cpu i } record { 0 = fill
 same_lacks : (a b : CpuId) (f g : FillNo) → a.0 ≡ b.0 → f.0 ≡ g.0 → Lacks a f ≡ Lacks b g
 same_lacks a b f g cpu fill = λ i. Lacks record { 0 = cpu i } record { 0 = fill i }
 
-strays_are : (a b : CpuId) (f g : FillNo) (r s : Answer) → r ≡ Err (Stray a f) → s ≡ Err (Stray b g) → r ≡ s → (a ≡ b) × (f ≡ g)
+strays_are : (a b : CpuId) (f g : FillNo) (r s : Answer) → r ≡ Err (Stray a f) → s ≡ Err (Stray b g) → r ≡ s
+    → (a ≡ b) × (f ≡ g)
 strays_are a b f g r s is other e = (cc, cc)
 
-lacks_are : (a b : CpuId) (f g : FillNo) (r s : Answer) → r ≡ Err (Lacks a f) → s ≡ Err (Lacks b g) → r ≡ s → (a ≡ b) × (f ≡ g)
+lacks_are : (a b : CpuId) (f g : FillNo) (r s : Answer) → r ≡ Err (Lacks a f) → s ≡ Err (Lacks b g) → r ≡ s
+    → (a ≡ b) × (f ≡ g)
 lacks_are a b f g r s is other e = (cc, cc)
 
 -- the least key, under other names of its numbers
-moved : (these : Parcel → Type 0) (a b : CpuId) (f g : FillNo) → a ≡ b → f ≡ g → IsLeast these a.0 f.0 → IsLeast these b.0 g.0
+moved : (these : Parcel → Type 0) (a b : CpuId) (f g : FillNo) → a ≡ b → f ≡ g → IsLeast these a.0 f.0
+    → IsLeast these b.0 g.0
 moved these a b f g cpu fill l =
     subst (λ (c : CpuId). IsLeast these c.0 g.0) cpu (subst (λ (h : FillNo). IsLeast these a.0 h.0) fill l)
 
@@ -43,13 +46,17 @@ module _ (kept taken : List Parcel) where
     not_taken : WereTaken kept taken → ⊥
     not_taken all = l.is_one.1 (all l.parcel l.is_one.0)
 
-    pub stray_is_stray : (cpu : CpuId) (fill : FillNo) → (answer ≡ Err (Stray cpu fill)) ↔ IsLeast (IsStray kept taken) cpu.0 fill.0
+    pub stray_is_stray : (cpu : CpuId) (fill : FillNo)
+        → (answer ≡ Err (Stray cpu fill)) ↔ IsLeast (IsStray kept taken) cpu.0 fill.0
     stray_is_stray cpu fill = (
-      λ e. let (a, b) = strays_are key.cpu cpu key.fill fill answer (Err (Stray cpu fill)) refl refl e in moved (IsStray kept taken) key.cpu cpu key.fill fill a b l,
-      λ other. let (a, b) = least_is_one (IsStray kept taken) key.cpu.0 key.fill.0 cpu.0 fill.0 l other in ap Err (same_stray key.cpu cpu key.fill fill a b),
+      λ e. let (a, b) = strays_are key.cpu cpu key.fill fill answer (Err (Stray cpu fill)) refl refl e in
+          moved (IsStray kept taken) key.cpu cpu key.fill fill a b l,
+      λ other. let (a, b) = least_is_one (IsStray kept taken) key.cpu.0 key.fill.0 cpu.0 fill.0 l other in
+          ap Err (same_stray key.cpu cpu key.fill fill a b),
     )
 
-    pub stray_is_no_lack : (cpu : CpuId) (fill : FillNo) → (answer ≡ Err (Lacks cpu fill)) ↔ (WereTaken kept taken × IsLeast (IsLacking kept taken) cpu.0 fill.0)
+    pub stray_is_no_lack : (cpu : CpuId) (fill : FillNo)
+        → (answer ≡ Err (Lacks cpu fill)) ↔ (WereTaken kept taken × IsLeast (IsLacking kept taken) cpu.0 fill.0)
     stray_is_no_lack cpu fill = (λ e. cc, λ (all, other). absurd (not_taken all))
 
   -- ---- each kept parcel was taken
@@ -62,11 +69,15 @@ module _ (kept taken : List Parcel) where
       abbrev lack : Answer
       lack = Err (Lacks key.cpu key.fill)
 
-      pub lack_is_no_stray : (cpu : CpuId) (fill : FillNo) → (lack ≡ Err (Stray cpu fill)) ↔ IsLeast (IsStray kept taken) cpu.0 fill.0
+      pub lack_is_no_stray : (cpu : CpuId) (fill : FillNo)
+          → (lack ≡ Err (Stray cpu fill)) ↔ IsLeast (IsStray kept taken) cpu.0 fill.0
       lack_is_no_stray cpu fill = (λ e. cc, λ s. absurd (no_stray cpu.0 fill.0 s))
 
-      pub lack_is_lack : (cpu : CpuId) (fill : FillNo) → (lack ≡ Err (Lacks cpu fill)) ↔ (WereTaken kept taken × IsLeast (IsLacking kept taken) cpu.0 fill.0)
+      pub lack_is_lack : (cpu : CpuId) (fill : FillNo)
+          → (lack ≡ Err (Lacks cpu fill)) ↔ (WereTaken kept taken × IsLeast (IsLacking kept taken) cpu.0 fill.0)
       lack_is_lack cpu fill = (
-        λ e. let (a, b) = lacks_are key.cpu cpu key.fill fill lack (Err (Lacks cpu fill)) refl refl e in (all, moved (IsLacking kept taken) key.cpu cpu key.fill fill a b l),
-        λ (_, other). let (a, b) = least_is_one (IsLacking kept taken) key.cpu.0 key.fill.0 cpu.0 fill.0 l other in ap Err (same_lacks key.cpu cpu key.fill fill a b),
+        λ e. let (a, b) = lacks_are key.cpu cpu key.fill fill lack (Err (Lacks cpu fill)) refl refl e in
+            (all, moved (IsLacking kept taken) key.cpu cpu key.fill fill a b l),
+        λ (_, other). let (a, b) = least_is_one (IsLacking kept taken) key.cpu.0 key.fill.0 cpu.0 fill.0 l other in
+            ap Err (same_lacks key.cpu cpu key.fill fill a b),
       )

@@ -1,18 +1,21 @@
 -- Parcels with the same records, record by record.
-use Rattle.std.proofs.Common.{◌≡◌, ◌≢◌, ◌↔◌, ℕ, suc, ◌+◌, ◌-◌, ◌<◌, ◌≤◌, Bool, true, false, not, IsTrue, List, [], ◌∷◌, length, Option, Some, None, is_some, IfSome, IfNone, refl, sym, ap, ◌∙◌, arith}
+use Rattle.std.proofs.Common.{◌≡◌, ◌≢◌, ◌↔◌, ℕ, suc, ◌+◌, ◌-◌, ◌<◌, ◌≤◌, Bool, true, false, not, IsTrue, List, [], ◌∷◌}
+use Rattle.std.proofs.Common.{length, Option, Some, None, is_some, IfSome, IfNone, refl, sym, ap, ◌∙◌, arith}
 use Rattle.std.specs.List.{slice_get}
 use Rattle.trace_model.specs.Parcel.{Parcel}
 use Rattle.trace_model.proofs.collections.Elements.{some_is}
 use Rattle.collector.specs.Entries.{record_of}
 
 -- lists with the same elements
-same_elements : {A : Type 0} (xs ys : List A) → length xs ≡ length ys → ((k : ℕ) → k < length xs → slice_get xs k ≡ slice_get ys k) → xs ≡ ys
+same_elements : {A : Type 0} (xs ys : List A) → length xs ≡ length ys
+    → ((k : ℕ) → k < length xs → slice_get xs k ≡ slice_get ys k) → xs ≡ ys
 same_elements [] [] sizes each = refl
 same_elements [] (y ∷ ys) sizes each = absurd (let no : ⊥ = omega arith in no)
 same_elements (x ∷ xs) [] sizes each = absurd (let no : ⊥ = omega arith in no)
 same_elements (x ∷ xs) (y ∷ ys) sizes each =
     let head : x ≡ y = some_is x y (each 0 (omega arith)) in
-    let tail : xs ≡ ys = same_elements xs ys (omega arith) (λ k within. each (suc k) (omega arith)) in λ i. head i ∷ tail i
+    let tail : xs ≡ ys = same_elements xs ys (omega arith) (λ k within. each (suc k) (omega arith)) in
+    λ i. head i ∷ tail i
 
 -- parcels from the same number on, with the same record under each number
 pub same_records : (p q : Parcel) → p.first ≡ q.first → length p.records ≡ length q.records

@@ -1,5 +1,6 @@
 -- Parcels of one CPU whose fills rise, one parcel after the other.
-use Rattle.std.proofs.Common.{◌≡◌, ⊎_elim, ℕ, ◌+◌, ◌-◌, ◌<◌, ◌≤◌, List, length, get_or, Some, sym, ap, ◌∙◌, subst, arith}
+use Rattle.std.proofs.Common.{◌≡◌, ⊎_elim, ℕ, ◌+◌, ◌-◌, ◌<◌, ◌≤◌, List, length, get_or, Some, sym, ap, ◌∙◌, subst}
+use Rattle.std.proofs.Common.{arith}
 use Rattle.std.specs.List.{slice_get}
 use Rattle.std.proofs.lemmas.Bool.{cases_lt}
 use Rattle.std.proofs.lemmas.Option.{slice_get_within, slice_get-get_or}
@@ -11,7 +12,8 @@ use Rattle.page_numbers.specs.Parcels.{AreOfCpu}
 -- the first of them are this CPU's, and their fills rise
 pub record RiseTo (cpu : ℕ) (parcels : List Parcel) (end : ℕ) : Type 0 where
   pub own : (k : ℕ) (parcel : Parcel) → k < end → slice_get parcels k ≡ Some parcel → parcel.cpu ≡ cpu
-  pub rising : (j k : ℕ) (earlier later : Parcel) → j < k → k < end → slice_get parcels j ≡ Some earlier → slice_get parcels k ≡ Some later → earlier.fill < later.fill
+  pub rising : (j k : ℕ) (earlier later : Parcel) → j < k → k < end → slice_get parcels j ≡ Some earlier
+      → slice_get parcels k ≡ Some later → earlier.fill < later.fill
 
 module _ (cpu : ℕ) (parcels : List Parcel) where
   pub rise_none : RiseTo cpu parcels 0
@@ -28,7 +30,8 @@ module _ (cpu : ℕ) (parcels : List Parcel) where
 
     -- one more, whose fill is above that of the one before it
     pub rise_more : next.cpu ≡ cpu
-        → ((before : ℕ) (previous : Parcel) → before + 1 ≡ end → slice_get parcels before ≡ Some previous → previous.fill < next.fill)
+        → ((before : ℕ) (previous : Parcel) → before + 1 ≡ end → slice_get parcels before ≡ Some previous
+        → previous.fill < next.fill)
         → RiseTo cpu parcels end
         → RiseTo cpu parcels (end + 1)
     rise_more own above to = record {
@@ -55,5 +58,6 @@ module _ (cpu : ℕ) (parcels : List Parcel) where
   pub rise_all : (end : ℕ) → length parcels ≤ end → RiseTo cpu parcels end → AreOfCpu parcels cpu × AreRising parcels
   rise_all end past to = (
     λ k parcel there. let within = slice_get_within parcels k parcel there in to.own k parcel (omega arith) there,
-    λ j k earlier later low at_j at_k. let within = slice_get_within parcels k later at_k in to.rising j k earlier later low (omega arith) at_j at_k,
+    λ j k earlier later low at_j at_k. let within = slice_get_within parcels k later at_k in
+        to.rising j k earlier later low (omega arith) at_j at_k,
   )

@@ -11,6 +11,7 @@ pub kept_lines : (lines : List Line) → map collector.line_seen lines ≡ kept.
 kept_lines [] = refl
 kept_lines (line ∷ lines) = λ i. collector.line_seen line ∷ kept_lines lines i
 
-pub kept_fleet_lines : (lines : List FleetLine) → map fleet.line_seen lines ≡ kept_of_fleet.lines_of (map kept_of_fleet.kept_line lines)
+pub kept_fleet_lines : (lines : List FleetLine)
+    → map fleet.line_seen lines ≡ kept_of_fleet.lines_of (map kept_of_fleet.kept_line lines)
 kept_fleet_lines [] = refl
 kept_fleet_lines (line ∷ lines) = λ i. fleet.line_seen line ∷ kept_fleet_lines lines i

@@ -12,7 +12,8 @@ use Rattle.collector.specs.declared.fault.AddFault.{AddFault}
 use Rattle.collector.specs.declared.fault.AddFault.TheVariants.{Clash, TakenAndMissing, NoMemory as no_memory_to_add}
 use Rattle.collector.specs.Faults.{IsAddFault}
 use Rattle.library_values.specs.declared.listed_collector.adding.AddRefusal.{AddRefusal}
-use Rattle.library_values.specs.declared.listed_collector.adding.AddRefusal.TheVariants.{Parcel as NoParcel, Add as NotAdded}
+use Rattle.library_values.specs.declared.listed_collector.adding.AddRefusal.TheVariants.{Parcel as NoParcel}
+use Rattle.library_values.specs.declared.listed_collector.adding.AddRefusal.TheVariants.{Add as NotAdded}
 
 -- The parcel is added to these, or all of it was known.
 pub record HasAdded (old : List Parcel) (parcel : Parcel) (added : Added) (new : List Parcel) : Type 0 where

@@ -1,15 +1,21 @@
 -- The window that events lead to, by the events alone: runs lead to it, and the events of an account are a run.
-use Rattle.std.proofs.Common.{◌≡◌, ℕ, zero, suc, ◌<◌, ◌⊎◌, List, [], ◌∷◌, ◌++◌, length, Some, refl, sym, ap, ◌∙◌, subst, inl, inr, ⊎_elim, arith, append_assoc, append-nil}
+use Rattle.std.proofs.Common.{◌≡◌, ℕ, zero, suc, ◌<◌, ◌⊎◌, List, [], ◌∷◌, ◌++◌, length, Some, refl, sym, ap, ◌∙◌, subst}
+use Rattle.std.proofs.Common.{inl, inr, ⊎_elim, arith, append_assoc, append-nil}
 use Rattle.std.specs.Prelude.{IsTrue, fold}
 use Rattle.std.specs.List.{slice_get}
 use Rattle.std.proofs.lemmas.List.Sums.{fold-append}
 use Rattle.std.proofs.lemmas.Option.{slice_get_cases}
-use Rattle.trace_model.specs.History.{HistoryEvent, push, push_close, open_fill, reserve, leave, wished, writer_after, is_settled}
-use Rattle.trace_model.specs.Window.{Window, first_window, closes, takes, loses, window_after, MayMove, RingEvent, acts, history_events_of, WindowRun, WindowRunFrom}
+use Rattle.trace_model.specs.History.{HistoryEvent, push, push_close, open_fill, reserve, leave, wished, writer_after}
+use Rattle.trace_model.specs.History.{is_settled}
+use Rattle.trace_model.specs.Window.{Window, first_window, closes, takes, loses, window_after, MayMove, RingEvent, acts}
+use Rattle.trace_model.specs.Window.{history_events_of, WindowRun, WindowRunFrom}
 use Rattle.ring_model.proofs.histories.WindowRuns.{history_events-append, run-append}
-use Rattle.text_model.specs.Script.{Command, begin_frame, step_frame, finish_frame, write, close, step_reader, take_page, wish, deliver, Script}
+use Rattle.text_model.specs.Script.{Command, begin_frame, step_frame, finish_frame, write, close, step_reader}
+use Rattle.text_model.specs.Script.{take_page, wish, deliver, Script}
 use Rattle.line_model.specs.Due.{window_at, situation_after, IsDue}
-use Rattle.line_model.specs.Accounts.{CpuState, IsIdle, Begins, refuses_frame, pushes_frame, stays_on, is_gone, StepsTop, lacks_to_step, steps_on, FinishesTop, lacks_to_finish, finishes_it, WritesWhole, refuses_whole, writes_it, TakesPage, ReadsOn, Asks, Adds, IsAccount}
+use Rattle.line_model.specs.Accounts.{CpuState, IsIdle, Begins, refuses_frame, pushes_frame, stays_on, is_gone}
+use Rattle.line_model.specs.Accounts.{StepsTop, lacks_to_step, steps_on, FinishesTop, lacks_to_finish, finishes_it}
+use Rattle.line_model.specs.Accounts.{WritesWhole, refuses_whole, writes_it, TakesPage, ReadsOn, Asks, Adds, IsAccount}
 use Rattle.line_model.proofs.Standing.{AreDue}
 
 act_moves : (w : Window) (a : HistoryEvent) → window_after w (acts a) ≡ window_after w (acts a)
@@ -62,7 +68,8 @@ module _ (script : Script) (asked : ℕ) where
       → RunsOn (history_events_of (front ++ event ∷ [])) (window_at script.start (front ++ event ∷ [])) behind
       → RunsOn h w behind
   from_there front event behind h w history window run =
-      subst (λ (v : Window). RunsOn h v behind) (fold-append window_after (first_window script.start) front (event ∷ []) ∙ window)
+      subst (λ (v : Window). RunsOn h v behind)
+      (fold-append window_after (first_window script.start) front (event ∷ []) ∙ window)
       (subst (λ (l : List HistoryEvent). RunsOn l (window_at script.start (front ++ event ∷ [])) behind) history run)
 
   abbrev same_history : (front : List RingEvent) (event : RingEvent)
@@ -187,9 +194,11 @@ line_adds script cpu (write at moment payload) before after own adds =
 line_adds script cpu (close at) before after own adds =
     at_adds before after own (writes_add script _ _ _ before after own) adds
 line_adds script cpu (step_reader at count) before after own adds =
-    at_adds before after own (λ (r : ReadsOn script.start before own after). ap (λ (s : CpuState). s.events) r.after_is) adds
+    at_adds before after own (λ (r : ReadsOn script.start before own after). ap (λ (s : CpuState). s.events) r.after_is)
+    adds
 line_adds script cpu (take_page at) before after own adds =
-    at_adds before after own (λ (t : TakesPage script.start before own after). ap (λ (s : CpuState). s.events) t.after_is) adds
+    at_adds before after own
+    (λ (t : TakesPage script.start before own after). ap (λ (s : CpuState). s.events) t.after_is) adds
 line_adds script cpu (wish at) before after own adds =
     at_adds before after own (asks_adds before after own) adds
 line_adds script cpu (deliver collector at fill) before after own adds = idle_adds before after own adds

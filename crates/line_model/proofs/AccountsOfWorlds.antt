@@ -1,5 +1,6 @@
 -- The world of a script has an account of each CPU.
-use Rattle.std.proofs.Common.{◌≡◌, ◌≢◌, ℕ, zero, suc, ◌<◌, List, [], ◌∷◌, length, map, Some, refl, sym, ap, ◌∙◌, subst, ⊎_elim, arith}
+use Rattle.std.proofs.Common.{◌≡◌, ◌≢◌, ℕ, zero, suc, ◌<◌, List, [], ◌∷◌, length, map, Some, refl, sym, ap, ◌∙◌, subst}
+use Rattle.std.proofs.Common.{⊎_elim, arith}
 use Rattle.std.specs.Prelude.{All}
 use Rattle.std.specs.List.{slice_get}
 use Rattle.std.proofs.lemmas.Option.{none-some, slice_get_within, slice_get_cases, get_or_from_slice_get}
@@ -10,7 +11,8 @@ use Rattle.trace_model.specs.Frames.{Frame}
 use Rattle.trace_model.specs.Ring.{TakenFill, Reader, window_of}
 use Rattle.trace_model.specs.Parcel.{Parcel}
 use Rattle.trace_model.proofs.collections.Elements.{some_is}
-use Rattle.text_model.specs.Script.{Command, begin_frame, step_frame, finish_frame, write, close, step_reader, take_page, wish, deliver, Script}
+use Rattle.text_model.specs.Script.{Command, begin_frame, step_frame, finish_frame, write, close, step_reader}
+use Rattle.text_model.specs.Script.{take_page, wish, deliver, Script}
 use Rattle.text_model.specs.ScriptLimits.{IsCommandWithin, IsWithinLimits}
 use Rattle.ring_model.specs.Reached.{IsReached}
 use Rattle.ring_model.specs.RunsAsEvents.{fills_taken, numbers_of, AreEventsOfRun}

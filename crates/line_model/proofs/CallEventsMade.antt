@@ -1,5 +1,6 @@
 -- Each call for the top frame makes events.
-use Rattle.std.proofs.Common.{◌≡◌, ◌≢◌, ℕ, ◌+◌, ◌-◌, ◌<◌, ◌⊎◌, true, List, [], ◌∷◌, length, Some, None, refl, sym, ap, ◌∙◌, subst, inl, inr, arith}
+use Rattle.std.proofs.Common.{◌≡◌, ◌≢◌, ℕ, ◌+◌, ◌-◌, ◌<◌, ◌⊎◌, true, List, [], ◌∷◌, length, Some, None, refl, sym, ap}
+use Rattle.std.proofs.Common.{◌∙◌, subst, inl, inr, arith}
 use Rattle.std.specs.Prelude.{IsTrue}
 use Rattle.trace_model.specs.Words.{padded}
 use Rattle.trace_model.specs.History.{HistoryEvent, push, push_close, open_fill, reserve, leave, wished, is_settled}
@@ -7,10 +8,14 @@ use Rattle.trace_model.specs.Packing.{tail_of, FitsBehind, next_reservation}
 use Rattle.trace_model.specs.Window.{Window, history_events_of, IsWindow, RingEvent, closes, takes, loses, acts}
 use Rattle.trace_model.specs.Frames.{Progress, waiting, reserved, left, number_of, Frame, pushed_onto, pushed_frames}
 use Rattle.trace_model.specs.Ring.{Core}
-use Rattle.trace_model.specs.Steps.{Event, pushes, pushes_close, steps, ends, reads, wishes, Answer, Exchange, after_leave, Step}
-use Rattle.trace_model.proofs.steps.StepCases.{StepCases, push_step, push_refused, close_step, close_refused, frame_step, frame_lacks, end_step, end_lacks, end_early, read_step, store_wish_step}
+use Rattle.trace_model.specs.Steps.{Event, pushes, pushes_close, steps, ends, reads, wishes, Answer, Exchange}
+use Rattle.trace_model.specs.Steps.{after_leave, Step}
+use Rattle.trace_model.proofs.steps.StepCases.{StepCases, push_step, push_refused, close_step, close_refused}
+use Rattle.trace_model.proofs.steps.StepCases.{frame_step, frame_lacks, end_step, end_lacks, end_early, read_step}
+use Rattle.trace_model.proofs.steps.StepCases.{store_wish_step}
 use Rattle.trace_model.proofs.histories.NextEvent.{settled_at_rest}
 use Rattle.trace_model.proofs.steps.StepSound.{cases_of}
+use Rattle.trace_model.proofs.steps.EventKinds.{IsEnds}
 use Rattle.ring_model.specs.RingKept.{IsRingKept}
 use Rattle.ring_model.specs.WindowLaws.{MovesWindow, WindowStays}
 use Rattle.ring_model.proofs.histories.HistorySteps.{step_owed}
@@ -18,19 +23,12 @@ use Rattle.ring_model.proofs.partition.RingsKept.{reached_kept}
 use Rattle.world_model.specs.Lanes.{event_in, event_on_top, payloads_left}
 use Rattle.line_model.specs.Lines.{LineState, OpenFrame, with_top_stepped, TopRun, ReservesFirst}
 use Rattle.line_model.specs.WriterCalls.{LineWriting, writer_of}
-use Rattle.line_model.specs.CallEvents.{IsFinishing, IsTop, IsRecordOnTop, AreOpenFrames, Agrees, stepped, MakesEvents, CallsMakeEvents}
+use Rattle.line_model.specs.CallEvents.{IsFinishing, IsTop, IsRecordOnTop, AreOpenFrames, Agrees, stepped, MakesEvents}
+use Rattle.line_model.specs.CallEvents.{CallsMakeEvents}
 use Rattle.line_model.proofs.StepsMake.{steps_make}
 use Rattle.line_model.proofs.EventsMade.{Does, last_makes, top_makes, top_leaves}
 
 -- ---- an end, whatever frames are below
-
-abbrev pub IsEnds : Event → Type 0
-IsEnds (pushes moment len) = ⊥
-IsEnds pushes_close = ⊥
-IsEnds steps = ⊥
-IsEnds (ends payload) = Unit {0}
-IsEnds reads = ⊥
-IsEnds wishes = ⊥
 
 abbrev payload_of : List ℕ → Event → List ℕ
 payload_of other (pushes moment len) = other
@@ -223,7 +221,8 @@ module _ (n size start : ℕ) (c : Core) (x : Exchange) (after : Core) (r : IsRi
     by_state (reserved number) at more e =
         let step2 =
         as_event (frame ∷ below) (ends (padded top.payload)) on_top e (λ i. event_in (at i) (is.payloads_are i)) in
-        let after_is = ends_make n size c frame below number (padded top.payload) x.answer after on_top at (cases_of step2) in
+        let after_is =
+        ends_make n size c frame below number (padded top.payload) x.answer after on_top at (cases_of step2) in
         by_does (subst (Does n size (length c.frames - 1) c frame (top.payload ∷ others) _)
         (sym (ap writer_of after_is))
         (top_leaves n size (length c.frames - 1) c frame below

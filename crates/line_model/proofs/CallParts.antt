@@ -1,5 +1,6 @@
 -- The calls for a frame, joined, are a part of the lines' events.
-use Rattle.std.proofs.Common.{◌≡◌, ◌≢◌, ℕ, suc, ◌+◌, ◌-◌, ◌<◌, ◌≤◌, List, [], ◌∷◌, ◌++◌, length, sym, ap, ◌∙◌, subst, arith, length-append}
+use Rattle.std.proofs.Common.{◌≡◌, ◌≢◌, ℕ, suc, ◌+◌, ◌-◌, ◌<◌, ◌≤◌, List, [], ◌∷◌, ◌++◌, length, sym, ap, ◌∙◌, subst}
+use Rattle.std.proofs.Common.{arith, length-append}
 use Rattle.trace_model.specs.History.{HistoryEvent}
 use Rattle.trace_model.specs.Window.{RingEvent, acts, closes, takes, loses, history_events_of, window_after}
 use Rattle.trace_model.specs.Frames.{for_record, for_close, Frame}
@@ -9,7 +10,8 @@ use Rattle.ring_model.proofs.histories.WindowRuns.{history_events-append}
 use Rattle.world_model.specs.Lanes.{event_on_top, payloads_left}
 use Rattle.world_model.proofs.FramesMove.{Moves, stays, changes, pops, PushesNone, step_moves}
 use Rattle.world_model.proofs.LanePayloads.{pushes_none}
-use Rattle.line_model.specs.Lines.{LineState, OpenFrame, frame_count, state_after, state_moved, TopRun, MayGo, stays_on, goes, ReservesFirst, TopPart, StepsPart, FinishPart}
+use Rattle.line_model.specs.Lines.{LineState, OpenFrame, frame_count, state_after, state_moved, TopRun, MayGo, stays_on}
+use Rattle.line_model.specs.Lines.{goes, ReservesFirst, TopPart, StepsPart, FinishPart}
 use Rattle.line_model.specs.WriterCalls.{LineWriting, IsWriterCall, TopCalls}
 use Rattle.line_model.specs.CallEvents.{Agrees, IsRecordOnTop, stepped}
 use Rattle.line_model.specs.LineParts.{AreForRecords, CallsFinish}
@@ -39,7 +41,8 @@ reserves_more size p (top ∷ below) history_events more first = λ fresh r want
     first fresh r wants fits in (others ++ more, ap (λ (l : List HistoryEvent). l ++ more) is)
 
 -- the events of calls, with the state that they reach
-record CallsMake (n size depth count : ℕ) (frames : List Frame) (p : LineState) (lefts : List (List ℕ)) (t : LineWriting)
+record CallsMake (n size depth count : ℕ) (frames : List Frame) (p : LineState) (lefts : List (List ℕ))
+    (t : LineWriting)
     : Type 0 where
   events : List RingEvent
   reached : LineState
@@ -157,7 +160,8 @@ module _ (n size start depth : ℕ) where
             omega (arith, length-append (history_events_of m.events) (history_events_of more.events));
       }
 
-  finishes : (s : LineWriting) (payloads : List (List ℕ)) (t : LineWriting) (lefts : List (List ℕ)) (p : LineState) (count : ℕ)
+  finishes : (s : LineWriting) (payloads : List (List ℕ)) (t : LineWriting) (lefts : List (List ℕ)) (p : LineState)
+      (count : ℕ)
       → Agrees n p payloads s
       → length s.frames ≡ suc depth
       → length t.frames < suc depth
@@ -181,7 +185,8 @@ pub calls_step : (n size start depth count : ℕ) (s : LineWriting) (payloads : 
     → length s.frames ≡ suc depth
     → TopCalls n size start depth s payloads (x ∷ calls) t lefts
     → suc (length calls) ≤ count
-    → (events : List RingEvent) × (behind : LineState) × StepsPart n size count p events behind × Agrees n behind lefts t
+    → (events : List RingEvent) × (behind : LineState) × StepsPart n size count p events behind
+    × Agrees n behind lefts t
 calls_step n size start depth count s payloads x calls t lefts p agrees are some called few =
     let m = calls_make n size start depth s payloads x calls t lefts p agrees called in
     let frames_are = count_frames s.frames payloads p.frames p.finishing agrees.frames in

@@ -1,13 +1,17 @@
 -- A `c` line as a part of the lines' events.
-use Rattle.std.proofs.Common.{◌≡◌, ℕ, ◌≤◌, ◌<◌, ◌⊎◌, false, List, [], ◌∷◌, ◌++◌, length, refl, sym, ap, ◌∙◌, subst, inl, inr, arith}
+use Rattle.std.proofs.Common.{◌≡◌, ℕ, ◌≤◌, ◌<◌, ◌⊎◌, false, List, [], ◌∷◌, ◌++◌, length, refl, sym, ap, ◌∙◌, subst, inl}
+use Rattle.std.proofs.Common.{inr, arith}
 use Rattle.trace_model.specs.declared.limits.TheConstants.{MAX_FRAMES}
 use Rattle.trace_model.specs.History.{HistoryEvent, push_close}
 use Rattle.trace_model.specs.Window.{RingEvent, acts}
 use Rattle.trace_model.specs.Frames.{for_close, waiting, idle, WriteFault}
 use Rattle.trace_model.specs.Ring.{Core}
-use Rattle.trace_model.specs.Steps.{Event, pushes, pushes_close, steps, ends, reads, wishes, Answer, pushed, refused}
-use Rattle.trace_model.proofs.steps.StepCases.{StepCases, push_step, push_refused, close_step, close_refused, frame_step, frame_lacks, end_step, end_lacks, end_early, read_step, store_wish_step}
+use Rattle.trace_model.specs.Steps.{pushes_close, Answer, pushed, refused}
+use Rattle.trace_model.proofs.steps.StepCases.{StepCases, push_step, push_refused, close_step, close_refused}
+use Rattle.trace_model.proofs.steps.StepCases.{frame_step, frame_lacks, end_step, end_lacks, end_early, read_step}
+use Rattle.trace_model.proofs.steps.StepCases.{store_wish_step}
 use Rattle.trace_model.proofs.steps.StepSound.{cases_of}
+use Rattle.trace_model.proofs.steps.EventKinds.{IsPushesClose}
 use Rattle.text_model.specs.Script.{close}
 use Rattle.line_model.specs.Lines.{LineState, frame_count, writes, writes_none, LinePart}
 use Rattle.line_model.specs.WriterCalls.{LineWriting, writer_of, IsWriterCall, TopCalls}
@@ -15,14 +19,6 @@ use Rattle.line_model.specs.CallEvents.{Agrees}
 use Rattle.line_model.specs.LineParts.{ClosesMake}
 use Rattle.line_model.proofs.EventsMade.{count_frames}
 use Rattle.line_model.proofs.CallParts.{calls_finish}
-
-abbrev IsPushesClose : Event → Type 0
-IsPushesClose (pushes moment len) = ⊥
-IsPushesClose pushes_close = Unit {0}
-IsPushesClose steps = ⊥
-IsPushesClose (ends payload) = ⊥
-IsPushesClose reads = ⊥
-IsPushesClose wishes = ⊥
 
 abbrev pub closed_with : LineWriting → LineWriting
 closed_with s =

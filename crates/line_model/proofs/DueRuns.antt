@@ -3,7 +3,8 @@ use Rattle.std.proofs.Common.{◌≡◌, ℕ, List, [], ◌∷◌, ◌++◌, ref
 use Rattle.std.specs.Prelude.{⊤, fold}
 use Rattle.std.proofs.lemmas.List.Sums.{fold-append}
 use Rattle.trace_model.specs.History.{HistoryEvent, push, push_close, open_fill, reserve, leave, wished}
-use Rattle.trace_model.specs.Window.{Window, first_window, closes, takes, loses, window_after, RingEvent, acts, history_events_of, WindowRunFrom}
+use Rattle.trace_model.specs.Window.{Window, first_window, closes, takes, loses, window_after, RingEvent, acts}
+use Rattle.trace_model.specs.Window.{history_events_of, WindowRunFrom}
 use Rattle.trace_model.specs.Ring.{Core, window_of}
 use Rattle.text_model.specs.Script.{Script}
 use Rattle.ring_model.specs.RunsAsEvents.{fills_taken, AreEventsOfRun}

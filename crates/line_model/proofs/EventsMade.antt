@@ -1,5 +1,6 @@
 -- What one call makes, as events.
-use Rattle.std.proofs.Common.{◌≡◌, ◌≢◌, ℕ, suc, ◌+◌, ◌-◌, ◌≤◌, ◌<◌, Bool, true, false, List, [], ◌∷◌, ◌++◌, length, drop, Option, Some, None, refl, sym, ap, ◌∙◌, subst, inl, inr, arith}
+use Rattle.std.proofs.Common.{◌≡◌, ◌≢◌, ℕ, suc, ◌+◌, ◌-◌, ◌≤◌, ◌<◌, Bool, true, false, List, [], ◌∷◌, ◌++◌, length}
+use Rattle.std.proofs.Common.{drop, Option, Some, None, refl, sym, ap, ◌∙◌, subst, inl, inr, arith}
 use Rattle.std.specs.Prelude.{if◌then◌else◌, IsTrue}
 use mathlib.Core.Logic.{dite}
 use native.Mathlib.Decide.{ℕ_discrete}
@@ -10,9 +11,11 @@ use Rattle.trace_model.specs.Frames.{for_close, waiting, reserved, left, Phase, 
 use Rattle.trace_model.specs.Ring.{Core}
 use Rattle.trace_model.specs.Steps.{frames_after_leave, with_new_tail}
 use Rattle.world_model.specs.Lanes.{payloads_left}
-use Rattle.line_model.specs.Lines.{LineState, OpenFrame, frame_count, with_top_stepped, TopRun, state_after, finishing_after, MayLeaveTop, MayGo, stays_on, goes}
+use Rattle.line_model.specs.Lines.{LineState, OpenFrame, frame_count, with_top_stepped, TopRun, state_after}
+use Rattle.line_model.specs.Lines.{finishing_after, MayLeaveTop, MayGo, stays_on, goes}
 use Rattle.line_model.specs.WriterCalls.{LineWriting, writer_of}
-use Rattle.line_model.specs.CallEvents.{DoesntFit, CallMakes, goes_on, begins, has_reserved, leaves, leaves_fill, closes_one, finds_wish, is_gone, AreOpenFrames, Agrees}
+use Rattle.line_model.specs.CallEvents.{DoesntFit, CallMakes, goes_on, begins, has_reserved, leaves, leaves_fill}
+use Rattle.line_model.specs.CallEvents.{closes_one, finds_wish, is_gone, AreOpenFrames, Agrees}
 
 -- ---- frames and payloads
 
@@ -108,7 +111,8 @@ module _ (n size depth : ℕ) (c : Core) (frame : Frame) (below : List Frame) (d
 
   free_now : (history : List HistoryEvent) (xs : List OpenFrame) (l : Bool)
       → c.opened < c.done + n
-      → (h : ℕ) × (d : List RingEvent → List RingEvent) × Free h d (λ k. line_state history (counts k c.done c.opened) xs l)
+      → (h : ℕ) × (d : List RingEvent → List RingEvent)
+      × Free h d (λ k. line_state history (counts k c.done c.opened) xs l)
   free_now history xs l room = dite (ℕ_discrete c.opened (head + n))
       (λ e. (
         head + 1,

@@ -9,8 +9,10 @@ use Rattle.line_model.proofs.WrittenLines.{whole_lines_commit}
 use Rattle.line_model.proofs.WriterHistories.{none_formed}
 use Rattle.trace_model.specs.History.{HistoryEvent, push, reserve, leave}
 use Rattle.trace_model.specs.Window.{acts, first_window}
-use Rattle.line_model.specs.Lines.{LineState, first_state, IsRefusedPush, IsPush, MayGo, stays_on, goes, TopPart, begins, begins_none, writes}
-use Rattle.line_model.specs.LineExamples.{OneWrite, RefusedBegin, BeginAndSteps, NestedFrames, DroppedWrite, RecordsOfThree}
+use Rattle.line_model.specs.Lines.{LineState, first_state, IsRefusedPush, IsPush, MayGo, stays_on, goes, TopPart}
+use Rattle.line_model.specs.Lines.{begins, begins_none, writes}
+use Rattle.line_model.specs.LineExamples.{OneWrite, RefusedBegin, BeginAndSteps, NestedFrames, DroppedWrite}
+use Rattle.line_model.specs.LineExamples.{RecordsOfThree}
 
 abbrev four : List ℕ
 four = 1 ∷ 2 ∷ 3 ∷ 4 ∷ []

@@ -1,11 +1,16 @@
 -- Each fill but the last has a record, so there are few fills.
-use Rattle.std.proofs.Common.{◌≡◌, ◌≢◌, ℕ, ◌+◌, ◌≤◌, ◌⊎◌, List, [], ◌∷◌, ◌++◌, length, get_or, map, Option, Some, None, refl, sym, ap, ◌∙◌, subst, inl, inr, arith, append_assoc, append-nil, length-append}
+use Rattle.std.proofs.Common.{◌≡◌, ◌≢◌, ℕ, ◌+◌, ◌≤◌, ◌⊎◌, List, [], ◌∷◌, ◌++◌, length, get_or, map, Option, Some, None}
+use Rattle.std.proofs.Common.{refl, sym, ap, ◌∙◌, subst, inl, inr, arith, append_assoc, append-nil, length-append}
 use Rattle.std.proofs.lemmas.List.{length-map}
-use Rattle.trace_model.specs.History.{HistoryEvent, push, push_close, open_fill, reserve, leave, wished, Reservation, PushedFrame, record_frame, close_frame, after_event, writer_after, reserved_records}
+use Rattle.trace_model.specs.History.{HistoryEvent, push, push_close, open_fill, reserve, leave, wished, Reservation}
+use Rattle.trace_model.specs.History.{PushedFrame, record_frame, close_frame, after_event, writer_after}
+use Rattle.trace_model.specs.History.{reserved_records}
 use Rattle.trace_model.specs.Packing.{opens_of, cut_from, tail_of}
 use Rattle.trace_model.specs.Fitting.{tail_at}
-use Rattle.trace_model.specs.Window.{Window, RingEvent, acts, closes, takes, loses, history_events_of, window_after, WindowRunFrom}
-use Rattle.trace_model.proofs.packing.FillCuts.{opens_of-push, opens_of-push_close, opens_of-reserve, opens_of-leave, opens_of-wished}
+use Rattle.trace_model.specs.Window.{Window, RingEvent, acts, closes, takes, loses, history_events_of, window_after}
+use Rattle.trace_model.specs.Window.{WindowRunFrom}
+use Rattle.trace_model.proofs.packing.FillCuts.{opens_of-push, opens_of-push_close, opens_of-reserve, opens_of-leave}
+use Rattle.trace_model.proofs.packing.FillCuts.{opens_of-wished}
 use Rattle.trace_model.proofs.histories.NextRecords.{records_snoc}
 use Rattle.trace_model.proofs.packing.PackedHistories.{plain, plain-finished, cut-plain, plain_nil, tail_is}
 use Rattle.ring_model.proofs.seats.FrameEnds.{opened_tail}
@@ -117,7 +122,8 @@ few_act start h w wished begins few =
 
 pub few_run : (n start : ℕ) (h : List HistoryEvent) (w after : Window) (events : List RingEvent)
     → WindowRunFrom n h w events after
-    → ((front behind : List HistoryEvent) → h ++ history_events_of events ≡ front ++ open_fill ∷ behind → tail_of front ≢ [])
+    → ((front behind : List HistoryEvent) → h ++ history_events_of events ≡ front ++ open_fill ∷ behind
+    → tail_of front ≢ [])
     → IsFew start h w.opened
     → IsFew start (h ++ history_events_of events) after.opened
 few_run n start h w after [] run begins few =
@@ -130,7 +136,8 @@ few_run n start h w after (acts a ∷ events) run begins few =
     (few_run n start (h ++ a ∷ []) (window_after w (acts a)) after events run.1
     (λ front behind e. begins front behind (one ∙ e))
     (few_act start h w a
-    (λ opens. begins h (history_events_of events) (ap (λ (b : HistoryEvent). h ++ b ∷ history_events_of events) opens)) few))
+    (λ opens. begins h (history_events_of events) (ap (λ (b : HistoryEvent). h ++ b ∷ history_events_of events) opens))
+    few))
 few_run n start h w after (closes ∷ events) run begins few =
     few_run n start h (window_after w closes) after events run.1 begins record { all = few.all; held = few.held }
 few_run n start h w after (takes ∷ events) run begins few =

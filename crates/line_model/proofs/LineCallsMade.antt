@@ -1,16 +1,22 @@
 -- The calls of lines are the parts of these lines.
-use Rattle.std.proofs.Common.{◌≡◌, ℕ, zero, suc, ◌≤◌, ◌⊎◌, List, [], ◌∷◌, ◌++◌, length, refl, sym, ap, ◌∙◌, subst, inl, inr, arith}
+use Rattle.std.proofs.Common.{◌≡◌, ℕ, zero, suc, ◌≤◌, ◌⊎◌, List, [], ◌∷◌, ◌++◌, length, refl, sym, ap, ◌∙◌, subst, inl}
+use Rattle.std.proofs.Common.{inr, arith}
 use Rattle.trace_model.specs.History.{push}
 use Rattle.trace_model.specs.Window.{RingEvent, acts}
 use Rattle.trace_model.specs.Frames.{for_close, waiting, idle, Frame, WriteFault}
 use Rattle.trace_model.specs.Steps.{pushes, pushes_close, pushed, refused, Exchange}
-use Rattle.text_model.specs.Script.{Command, begin_frame, step_frame, finish_frame, write, close, step_reader, take_page, wish, deliver}
+use Rattle.text_model.specs.Script.{Command, begin_frame, step_frame, finish_frame, write, close, step_reader}
+use Rattle.text_model.specs.Script.{take_page, wish, deliver}
 use Rattle.world_model.specs.Lanes.{payloads_left}
 use Rattle.world_model.proofs.FramesMove.{Moves, stays, changes, pops}
-use Rattle.line_model.specs.Lines.{LineState, OpenFrame, first_state, frame_count, with_top_stepped, ReservesFirst, stays_on, TopPart, FinishPart, IsQuiet, LinePart}
-use Rattle.line_model.specs.WriterCalls.{LineWriting, first_writer, IsWriterCall, TopCalls, StepsCalls, none_to_step, steps_top, FinishCalls, none_to_finish, finishes_top, BeginCalls, begins_frame, begins_none, WholeCalls, writes_frame, writes_none, LineCalls}
+use Rattle.line_model.specs.Lines.{LineState, OpenFrame, first_state, frame_count, with_top_stepped, ReservesFirst}
+use Rattle.line_model.specs.Lines.{stays_on, TopPart, FinishPart, IsQuiet, LinePart}
+use Rattle.line_model.specs.WriterCalls.{LineWriting, first_writer, IsWriterCall, TopCalls, StepsCalls, none_to_step}
+use Rattle.line_model.specs.WriterCalls.{steps_top, FinishCalls, none_to_finish, finishes_top, BeginCalls, begins_frame}
+use Rattle.line_model.specs.WriterCalls.{begins_none, WholeCalls, writes_frame, writes_none, LineCalls}
 use Rattle.line_model.specs.CallEvents.{AreOpenFrames, Agrees}
-use Rattle.line_model.specs.LineParts.{PushMakes, AreForRecords, IsBetweenLines, LineCallsMake, LinesCallsMake, RestCallsMake, WriterMakesLines}
+use Rattle.line_model.specs.LineParts.{PushMakes, AreForRecords, IsBetweenLines, LineCallsMake, LinesCallsMake}
+use Rattle.line_model.specs.LineParts.{RestCallsMake, WriterMakesLines}
 use Rattle.line_model.proofs.EventsMade.{count_frames}
 use Rattle.line_model.proofs.CallParts.{moved_records, call_moves, calls_step, calls_finish}
 use Rattle.line_model.proofs.PushParts.{Pushing, pushing_of, pushes_make, writes_make}
@@ -45,11 +51,13 @@ moved_below depth frames after (pops frame rest at is) (inr (top, below, e, deep
     let same : rest ≡ below = ap others_of (sym at ∙ e) in inl (subst AreForRecords (sym (is ∙ same)) are)
 
 module _ (n size start depth : ℕ) where
-  calls_below : (s : LineWriting) (payloads : List (List ℕ)) (calls : List Exchange) (t : LineWriting) (lefts : List (List ℕ))
+  calls_below : (s : LineWriting) (payloads : List (List ℕ)) (calls : List Exchange) (t : LineWriting)
+      (lefts : List (List ℕ))
       → TopCalls n size start depth s payloads calls t lefts
       → AreRecordsBelow depth s.frames
       → AreRecordsBelow depth t.frames
-  calls_below s payloads [] t lefts (same, lasts) are = subst (λ (v : LineWriting). AreRecordsBelow depth v.frames) same are
+  calls_below s payloads [] t lefts (same, lasts) are =
+      subst (λ (v : LineWriting). AreRecordsBelow depth v.frames) same are
   calls_below s payloads (x ∷ calls) t lefts (some, e, u, call, rest) are =
       calls_below u (payloads_left u.frames payloads) calls t lefts rest
       (moved_below depth s.frames u.frames (call_moves n size start s x u payloads e call) are)
@@ -65,7 +73,8 @@ module _ (n size start depth : ℕ) where
       (moved_records s.frames u.frames (call_moves n size start s x u payloads e call) are)
 
   -- it is popped, so the others are left
-  pub popped_records : (frames : List Frame) → length frames ≤ depth → AreRecordsBelow depth frames → AreForRecords frames
+  pub popped_records : (frames : List Frame) → length frames ≤ depth → AreRecordsBelow depth frames
+      → AreForRecords frames
   popped_records frames low (inl are) = are
   popped_records frames low (inr (top, below, e, deep, are)) =
       absurd (let long = ap (λ (l : List Frame). length l) e in omega arith)

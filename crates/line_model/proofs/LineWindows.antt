@@ -1,10 +1,15 @@
 -- What the lines of a writer do is a run of the window, from the start, and its history events are the history.
-use Rattle.std.proofs.Common.{◌≡◌, ℕ, zero, suc, List, [], ◌∷◌, ◌++◌, sym, ap, ◌∙◌, subst, refl, append_assoc, append-nil}
+use Rattle.std.proofs.Common.{◌≡◌, ℕ, zero, suc, List, [], ◌∷◌, ◌++◌, sym, ap, ◌∙◌, subst, refl, append_assoc}
+use Rattle.std.proofs.Common.{append-nil}
 use Rattle.trace_model.specs.History.{HistoryEvent, push_close}
-use Rattle.trace_model.specs.Window.{Window, RingEvent, acts, closes, takes, loses, history_events_of, window_after, WindowRunFrom, WindowRun}
-use Rattle.text_model.specs.Script.{Command, begin_frame, step_frame, finish_frame, write, close, step_reader, take_page, wish, deliver}
+use Rattle.trace_model.specs.Window.{Window, RingEvent, acts, closes, takes, loses, history_events_of, window_after}
+use Rattle.trace_model.specs.Window.{WindowRunFrom, WindowRun}
+use Rattle.text_model.specs.Script.{Command, begin_frame, step_frame, finish_frame, write, close, step_reader}
+use Rattle.text_model.specs.Script.{take_page, wish, deliver}
 use Rattle.ring_model.proofs.histories.WindowRuns.{history_events-append, run-append}
-use Rattle.line_model.specs.Lines.{LineState, first_state, state_after, state_moved, IsQuiet, IsPush, TopRun, MayGo, stays_on, goes, TopPart, BeginPart, begins, begins_none, WholePart, writes, writes_none, LinePart, LineParts, FinishParts, IsMadeByLines}
+use Rattle.line_model.specs.Lines.{LineState, first_state, state_after, state_moved, IsQuiet, IsPush, TopRun, MayGo}
+use Rattle.line_model.specs.Lines.{stays_on, goes, TopPart, BeginPart, begins, begins_none, WholePart, writes}
+use Rattle.line_model.specs.Lines.{writes_none, LinePart, LineParts, FinishParts, IsMadeByLines}
 
 -- events that lead from one state to another, as the window and the history say
 pub record Leads (n : ℕ) (before : LineState) (events : List RingEvent) (after : LineState) : Type 0 where
@@ -129,7 +134,8 @@ leads_same : (n : ℕ) (before after : LineState) (events : List RingEvent)
     → before ≡ after
     → Leads n before events after
 leads_same n before after events none e =
-    subst (λ (l : List RingEvent). Leads n before l after) (sym none) (subst (Leads n before []) e (leads_none n before))
+    subst (λ (l : List RingEvent). Leads n before l after) (sym none)
+    (subst (Leads n before []) e (leads_none n before))
 
 pub leads_lines : (n size : ℕ) (lines : List Command) (before after : LineState) (events : List RingEvent)
     → LineParts n size lines before events after

@@ -3,7 +3,8 @@ use Rattle.std.proofs.Common.{◌≡◌, ◌≢◌, ℕ, List, [], refl, inl, in
 use Rattle.std.specs.Prelude.{⊤}
 use Rattle.trace_model.specs.Window.{RingEvent}
 use Rattle.trace_model.specs.Steps.{Exchange}
-use Rattle.text_model.specs.Script.{Command, begin_frame, step_frame, finish_frame, write, close, step_reader, take_page, wish, deliver, Script}
+use Rattle.text_model.specs.Script.{Command, begin_frame, step_frame, finish_frame, write, close, step_reader}
+use Rattle.text_model.specs.Script.{take_page, wish, deliver, Script}
 use Rattle.text_model.specs.ScriptLimits.{IsCommandWithin}
 use Rattle.world_model.specs.Lanes.{Lane, LineRun}
 use Rattle.line_model.specs.Accounts.{CpuState, Adds, IsLine}

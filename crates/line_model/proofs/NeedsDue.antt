@@ -1,9 +1,21 @@
 -- A frame that is refused a page was about to reserve, and needed one.
 use Rattle.std.proofs.Common.{◌≡◌, ℕ, List, [], ◌∷◌, refl, sym, subst}
-use Rattle.trace_model.specs.Frames.{Purpose, for_record, for_close, Progress, waiting, reserved, left, Phase, idle, looking, claiming, looking_next, marking, clearing, opening, releasing, wishing, Frame, WriteFault, too_deep, too_long, late_moment, crowded, worn, no_frame, not_reserved}
+use Rattle.trace_model.specs.Frames.{Purpose, for_record, for_close, Progress, waiting, reserved, left, Phase, idle}
+use Rattle.trace_model.specs.Frames.{looking, claiming, looking_next, marking, clearing, opening, releasing, wishing}
+use Rattle.trace_model.specs.Frames.{Frame, WriteFault, too_deep, too_long, late_moment, crowded, worn, no_frame}
+use Rattle.trace_model.specs.Frames.{not_reserved}
 use Rattle.trace_model.specs.Ring.{ReaderPhase, loading_head, loading_done, storing_spare_link, swapping, Core}
-use Rattle.trace_model.specs.Steps.{Event, Answer, pushed, going, reserved_as, pending, full, gone, refused, reading, empty, moving, page_taken, wished_for, leave_answer, begin_answer, end_answer}
-use Rattle.trace_model.proofs.steps.StepCases.{StepCases, PushRefused, all_stand, has_no_room, comes_late, BeginsAgain, IdleStep, reserves, finds_nothing, is_crowded, is_worn, notes, load_link_late, sees_free, sees_header, sees_update, claim_late, claims, claim_fails, load_next_late, sees_normal, sees_other, mark_late, marks, mark_fails, clears, open_late, opens, releases, releases_last, grants, closes_more, goes_away, FrameStep, loads_header, loads_update, loads_owed, loads_passed, finds_none, finds_closed, swaps, swap_fails, ReadStep, push_step, push_refused, close_step, close_refused, frame_step, frame_lacks, end_step, end_lacks, end_early, read_step, store_wish_step}
+use Rattle.trace_model.specs.Steps.{Event, Answer, pushed, going, reserved_as, pending, full, gone, refused, reading}
+use Rattle.trace_model.specs.Steps.{empty, moving, page_taken, wished_for, leave_answer, begin_answer, end_answer}
+use Rattle.trace_model.proofs.steps.StepCases.{StepCases, PushRefused, all_stand, has_no_room, comes_late, BeginsAgain}
+use Rattle.trace_model.proofs.steps.StepCases.{IdleStep, reserves, finds_nothing, is_crowded, is_worn, notes}
+use Rattle.trace_model.proofs.steps.StepCases.{load_link_late, sees_free, sees_header, sees_update, claim_late, claims}
+use Rattle.trace_model.proofs.steps.StepCases.{claim_fails, load_next_late, sees_normal, sees_other, mark_late, marks}
+use Rattle.trace_model.proofs.steps.StepCases.{mark_fails, clears, open_late, opens, releases, releases_last, grants}
+use Rattle.trace_model.proofs.steps.StepCases.{closes_more, goes_away, FrameStep, loads_header, loads_update}
+use Rattle.trace_model.proofs.steps.StepCases.{loads_owed, loads_passed, finds_none, finds_closed, swaps, swap_fails}
+use Rattle.trace_model.proofs.steps.StepCases.{ReadStep, push_step, push_refused, close_step, close_refused, frame_step}
+use Rattle.trace_model.proofs.steps.StepCases.{frame_lacks, end_step, end_lacks, end_early, read_step, store_wish_step}
 use Rattle.trace_model.proofs.steps.StepSound.{cases_of}
 use Rattle.ring_model.specs.AnswerLaws.{IsInNeed}
 use Rattle.line_model.specs.SingleFrames.{RefusedFramesNeedPages}

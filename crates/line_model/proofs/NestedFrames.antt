@@ -31,7 +31,8 @@ module _ (next : LineFrame) (below : List LineFrame) where
   does_none frame after (event ∷ own) none does = absurd (none_own frame event none does.0)
 
   abbrev EndsByLeaving : List RingEvent → Type 0
-  EndsByLeaving own = (front : List RingEvent) × (written : Option (List ℕ)) × (own ≡ front ++ acts (leave written) ∷ [])
+  EndsByLeaving own =
+      (front : List RingEvent) × (written : Option (List ℕ)) × (own ≡ front ++ acts (leave written) ∷ [])
 
   -- one event more in front
   one_more : (event : RingEvent) (own : List RingEvent) → EndsByLeaving own → EndsByLeaving (event ∷ own)

@@ -1,18 +1,28 @@
 -- A script whose lines ask for no single steps has one account of each CPU: of what a frame may do, at most one event
 -- is due at a time.
-use Rattle.std.proofs.Common.{◌≡◌, ◌≢◌, ℕ, zero, suc, ◌+◌, ◌<◌, ◌≤◌, ◌⊎◌, IsTrue, Bool, true, false, List, [], ◌∷◌, ◌++◌, length, Some, None, get_or, refl, sym, ap, ◌∙◌, subst, inl, inr, append_assoc, append-nil, arith}
+use Rattle.std.proofs.Common.{◌≡◌, ◌≢◌, ℕ, zero, suc, ◌+◌, ◌<◌, ◌≤◌, ◌⊎◌, IsTrue, Bool, true, false, List, [], ◌∷◌}
+use Rattle.std.proofs.Common.{◌++◌, length, Some, None, get_or, refl, sym, ap, ◌∙◌, subst, inl, inr, append_assoc}
+use Rattle.std.proofs.Common.{append-nil, arith}
 use Rattle.std.specs.Prelude.{⊤}
 use Rattle.std.proofs.lemmas.List.Sums.{fold-append}
 use Rattle.std.proofs.lemmas.Option.{slice_get-get_or}
 use Rattle.trace_model.specs.Words.{padded}
-use Rattle.trace_model.specs.History.{HistoryEvent, push, push_close, open_fill, reserve, leave, wished, PushedFrame, record_frame, close_frame}
+use Rattle.trace_model.specs.History.{HistoryEvent, push, push_close, open_fill, reserve, leave, wished, PushedFrame}
+use Rattle.trace_model.specs.History.{record_frame, close_frame}
 use Rattle.trace_model.specs.Packing.{is_wished}
-use Rattle.trace_model.specs.Window.{Window, first_window, RingEvent, acts, closes, takes, loses, history_events_of, window_after}
-use Rattle.trace_model.proofs.packing.PackedHistories.{is_wished-push, is_wished-push_close, is_wished-open_fill, is_wished-reserve, is_wished-leave, is_wished-wished}
+use Rattle.trace_model.specs.Window.{Window, first_window, RingEvent, acts, closes, takes, loses, history_events_of}
+use Rattle.trace_model.specs.Window.{window_after}
+use Rattle.trace_model.proofs.packing.PackedHistories.{is_wished-push, is_wished-push_close, is_wished-open_fill}
+use Rattle.trace_model.proofs.packing.PackedHistories.{is_wished-reserve, is_wished-leave, is_wished-wished}
 use Rattle.ring_model.proofs.histories.WindowRuns.{history_events-append}
-use Rattle.text_model.specs.Script.{Command, begin_frame, step_frame, finish_frame, write, close, step_reader, take_page, wish, deliver, Script}
-use Rattle.line_model.specs.Due.{window_at, Situation, situation_after, pushed_in, IsFillNeededFor, IsFillNeeded, HasNoFill, HasNoRecord, Leaves, IsDue}
-use Rattle.line_model.specs.Accounts.{LineFrame, CpuState, new_cpu, IsOwn, frame_after, Does, HasGone, with_own, IsIdle, new_frame, Begins, refuses_frame, pushes_frame, FinishesTop, lacks_to_finish, finishes_it, WritesWhole, refuses_whole, writes_it, IsMoving, TakesPage, Asks, Adds, IsLine, IsAccount}
+use Rattle.text_model.specs.Script.{Command, begin_frame, step_frame, finish_frame, write, close, step_reader}
+use Rattle.text_model.specs.Script.{take_page, wish, deliver, Script}
+use Rattle.line_model.specs.Due.{window_at, Situation, situation_after, pushed_in, IsFillNeededFor, IsFillNeeded}
+use Rattle.line_model.specs.Due.{HasNoFill, HasNoRecord, Leaves, IsDue}
+use Rattle.line_model.specs.Accounts.{LineFrame, CpuState, new_cpu, IsOwn, frame_after, Does, HasGone, with_own, IsIdle}
+use Rattle.line_model.specs.Accounts.{new_frame, Begins, refuses_frame, pushes_frame, FinishesTop, lacks_to_finish}
+use Rattle.line_model.specs.Accounts.{finishes_it, WritesWhole, refuses_whole, writes_it, IsMoving, TakesPage, Asks}
+use Rattle.line_model.specs.Accounts.{Adds, IsLine, IsAccount}
 use Rattle.line_model.specs.WholeScripts.{IsWholeLine, HasWholeLines, OneAccount}
 use Rattle.line_model.proofs.Standing.{AreDue}
 

@@ -1,5 +1,6 @@
 -- One more line, one more call, and the start.
-use Rattle.std.proofs.Common.{◌≡◌, ℕ, zero, suc, List, length, [], ◌∷◌, ◌++◌, refl, sym, ap, ◌∙◌, subst, arith, append_assoc, append-nil}
+use Rattle.std.proofs.Common.{◌≡◌, ℕ, zero, suc, List, length, [], ◌∷◌, ◌++◌, refl, sym, ap, ◌∙◌, subst, arith}
+use Rattle.std.proofs.Common.{append_assoc, append-nil}
 use Rattle.trace_model.specs.Steps.{Exchange}
 use Rattle.trace_model.specs.Window.{RingEvent}
 use Rattle.world_model.specs.Lanes.{event_on_top, payloads_left}

@@ -6,12 +6,17 @@ use Rattle.trace_model.specs.Words.{slot_len, encoded_len}
 use Rattle.trace_model.specs.History.{HistoryEvent, push, push_close}
 use Rattle.trace_model.specs.Frames.{Purpose, for_record, for_close, WriteFault}
 use Rattle.trace_model.specs.Ring.{Core}
-use Rattle.trace_model.specs.Steps.{Event, pushes, pushes_close, steps, ends, reads, wishes, Answer, pushed, refused, with_history_event, with_frame, IsTooLong}
+use Rattle.trace_model.specs.Steps.{pushes, pushes_close, Answer, pushed, refused}
+use Rattle.trace_model.specs.Steps.{with_history_event, with_frame, IsTooLong}
 use Rattle.trace_model.proofs.words.Lengths.{slot_len_ge}
-use Rattle.trace_model.proofs.steps.StepCases.{StepCases, PushRefused, all_stand, has_no_room, comes_late, push_step, push_refused, close_step, close_refused, frame_step, frame_lacks, end_step, end_lacks, end_early, read_step, store_wish_step}
+use Rattle.trace_model.proofs.steps.StepCases.{StepCases, PushRefused, all_stand, has_no_room, comes_late, push_step}
+use Rattle.trace_model.proofs.steps.StepCases.{push_refused, close_step, close_refused, frame_step, frame_lacks}
+use Rattle.trace_model.proofs.steps.StepCases.{end_step, end_lacks, end_early, read_step, store_wish_step}
+use Rattle.trace_model.proofs.steps.EventKinds.{IsPushes, IsPushesClose, pushed_of}
 
 -- The push isn't refused, and makes this of the ring; or it is, and the ring stays.
-pub data PushCases (Refused : Type 0) (kind : Purpose) (event : HistoryEvent) (c : Core) (answer : Answer) (after : Core)
+pub data PushCases (Refused : Type 0) (kind : Purpose) (event : HistoryEvent) (c : Core) (answer : Answer)
+    (after : Core)
     : Type 0 where
   is_pushed : answer ≡ pushed
       → (Refused → ⊥)
@@ -26,31 +31,6 @@ pub data PushCases (Refused : Type 0) (kind : Purpose) (event : HistoryEvent) (c
 -- why a record frame is refused, if so many are on the stack
 abbrev pub Refuses : (size moment len many : ℕ) → Type 0
 Refuses size moment len many = (MAX_FRAMES ≤ many) ⊎ (size < encoded_len len 0 true) ⊎ (MOMENT_LIMIT ≤ moment)
-
-abbrev IsPushes : Event → Type 0
-IsPushes (pushes moment len) = Unit {0}
-IsPushes pushes_close = ⊥
-IsPushes steps = ⊥
-IsPushes (ends payload) = ⊥
-IsPushes reads = ⊥
-IsPushes wishes = ⊥
-
-abbrev IsPushesClose : Event → Type 0
-IsPushesClose (pushes moment len) = ⊥
-IsPushesClose pushes_close = Unit {0}
-IsPushesClose steps = ⊥
-IsPushesClose (ends payload) = ⊥
-IsPushesClose reads = ⊥
-IsPushesClose wishes = ⊥
-
--- the moment and the length of a push
-abbrev pushed_of : Event → ℕ × ℕ
-pushed_of (pushes moment len) = (moment, len)
-pushed_of pushes_close = (0, 0)
-pushed_of steps = (0, 0)
-pushed_of (ends payload) = (0, 0)
-pushed_of reads = (0, 0)
-pushed_of wishes = (0, 0)
 
 no_room : (size len : ℕ) → IsTooLong size len → size < encoded_len len 0 true
 no_room size len (inl more) = behind (if nat_le (slot_len len) 112 then 4 else 8) (slot_len len) (slot_len_ge len)

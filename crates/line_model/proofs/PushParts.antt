@@ -1,37 +1,26 @@
 -- A push, and a whole `w` line, as parts of the lines' events.
-use Rattle.std.proofs.Common.{◌≡◌, ℕ, ◌≤◌, ◌<◌, ◌⊎◌, false, List, [], ◌∷◌, ◌++◌, length, refl, sym, ap, ◌∙◌, subst, inl, inr, arith}
+use Rattle.std.proofs.Common.{◌≡◌, ℕ, ◌≤◌, ◌<◌, ◌⊎◌, false, List, [], ◌∷◌, ◌++◌, length, refl, sym, ap, ◌∙◌, subst, inl}
+use Rattle.std.proofs.Common.{inr, arith}
 use Rattle.trace_model.specs.declared.limits.TheConstants.{MAX_FRAMES, MOMENT_LIMIT}
 use Rattle.trace_model.specs.History.{HistoryEvent, push}
 use Rattle.trace_model.specs.Window.{RingEvent, acts}
 use Rattle.trace_model.specs.Frames.{for_record, waiting, idle, WriteFault}
 use Rattle.trace_model.specs.Ring.{Core}
-use Rattle.trace_model.specs.Steps.{Event, pushes, pushes_close, steps, ends, reads, wishes, Answer, pushed, refused, IsTooLong}
-use Rattle.trace_model.proofs.steps.StepCases.{StepCases, PushRefused, all_stand, has_no_room, comes_late, push_step, push_refused, close_step, close_refused, frame_step, frame_lacks, end_step, end_lacks, end_early, read_step, store_wish_step}
+use Rattle.trace_model.specs.Steps.{Event, pushes, Answer, pushed, refused}
+use Rattle.trace_model.specs.Steps.{IsTooLong}
+use Rattle.trace_model.proofs.steps.StepCases.{StepCases, PushRefused, all_stand, has_no_room, comes_late, push_step}
+use Rattle.trace_model.proofs.steps.StepCases.{push_refused, close_step, close_refused, frame_step, frame_lacks}
+use Rattle.trace_model.proofs.steps.StepCases.{end_step, end_lacks, end_early, read_step, store_wish_step}
 use Rattle.trace_model.proofs.steps.StepSound.{cases_of}
+use Rattle.trace_model.proofs.steps.EventKinds.{IsPushes, pushed_of}
 use Rattle.text_model.specs.Script.{write}
-use Rattle.line_model.specs.Lines.{LineState, frame_count, IsRefusedPush, IsQuiet, IsPush, begins, begins_none, writes, writes_none, LinePart}
+use Rattle.line_model.specs.Lines.{LineState, frame_count, IsRefusedPush, IsQuiet, IsPush, begins, begins_none, writes}
+use Rattle.line_model.specs.Lines.{writes_none, LinePart}
 use Rattle.line_model.specs.WriterCalls.{LineWriting, writer_of, IsWriterCall}
 use Rattle.line_model.specs.CallEvents.{Agrees}
 use Rattle.line_model.specs.LineParts.{PushMakes, PushesMake, WritesMake}
 use Rattle.line_model.proofs.EventsMade.{count_frames}
 use Rattle.line_model.proofs.CallParts.{calls_finish}
-
-abbrev IsPushes : Event → Type 0
-IsPushes (pushes moment len) = Unit {0}
-IsPushes pushes_close = ⊥
-IsPushes steps = ⊥
-IsPushes (ends payload) = ⊥
-IsPushes reads = ⊥
-IsPushes wishes = ⊥
-
--- the moment and the length of a push
-abbrev pushed_of : Event → ℕ × ℕ
-pushed_of (pushes moment len) = (moment, len)
-pushed_of pushes_close = (0, 0)
-pushed_of steps = (0, 0)
-pushed_of (ends payload) = (0, 0)
-pushed_of reads = (0, 0)
-pushed_of wishes = (0, 0)
 
 abbrev moment_of : Event → ℕ
 moment_of event = (pushed_of event).0

@@ -1,12 +1,19 @@
 -- What the steps of a reader's lines make of its ring: whether a page is taken, and what the reader then knows.
-use Rattle.std.proofs.Common.{◌≡◌, ◌≢◌, ℕ, ◌+◌, ◌<◌, ◌⊎◌, List, [], ◌∷◌, ◌++◌, length, refl, sym, ap, ◌∙◌, subst, inl, inr, ⊎_elim, arith}
+use Rattle.std.proofs.Common.{◌≡◌, ◌≢◌, ℕ, ◌+◌, ◌<◌, ◌⊎◌, List, [], ◌∷◌, ◌++◌, length, refl, sym, ap, ◌∙◌, subst, inl}
+use Rattle.std.proofs.Common.{inr, ⊎_elim, arith}
 use Rattle.std.specs.Prelude.{⊤}
 use Rattle.trace_model.specs.Frames.{Frame}
-use Rattle.trace_model.specs.Ring.{ReaderPhase, loading_head, loading_done, storing_spare_link, swapping, TakenFill, Core, IsMoved}
+use Rattle.trace_model.specs.Ring.{ReaderPhase, loading_head, loading_done, storing_spare_link, swapping, TakenFill}
+use Rattle.trace_model.specs.Ring.{Core, IsMoved}
 use Rattle.trace_model.specs.ReaderSteps.{with_wish}
-use Rattle.trace_model.specs.Steps.{Event, pushes, pushes_close, steps, ends, reads, wishes, Answer, reading, empty, moving, page_taken, Step, Exchange}
-use Rattle.trace_model.proofs.steps.StepCases.{StepCases, ReadStep, loads_header, loads_update, loads_owed, loads_passed, finds_none, finds_closed, swaps, swap_fails, push_step, push_refused, close_step, close_refused, frame_step, frame_lacks, end_step, end_lacks, end_early, read_step, store_wish_step}
+use Rattle.trace_model.specs.Steps.{steps, ends, reads, wishes, Answer, reading, empty}
+use Rattle.trace_model.specs.Steps.{moving, page_taken, Step, Exchange}
+use Rattle.trace_model.proofs.steps.StepCases.{StepCases, ReadStep, loads_header, loads_update, loads_owed}
+use Rattle.trace_model.proofs.steps.StepCases.{loads_passed, finds_none, finds_closed, swaps, swap_fails, push_step}
+use Rattle.trace_model.proofs.steps.StepCases.{push_refused, close_step, close_refused, frame_step, frame_lacks}
+use Rattle.trace_model.proofs.steps.StepCases.{end_step, end_lacks, end_early, read_step, store_wish_step}
 use Rattle.trace_model.proofs.steps.StepSound.{cases_of}
+use Rattle.trace_model.proofs.steps.EventKinds.{IsReads, IsWishes}
 use Rattle.ring_model.specs.RingKept.{IsRingKept}
 use Rattle.ring_model.specs.Reached.{IsReached}
 use Rattle.ring_model.proofs.frames.AnswersRight.{empty_right, moving_right, swapped_right}
@@ -14,22 +21,6 @@ use Rattle.ring_model.proofs.partition.RingsKept.{reached_kept, reached_further}
 use Rattle.ring_model.proofs.seats.SeatSteps.{reader_leaves_writer}
 use Rattle.world_model.specs.Lanes.{Lane, lane_behind, ReaderRun, HasTakeAnswer}
 use Rattle.line_model.proofs.StandingKept.{all_left}
-
-abbrev IsReads : Event → Type 0
-IsReads (pushes moment len) = ⊥
-IsReads pushes_close = ⊥
-IsReads steps = ⊥
-IsReads (ends payload) = ⊥
-IsReads reads = Unit {0}
-IsReads wishes = ⊥
-
-abbrev IsWishes : Event → Type 0
-IsWishes (pushes moment len) = ⊥
-IsWishes pushes_close = ⊥
-IsWishes steps = ⊥
-IsWishes (ends payload) = ⊥
-IsWishes reads = ⊥
-IsWishes wishes = Unit {0}
 
 -- ---- one step
 
@@ -76,7 +67,8 @@ IsInTheWay c = (f : ℕ) × IsMoved c.frames f
 pub record Answers (c after : Core) : Type 0 where
   pub takes : TakesOne c after ⊎ (TakesNone c after × (IsInTheWay c ⊎ (c.head ≡ c.done)))
   pub sees : Sees c after
-  pub knows : Knows c → (after.reader.seen ≡ c.done) ⊎ ((after.reader.seen ≡ c.reader.seen) × TakesNone c after × IsInTheWay c)
+  pub knows : Knows c
+      → (after.reader.seen ≡ c.done) ⊎ ((after.reader.seen ≡ c.reader.seen) × TakesNone c after × IsInTheWay c)
   pub at_rest : after.reader.phase ≡ loading_head
 
 -- a step of a take that goes on
@@ -227,7 +219,8 @@ module _ (c between after : Core) (first : GoesOn c between) (stays : Stays c be
   one_behind t = record {
     page = t.page;
     fill = t.fill ∙ first.none.head;
-    closed = (let low = t.closed in let head = first.none.head in let done = stays.done in omega (arith, low, head, done));
+    closed =
+        (let low = t.closed in let head = first.none.head in let done = stays.done in omega (arith, low, head, done));
     head = t.head ∙ ap (λ (k : ℕ). k + 1) first.none.head;
     taken = t.taken ∙ ap (λ (l : List TakenFill). l ++ t.page ∷ []) first.none.taken;
   }

@@ -1,5 +1,6 @@
 -- The lines of a reader, from a ring that stands beside an account: they are lines of the account, and it stands again.
-use Rattle.std.proofs.Common.{◌≡◌, ℕ, ◌+◌, ◌<◌, ◌⊎◌, Bool, true, false, List, [], ◌∷◌, ◌++◌, length, refl, sym, ap, ◌∙◌, subst, inl, inr, ⊎_elim, arith, append_assoc, append-nil}
+use Rattle.std.proofs.Common.{◌≡◌, ℕ, ◌+◌, ◌<◌, ◌⊎◌, Bool, true, false, List, [], ◌∷◌, ◌++◌, length, refl, sym, ap, ◌∙◌}
+use Rattle.std.proofs.Common.{subst, inl, inr, ⊎_elim, arith, append_assoc, append-nil}
 use Rattle.std.proofs.lemmas.List.{length-append}
 use Rattle.trace_model.specs.Frames.{Frame}
 use Rattle.trace_model.specs.Window.{Window, RingEvent, takes}
@@ -18,7 +19,8 @@ use Rattle.line_model.specs.Due.{window_at, situation_after, IsDue}
 use Rattle.line_model.specs.Accounts.{CpuState, IsMoving, TakesPage, ReadsOn, Asks}
 use Rattle.line_model.proofs.Standing.{FramesStand, Stands, AreDue}
 use Rattle.line_model.proofs.StandingKept.{window_stands, way_moves, payloads_many, all_left, run_rests, run_takes}
-use Rattle.line_model.proofs.ReaderLines.{Knows, HasLooked, Sees, TakesNone, TakesOne, Stays, Answers, IsInTheWay, wish_is, reader_takes, take_answers, reader_stays}
+use Rattle.line_model.proofs.ReaderLines.{Knows, HasLooked, Sees, TakesNone, TakesOne, Stays, Answers, IsInTheWay}
+use Rattle.line_model.proofs.ReaderLines.{wish_is, reader_takes, take_answers, reader_stays}
 
 -- A line's part adds these events, each of them due, and the ring stands beside the account again.
 pub record PartStands (script : Script) (Part : CpuState → List RingEvent → CpuState → Type 0) (state : CpuState)
@@ -56,7 +58,8 @@ module _ (script : Script) (asked : ℕ) where
       subst (λ (e : RingEvent). IsDue (situation_after script asked (before ++ [])) e) (ap (first_of event) is)
       (subst (λ (l : List RingEvent). IsDue (situation_after script asked l) event) (sym (append-nil before)) first)
   more_due before own event first due (other ∷ front) rest here is =
-      subst (λ (e : RingEvent). IsDue (situation_after script asked (before ++ e ∷ front)) here) (ap (first_of event) is)
+      subst (λ (e : RingEvent). IsDue (situation_after script asked (before ++ e ∷ front)) here)
+      (ap (first_of event) is)
       (subst (λ (l : List RingEvent). IsDue (situation_after script asked l) here)
       (append_assoc before (event ∷ []) front)
       (due front rest here (ap others_of is)))
@@ -128,7 +131,8 @@ module _ (script : Script) (lane next : Lane) (state : CpuState) (stands : Stand
     one_due one =
         let closed : now.head < now.done =
         subst (λ (k : ℕ). k < now.done) head_now (subst (λ (k : ℕ). lane.core.head < k) done_now one.closed) in
-        more_due script state.wish state.events [] takes closed (none_due script state.wish (state.events ++ takes ∷ []))
+        more_due script state.wish state.events [] takes closed
+        (none_due script state.wish (state.events ++ takes ∷ []))
 
     abbrev SeenBy : Type 0
     SeenBy = (next.core.reader.seen ≡ now.done) ⊎ (next.core.reader.seen ≡ state.seen)
@@ -178,7 +182,8 @@ module _ (script : Script) (lane next : Lane) (state : CpuState) (stands : Stand
           by_take true is = ⊎_elim (λ all. inl all) (λ same. inr (same, inl is)) (seen_by answers.sees)
           by_take false is =
               let looked : Knows lane.core =
-              subst (λ (p : ReaderPhase). HasLooked p lane.core.reader.seen lane.core.done) (sym (stands.at_rest is)) tt in
+              subst (λ (p : ReaderPhase). HasLooked p lane.core.reader.seen lane.core.done) (sym (stands.at_rest is))
+              tt in
               ⊎_elim
               (λ all. inl (all ∙ done_now))
               (λ (same, none, way). inr (same ∙ sym stands.seen, inr (empty none, is_moving way)))
@@ -237,7 +242,8 @@ module _ (script : Script) (lane next : Lane) (state : CpuState) (stands : Stand
       reached = next_reached script lane next state stands xs (wish at) line;
       payloads = next_fits script lane next state stands xs (wish at) line;
       run = run_rests script.pages script.start lane.core next.core state.events stands.run
-          (ap (λ (c : Core). c.history) next_is) (sym (ap window_of next_is)) (ap (λ (c : Core). c.reader.taken) next_is);
+          (ap (λ (c : Core). c.history) next_is) (sym (ap window_of next_is))
+          (ap (λ (c : Core). c.reader.taken) next_is);
       frames =
           subst (λ (c : Core). FramesStand c.frames next.payloads state.frames) (sym next_is)
           (subst (λ (l : List (List ℕ)). FramesStand lane.core.frames l state.frames) (sym payloads_are) stands.frames);

@@ -5,8 +5,10 @@ use Rattle.trace_model.specs.Frames.{Purpose, for_record, Frame}
 use Rattle.trace_model.specs.Ring.{Core}
 use Rattle.trace_model.specs.Steps.{reads, wishes, Answer, Exchange}
 use Rattle.trace_model.proofs.steps.StepSound.{cases_of}
-use Rattle.text_model.specs.Script.{Command, begin_frame, step_frame, finish_frame, write, close, step_reader, take_page, wish, deliver}
-use Rattle.world_model.specs.Lanes.{Lane, lane_behind, FrameRun, StepsFrame, lacks_to_step, steps_on, FinishesFrame, lacks_to_finish, finishes, FinishesPushed, ReaderRun, LineRun}
+use Rattle.text_model.specs.Script.{Command, begin_frame, step_frame, finish_frame, write, close, step_reader}
+use Rattle.text_model.specs.Script.{take_page, wish, deliver}
+use Rattle.world_model.specs.Lanes.{Lane, lane_behind, FrameRun, StepsFrame, lacks_to_step, steps_on, FinishesFrame}
+use Rattle.world_model.specs.Lanes.{lacks_to_finish, finishes, FinishesPushed, ReaderRun, LineRun}
 use Rattle.world_model.proofs.FramesMove.{Moves, PushesNone, step_moves}
 use Rattle.world_model.proofs.LanePayloads.{pushes_none}
 use Rattle.line_model.specs.LineParts.{AreForRecords}
@@ -66,7 +68,8 @@ module _ (n size : ℕ) where
       (frames_keep n size (AreRecordsBelow depth) (moved_below depth) _ before after xs run are)
 
   -- a push, after which the frame that was pushed is finished, or nothing is done
-  pushed_keeps : (kind : Purpose) (before between after : Lane) (Refused : Type 0) (event : HistoryEvent) (answer : Answer)
+  pushed_keeps : (kind : Purpose) (before between after : Lane) (Refused : Type 0) (event : HistoryEvent)
+      (answer : Answer)
       (core : Core) (xs : List Exchange)
       → between.core ≡ core
       → PushCases Refused kind event before.core answer core

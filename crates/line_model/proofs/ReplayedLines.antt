@@ -1,5 +1,6 @@
 -- What a replay makes of a CPU's writer lines.
-use Rattle.std.proofs.Common.{◌≡◌, ◌≢◌, ℕ, suc, ◌<◌, ◌⊎◌, Bool, true, false, List, [], ◌∷◌, ◌++◌, length, get_or, Some, refl, sym, ap, ◌∙◌, subst, inl, inr, arith}
+use Rattle.std.proofs.Common.{◌≡◌, ◌≢◌, ℕ, suc, ◌<◌, ◌⊎◌, Bool, true, false, List, [], ◌∷◌, ◌++◌, length, get_or, Some}
+use Rattle.std.proofs.Common.{refl, sym, ap, ◌∙◌, subst, inl, inr, arith}
 use Rattle.std.specs.Prelude.{if◌then◌else◌, nat_eq, slice_set, All}
 use Rattle.std.specs.List.{slice_get}
 use Rattle.std.proofs.lemmas.Bool.{eq-eqb, ne_eqb}
@@ -9,14 +10,16 @@ use native.Mathlib.Decide.{ℕ_discrete}
 use Rattle.trace_model.specs.Steps.{Exchange}
 use Rattle.trace_model.specs.Window.{RingEvent}
 use Rattle.trace_model.proofs.collections.Elements.{some_is}
-use Rattle.text_model.specs.Script.{Command, begin_frame, step_frame, finish_frame, write, close, step_reader, take_page, wish, deliver, Script}
+use Rattle.text_model.specs.Script.{Command, begin_frame, step_frame, finish_frame, write, close, step_reader}
+use Rattle.text_model.specs.Script.{take_page, wish, deliver, Script}
 use Rattle.text_model.specs.ScriptLimits.{IsCommandWithin, IsWithinLimits}
 use Rattle.world_model.specs.Lanes.{Lane, IsNewLane, HasPayloads, LineRun}
 use Rattle.world_model.specs.World.{World, RunsLine, DeliversFill, delivers, lacks, Obeys, ObeysAll, WorldBehind}
 use Rattle.world_model.proofs.Lookups.{get_set_here, get_set_other}
 use Rattle.world_model.proofs.LanePayloads.{new_fits, line_fits}
 use Rattle.world_model.proofs.WorldsKept.{IsWorldKept, new_kept, obeys_kept, world_kept}
-use Rattle.line_model.specs.Lines.{LineState, first_state, LineParts, writer_line, writer_lines, IsBegunByLines, IsMadeByLines}
+use Rattle.line_model.specs.Lines.{LineState, first_state, LineParts, writer_line, writer_lines, IsBegunByLines}
+use Rattle.line_model.specs.Lines.{IsMadeByLines}
 use Rattle.line_model.specs.WriterCalls.{LineWriting, writer_of, first_writer, NoCalls, LineCalls}
 use Rattle.line_model.specs.LineParts.{IsBetweenLines}
 use Rattle.line_model.specs.ReplayedLines.{commands_of, ReplayMakesLines, ReplayCommitsWholeLines, WorldsMakeLines}
@@ -52,7 +55,8 @@ module _ (script : Script) (line : ℕ) (before after : World) (kept : IsWorldKe
       → slice_get after.lanes cpu ≡ slice_get before.lanes cpu
       → writer_line cpu command ≡ false
       → Here command
-  elsewhere command same not = record { next = lane; next_is = same ∙ at; fit = fit; called = inr (not, [], (refl, refl, refl)) }
+  elsewhere command same not =
+      record { next = lane; next_is = same ∙ at; fit = fit; called = inr (not, [], (refl, refl, refl)) }
 
   module _ (command : Command) (of : ℕ) (r : RunsLine script line command of before after) where
     apart : cpu ≢ of → slice_get after.lanes cpu ≡ slice_get before.lanes cpu
@@ -96,11 +100,18 @@ module _ (script : Script) (line : ℕ) (before after : World) (kept : IsWorldKe
 
     -- a line of the reader
     by_reader : (cpu ≡ of
-        → (made : List Exchange) × NoCalls (writer_of lane.core) lane.payloads made (writer_of r.next.core) r.next.payloads)
+        → (made : List Exchange)
+        × NoCalls (writer_of lane.core) lane.payloads made (writer_of r.next.core) r.next.payloads)
         → writer_line cpu command ≡ false
         → Here command
     by_reader none not = dite (ℕ_discrete cpu of)
-        (λ e. record { next = r.next; next_is = next_at e; fit = own_fit e; called = let (made, calls) = none e in inr (not, made, calls) })
+        (λ e.
+        record {
+          next = r.next;
+          next_is = next_at e;
+          fit = own_fit e;
+          called = let (made, calls) = none e in inr (not, made, calls);
+        })
         (λ ne. elsewhere command (apart ne) not)
 
   delivered : (collector of fill : ℕ)

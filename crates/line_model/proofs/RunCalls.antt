@@ -1,17 +1,23 @@
 -- What a line of a replay has with its ring are, for the writer, the calls of that line.
-use Rattle.std.proofs.Common.{◌≡◌, ◌≢◌, ℕ, suc, ◌-◌, ◌≤◌, List, [], ◌∷◌, length, drop, refl, sym, ap, ◌∙◌, subst, inl, inr, arith}
+use Rattle.std.proofs.Common.{◌≡◌, ◌≢◌, ℕ, suc, ◌-◌, ◌≤◌, List, [], ◌∷◌, length, drop, refl, sym, ap, ◌∙◌, subst, inl}
+use Rattle.std.proofs.Common.{inr, arith}
 use Rattle.trace_model.specs.Frames.{Frame, WriteFault}
 use Rattle.trace_model.specs.Ring.{Core}
 use Rattle.trace_model.specs.Steps.{Event, pushes, pushes_close, reads, wishes, Answer, pushed, refused, Step, Exchange}
 use Rattle.trace_model.proofs.steps.StepSound.{cases_of}
-use Rattle.text_model.specs.Script.{begin_frame, step_frame, finish_frame, write, close, step_reader, take_page, wish, deliver}
+use Rattle.text_model.specs.Script.{begin_frame, step_frame, finish_frame, write, close, step_reader, take_page, wish}
+use Rattle.text_model.specs.Script.{deliver}
 use Rattle.ring_model.specs.Reached.{IsReached}
 use Rattle.ring_model.specs.Seats.{IsOfReader}
 use Rattle.ring_model.proofs.partition.RingsKept.{reached_further}
 use Rattle.ring_model.proofs.seats.SeatSteps.{reader_leaves_writer}
-use Rattle.world_model.specs.Lanes.{Lane, lane_behind, payloads_left, payloads_with, FrameRun, StepsFrame, lacks_to_step, steps_on, FinishesFrame, lacks_to_finish, finishes, PushesFrame, FinishesPushed, ReaderRun, Wishes}
+use Rattle.world_model.specs.Lanes.{Lane, lane_behind, payloads_left, payloads_with, FrameRun, StepsFrame}
+use Rattle.world_model.specs.Lanes.{lacks_to_step, steps_on, FinishesFrame, lacks_to_finish, finishes, PushesFrame}
+use Rattle.world_model.specs.Lanes.{FinishesPushed, ReaderRun, Wishes}
 use Rattle.world_model.proofs.LanePayloads.{as_many}
-use Rattle.line_model.specs.WriterCalls.{LineWriting, writer_of, IsWriterCall, TopCalls, StepsCalls, none_to_step, steps_top, FinishCalls, none_to_finish, finishes_top, BeginCalls, begins_frame, begins_none, WholeCalls, writes_frame, writes_none, NoCalls}
+use Rattle.line_model.specs.WriterCalls.{LineWriting, writer_of, IsWriterCall, TopCalls, StepsCalls, none_to_step}
+use Rattle.line_model.specs.WriterCalls.{steps_top, FinishCalls, none_to_finish, finishes_top, BeginCalls, begins_frame}
+use Rattle.line_model.specs.WriterCalls.{begins_none, WholeCalls, writes_frame, writes_none, NoCalls}
 use Rattle.line_model.specs.ReplayedLines.{LineRunsAreCalls}
 use Rattle.line_model.proofs.PushParts.{Pushing, pushing_of}
 use Rattle.line_model.proofs.CloseParts.{Closing, closing_of}
@@ -66,7 +72,8 @@ module _ (n size start : ℕ) where
         → 1 ≤ count
         → StepsFrame n size count before xs after
         → (made : List Exchange)
-        × StepsCalls n size start count (writer_of before.core) before.payloads made (writer_of after.core) after.payloads
+        × StepsCalls n size start count (writer_of before.core) before.payloads made (writer_of after.core)
+        after.payloads
     steps_calls count xs one (lacks_to_step h) =
         let (same, all) = stays_calls h.stays in ([], none_to_step h.none refl same all)
     steps_calls count [] one (steps_on some same (few, inl all)) = absurd (let none : 0 ≡ count = all in omega arith)
@@ -217,7 +224,8 @@ module _ (n size start : ℕ) where
       → Wishes n size before xs after
       → NoCalls (writer_of before.core) before.payloads [] (writer_of after.core) after.payloads
   wish_calls before after xs many w =
-      let (none, same, all) = behind_stays before w.core (reader_stays before.core wishes w.answer w.core tt w.step) many in
+      let (none, same, all) =
+      behind_stays before w.core (reader_stays before.core wishes w.answer w.core tt w.step) many in
       (refl, ap (λ (l : Lane). writer_of l.core) w.after_is ∙ same, ap (λ (l : Lane). l.payloads) w.after_is ∙ all)
 
 pub line_runs_are_calls : LineRunsAreCalls

@@ -1,9 +1,11 @@
 -- The calls for a frame that is alone are served.
-use Rattle.std.proofs.Common.{◌≡◌, ◌≢◌, ℕ, ◌+◌, ◌≤◌, ◌⊎◌, List, [], ◌∷◌, length, refl, sym, ap, ◌∙◌, subst, inl, inr, arith}
+use Rattle.std.proofs.Common.{◌≡◌, ◌≢◌, ℕ, ◌+◌, ◌≤◌, ◌⊎◌, List, [], ◌∷◌, length, refl, sym, ap, ◌∙◌, subst, inl, inr}
+use Rattle.std.proofs.Common.{arith}
 use Rattle.trace_model.specs.Words.{padded}
 use Rattle.trace_model.specs.History.{HistoryEvent, push, push_close, open_fill, Reservation, reserved_records}
 use Rattle.trace_model.specs.Packing.{tail_of, IsPacked}
-use Rattle.trace_model.specs.Frames.{Purpose, for_record, for_close, Progress, waiting, reserved, left, idle, Frame, crowded, worn}
+use Rattle.trace_model.specs.Frames.{Purpose, for_record, for_close, Progress, waiting, reserved, left, idle, Frame}
+use Rattle.trace_model.specs.Frames.{crowded, worn}
 use Rattle.trace_model.specs.Ring.{Core}
 use Rattle.trace_model.specs.Steps.{Event, Answer, steps, ends, pushed, refused, Exchange, Step}
 use Rattle.trace_model.proofs.histories.NextRecords.{records_snoc}
@@ -18,7 +20,8 @@ use Rattle.ring_model.proofs.frames.StackSteps.{closed_at_rest}
 use Rattle.ring_model.proofs.histories.StepsAsEvents.{run_reported}
 use Rattle.world_model.specs.Lanes.{event_in, event_on_top, payloads_left}
 use Rattle.line_model.specs.WriterCalls.{LineWriting, writer_of, IsWriterCall, TopCalls}
-use Rattle.line_model.specs.CallEvents.{CallMakes, goes_on, begins, has_reserved, leaves, leaves_fill, closes_one, finds_wish, is_gone}
+use Rattle.line_model.specs.CallEvents.{CallMakes, goes_on, begins, has_reserved, leaves, leaves_fill, closes_one}
+use Rattle.line_model.specs.CallEvents.{finds_wish, is_gone}
 use Rattle.line_model.specs.SingleFrames.{push_of, IsServed, AreServed, SingleFramesAreServed}
 use Rattle.line_model.proofs.FewFills.{fills_are_few}
 use Rattle.line_model.proofs.StepsMake.{steps_make}
@@ -63,7 +66,9 @@ module _ (n size start records : ℕ) (c : Core) (x : Exchange) (after : Core) (
   few : tail_of c.history ≢ [] → c.opened ≤ start + length (reserved_records c.history)
   few some =
       let (events, run) = run_reported n size start c reached in
-      let packed = subst (λ (l : List HistoryEvent). IsPacked l size) (sym run.history_events) (runs_packed n size start c kept) in
+      let packed =
+      subst (λ (l : List HistoryEvent). IsPacked l size) (sym run.history_events)
+      (runs_packed n size start c kept) in
       let (all, held) = fills_are_few n size start events _ run.window packed in
       subst (λ (l : List HistoryEvent). c.opened ≤ start + length (reserved_records l)) run.history_events
       (held (λ none. some (ap tail_of (sym run.history_events) ∙ none)))
@@ -183,7 +188,8 @@ module _ (n size start records : ℕ) (c : Core) (x : Exchange) (after : Core) (
       by_state payloads frame frame.state refl top e (λ at. absurd (not at))
 
 module _ (n size start records : ℕ) where
-  calls_served : (s : LineWriting) (payloads : List (List ℕ)) (calls : List Exchange) (t : LineWriting) (lefts : List (List ℕ))
+  calls_served : (s : LineWriting) (payloads : List (List ℕ)) (calls : List Exchange) (t : LineWriting)
+      (lefts : List (List ℕ))
       → IsAlone records s
       → TopCalls n size start 0 s payloads calls t lefts
       → AreServed n start records calls

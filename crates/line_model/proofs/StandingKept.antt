@@ -1,9 +1,11 @@
 -- A ring beside an account: how many frames there are, which window its events lead to, and that its events go on.
-use Rattle.std.proofs.Common.{◌≡◌, ◌≢◌, ℕ, zero, suc, ◌+◌, ◌-◌, ◌<◌, List, [], ◌∷◌, ◌++◌, length, drop, Some, refl, sym, ap, ◌∙◌, subst, arith, append-nil}
+use Rattle.std.proofs.Common.{◌≡◌, ◌≢◌, ℕ, zero, suc, ◌+◌, ◌-◌, ◌<◌, List, [], ◌∷◌, ◌++◌, length, drop, Some, refl, sym}
+use Rattle.std.proofs.Common.{ap, ◌∙◌, subst, arith, append-nil}
 use Rattle.std.specs.List.{slice_get}
 use Rattle.std.proofs.lemmas.Option.{none-some}
 use Rattle.trace_model.specs.History.{HistoryEvent}
-use Rattle.trace_model.specs.Window.{Window, first_window, RingEvent, acts, takes, history_events_of, window_after, MayMove, WindowRunFrom}
+use Rattle.trace_model.specs.Window.{Window, first_window, RingEvent, acts, takes, history_events_of, window_after}
+use Rattle.trace_model.specs.Window.{MayMove, WindowRunFrom}
 use Rattle.trace_model.specs.Frames.{owned_update, Frame}
 use Rattle.trace_model.specs.Ring.{TakenFill, Core, IsMoved, window_of}
 use Rattle.trace_model.proofs.collections.Elements.{some_is}

@@ -1,19 +1,28 @@
 -- What one step of the top frame makes.
-use Rattle.std.proofs.Common.{◌≡◌, ◌≢◌, ℕ, ◌+◌, ◌≤◌, ◌⊎◌, List, [], ◌∷◌, ◌++◌, Some, None, refl, sym, ap, ◌∙◌, subst, inl, inr, arith}
+use Rattle.std.proofs.Common.{◌≡◌, ◌≢◌, ℕ, ◌+◌, ◌≤◌, ◌⊎◌, List, [], ◌∷◌, ◌++◌, Some, None, refl, sym, ap, ◌∙◌, subst}
+use Rattle.std.proofs.Common.{inl, inr, arith}
 use Rattle.trace_model.specs.declared.limits.TheConstants.{LINK_FILLS}
 use Rattle.trace_model.specs.History.{open_fill, Reservation, close_frame, writer_after}
 use Rattle.trace_model.specs.Packing.{tail_of, FitsBehind, next_reservation}
-use Rattle.trace_model.specs.Frames.{Purpose, for_record, for_close, Progress, waiting, reserved, left, owner, helper, Phase, idle, looking, claiming, looking_next, marking, clearing, opening, releasing, wishing, Frame, pushed_frames}
+use Rattle.trace_model.specs.Frames.{Purpose, for_record, for_close, Progress, waiting, reserved, left, owner, helper}
+use Rattle.trace_model.specs.Frames.{Phase, idle, looking, claiming, looking_next, marking, clearing, opening}
+use Rattle.trace_model.specs.Frames.{releasing, wishing, Frame, pushed_frames}
 use Rattle.trace_model.specs.Ring.{Core}
-use Rattle.trace_model.specs.Steps.{steps, Answer, NeedsPage, new_reservation, closing_phase, after_next, after_begin, with_new_tail, Step}
-use Rattle.trace_model.proofs.steps.StepCases.{BeginsAgain, IdleStep, reserves, finds_nothing, is_crowded, is_worn, notes, FrameStep, load_link_late, sees_free, sees_header, sees_update, claim_late, claims, claim_fails, load_next_late, sees_normal, sees_other, mark_late, marks, mark_fails, clears, open_late, opens, releases, releases_last, grants, closes_more, goes_away}
+use Rattle.trace_model.specs.Steps.{steps, Answer, NeedsPage, new_reservation, closing_phase, after_next, after_begin}
+use Rattle.trace_model.specs.Steps.{with_new_tail, Step}
+use Rattle.trace_model.proofs.steps.StepCases.{BeginsAgain, IdleStep, reserves, finds_nothing, is_crowded, is_worn}
+use Rattle.trace_model.proofs.steps.StepCases.{notes, FrameStep, load_link_late, sees_free, sees_header, sees_update}
+use Rattle.trace_model.proofs.steps.StepCases.{claim_late, claims, claim_fails, load_next_late, sees_normal, sees_other}
+use Rattle.trace_model.proofs.steps.StepCases.{mark_late, marks, mark_fails, clears, open_late, opens, releases}
+use Rattle.trace_model.proofs.steps.StepCases.{releases_last, grants, closes_more, goes_away}
 use Rattle.trace_model.proofs.histories.NextEvent.{opened_stack}
 use Rattle.trace_model.proofs.packing.PackedHistories.{wanted_record, wanted_close}
 use Rattle.ring_model.specs.RingKept.{IsRingKept}
 use Rattle.ring_model.proofs.frames.StackSteps.{top_agrees, releasing_left, wishing_left}
 use Rattle.ring_model.proofs.frames.TopSteps.{top_stepped}
 use Rattle.line_model.specs.WriterCalls.{writer_of}
-use Rattle.line_model.specs.CallEvents.{LeavesNone, DoesntFit, CallMakes, goes_on, begins, has_reserved, leaves, leaves_fill, closes_one, finds_wish, is_gone}
+use Rattle.line_model.specs.CallEvents.{LeavesNone, DoesntFit, CallMakes, goes_on, begins, has_reserved, leaves}
+use Rattle.line_model.specs.CallEvents.{leaves_fill, closes_one, finds_wish, is_gone}
 
 abbrev framed : Purpose → Progress → Phase → Frame
 framed kind state phase = record { kind = kind; state = state; phase = phase }

@@ -1,20 +1,32 @@
 -- One step of the frame on top, beside an account: which events it makes, each its own and due, and what it leaves.
-use Rattle.std.proofs.Common.{◌≡◌, ◌≢◌, ℕ, suc, ◌+◌, ◌-◌, ◌<◌, ◌≤◌, ◌⊎◌, Bool, true, false, List, [], ◌∷◌, ◌++◌, length, drop, Option, Some, None, refl, sym, ap, ◌∙◌, subst, inl, inr, ⊎_elim, arith, append_assoc, append-nil}
+use Rattle.std.proofs.Common.{◌≡◌, ◌≢◌, ℕ, suc, ◌+◌, ◌-◌, ◌<◌, ◌≤◌, ◌⊎◌, Bool, true, false, List, [], ◌∷◌, ◌++◌, length}
+use Rattle.std.proofs.Common.{drop, Option, Some, None, refl, sym, ap, ◌∙◌, subst, inl, inr, ⊎_elim, arith}
+use Rattle.std.proofs.Common.{append_assoc, append-nil}
 use Rattle.std.specs.Prelude.{if◌then◌else◌, ◌==◌}
 use mathlib.Core.Logic.{dite}
 use native.Mathlib.Decide.{dec_le}
 use Rattle.trace_model.specs.declared.limits.TheConstants.{LINK_FILLS}
 use Rattle.trace_model.specs.Words.{padded}
-use Rattle.trace_model.specs.History.{push, push_close, open_fill, reserve, leave, wished, Reservation, PushedFrame, close_frame, writer_after, reserved_records, reservation_for}
+use Rattle.trace_model.specs.History.{push, push_close, open_fill, reserve, leave, wished, Reservation, PushedFrame}
+use Rattle.trace_model.specs.History.{close_frame, writer_after, reserved_records, reservation_for}
 use Rattle.trace_model.proofs.histories.NextEvent.{opened_stack, settled_at_rest}
 use Rattle.trace_model.specs.Packing.{opens_of, tail_of, fill_len, is_wished}
 use Rattle.trace_model.specs.Fitting.{NeedsFill}
-use Rattle.trace_model.specs.Window.{Window, RingEvent, acts, closes, takes, loses, history_events_of, window_after, WindowRunFrom}
-use Rattle.trace_model.specs.Frames.{Purpose, for_record, for_close, Progress, waiting, reserved, left, Role, owner, helper, Phase, idle, looking, claiming, looking_next, marking, clearing, opening, releasing, wishing, noted_fill, owned_update, pushed_frame, pushed_onto, Frame, pushed_frames}
+use Rattle.trace_model.specs.Window.{Window, RingEvent, acts, closes, takes, loses, history_events_of, window_after}
+use Rattle.trace_model.specs.Window.{WindowRunFrom}
+use Rattle.trace_model.specs.Frames.{Purpose, for_record, for_close, Progress, waiting, reserved, left, Role, owner}
+use Rattle.trace_model.specs.Frames.{helper, Phase, idle, looking, claiming, looking_next, marking, clearing, opening}
+use Rattle.trace_model.specs.Frames.{releasing, wishing, noted_fill, owned_update, pushed_frame, pushed_onto, Frame}
+use Rattle.trace_model.specs.Frames.{pushed_frames}
 use Rattle.trace_model.specs.Ring.{Reader, Core, window_of}
-use Rattle.trace_model.specs.Steps.{Event, ends, Answer, Step, closing_phase, frames_after_leave, with_new_tail, after_begin, after_next, IsGranted, NeedsPage}
+use Rattle.trace_model.specs.Steps.{Event, ends, Answer, Step, closing_phase, frames_after_leave, with_new_tail}
+use Rattle.trace_model.specs.Steps.{after_begin, after_next, IsGranted, NeedsPage}
 use Rattle.trace_model.proofs.packing.PackedHistories.{tail_is}
-use Rattle.trace_model.proofs.steps.StepCases.{BeginsAgain, IdleStep, reserves, finds_nothing, is_crowded, is_worn, notes, FrameStep, load_link_late, sees_free, sees_header, sees_update, claim_late, claims, claim_fails, load_next_late, sees_normal, sees_other, mark_late, marks, mark_fails, clears, open_late, opens, releases, releases_last, grants, closes_more, goes_away}
+use Rattle.trace_model.proofs.steps.StepCases.{BeginsAgain, IdleStep, reserves, finds_nothing, is_crowded, is_worn}
+use Rattle.trace_model.proofs.steps.StepCases.{notes, FrameStep, load_link_late, sees_free, sees_header, sees_update}
+use Rattle.trace_model.proofs.steps.StepCases.{claim_late, claims, claim_fails, load_next_late, sees_normal, sees_other}
+use Rattle.trace_model.proofs.steps.StepCases.{mark_late, marks, mark_fails, clears, open_late, opens, releases}
+use Rattle.trace_model.proofs.steps.StepCases.{releases_last, grants, closes_more, goes_away}
 use Rattle.trace_model.proofs.steps.StepSound.{cases_of}
 use Rattle.trace_model.proofs.steps.EventSteps.{top_step, top_ends}
 use Rattle.text_model.specs.Script.{Script}
@@ -24,7 +36,8 @@ use Rattle.ring_model.specs.KeptPacking.{FramesNeed}
 use Rattle.ring_model.specs.RingKept.{IsRingKept}
 use Rattle.ring_model.specs.RunsAsEvents.{fills_taken, numbers_of}
 use Rattle.ring_model.specs.Seats.{IsOfReader, ReaderStays}
-use Rattle.ring_model.proofs.histories.HistorySteps.{top_agrees, releasing_left, wishing_left, stack_waiting, stack_reserved, stack_empty, top_stack}
+use Rattle.ring_model.proofs.histories.HistorySteps.{top_agrees, releasing_left, wishing_left, stack_waiting}
+use Rattle.ring_model.proofs.histories.HistorySteps.{stack_reserved, stack_empty, top_stack}
 use Rattle.ring_model.proofs.links.FrameChanges.{top_kept}
 use Rattle.ring_model.proofs.links.LinkFills.{header_inside}
 use Rattle.ring_model.proofs.partition.RingsKept.{reached_kept, reached_further}
@@ -35,7 +48,8 @@ use Rattle.world_model.specs.RunEvents.{AreEventsOf}
 use Rattle.world_model.proofs.FramesMove.{PushesNone, step_moves}
 use Rattle.world_model.proofs.LanePayloads.{fit_moved}
 use Rattle.line_model.specs.CallEvents.{IsRecordOnTop}
-use Rattle.line_model.specs.Due.{Situation, situation_after, IsFillNeededFor, IsFillNeeded, HasNoFill, HasNoRecord, Leaves, IsDue}
+use Rattle.line_model.specs.Due.{Situation, situation_after, IsFillNeededFor, IsFillNeeded, HasNoFill, HasNoRecord}
+use Rattle.line_model.specs.Due.{Leaves, IsDue}
 use Rattle.line_model.specs.Accounts.{LineFrame, CpuState, IsThere, IsOwn, Does, with_own}
 use Rattle.line_model.proofs.Standing.{FrameStands, FramesStand, Stands, IsFresh, StaysOrGoes}
 use Rattle.line_model.proofs.WishesKept.{Serves, reached_serves}
@@ -582,7 +596,9 @@ module _ (script : Script) (before : Lane) (state : CpuState) (p : Option (List 
           afterwards : IsDue (situation_moved s (acts open_fill)) (acts (leave None))
           afterwards = let st = opened_stack c.history (close_frame ∷ pushed_frames fs) (stack_of_kind for_close k w) in
               subst (λ (xs : List PushedFrame). Leaves (situation_moved s (acts open_fill)) xs None) (sym st)
-              (λ again. absurd (subst (IsFillNeededFor (situation_moved s (acts open_fill))) st again (opened_tail c.history)))
+              (λ again.
+              absurd
+              (subst (IsFillNeededFor (situation_moved s (acts open_fill))) st again (opened_tail c.history)))
 
           second : IsDue (situation_after script state.wish (state.events ++ acts open_fill ∷ [])) (acts (leave None))
           second = subst (λ (x : Situation). IsDue x (acts (leave None)))
@@ -685,7 +701,8 @@ module _ (script : Script) (before : Lane) (state : CpuState) (p : Option (List 
   unneeded : frame.phase ≡ wishing → fs ≡ [] → IsFillNeeded s → ⊥
   unneeded at alone needs =
       let is_left = wishing_left frame.kind frame.state (may_be wishing at) in
-      let found = (subst (IsFillNeededFor s) (stack_empty n script.start c frame fs kept.history top is_left alone) needs).0 in
+      let found =
+      (subst (IsFillNeededFor s) (stack_empty n script.start c frame fs kept.history top is_left alone) needs).0 in
       let serves = subst (Serves c.opened) (top ∙ ap (λ (xs : List Frame). frame ∷ xs) alone)
       (reached_serves n size script.start c stands.reached found) in
       let both : None ≡ Some c.opened = sym (ap noted_fill at) ∙ serves.1 in cc
@@ -785,9 +802,6 @@ module _ (script : Script) (before : Lane) (state : CpuState) (p : Option (List 
       (λ closing waits o e.
       fresh frame fs o top closing waits (ap noted_fill at ∙ e)
       ∙ ap (λ (v : Window). v.opened) (sym (ap window_of is ∙ w)))
-
-  some_of : (a b : ℕ) → Some a ≡ Some b → a ≡ b
-  some_of a b e = cc
 
   frame_does : (phase : Phase)
       → frame.phase ≡ phase

@@ -1,5 +1,7 @@
 -- What the frame on top does in a run, beside an account: what it does in its steps, one after the other.
-use Rattle.std.proofs.Common.{◌≡◌, ◌≢◌, ℕ, ◌<◌, ◌≤◌, Bool, true, false, List, [], ◌∷◌, ◌++◌, length, Option, Some, None, refl, sym, ap, ◌∙◌, subst, inl, inr, ⊎_elim, arith, append_assoc, append-nil, length-append}
+use Rattle.std.proofs.Common.{◌≡◌, ◌≢◌, ℕ, ◌<◌, ◌≤◌, Bool, true, false, List, [], ◌∷◌, ◌++◌, length, Option, Some, None}
+use Rattle.std.proofs.Common.{refl, sym, ap, ◌∙◌, subst, inl, inr, ⊎_elim, arith, append_assoc, append-nil}
+use Rattle.std.proofs.Common.{length-append}
 use Rattle.trace_model.specs.History.{HistoryEvent, reserve}
 use Rattle.trace_model.specs.Window.{RingEvent, acts, history_events_of}
 use Rattle.trace_model.specs.Frames.{Purpose, Progress, waiting, reserved, left, idle, noted_fill, Frame}

@@ -4,12 +4,15 @@ use Rattle.std.specs.Prelude.{slice_index_or}
 use Rattle.trace_model.specs.History.{HistoryEvent, open_fill, reserve}
 use Rattle.trace_model.specs.Packing.{fill_len}
 use Rattle.trace_model.specs.Steps.{Exchange}
-use Rattle.text_model.specs.Script.{Command, begin_frame, step_frame, finish_frame, write, close, step_reader, take_page, wish, deliver}
+use Rattle.text_model.specs.Script.{Command, begin_frame, step_frame, finish_frame, write, close, step_reader}
+use Rattle.text_model.specs.Script.{take_page, wish, deliver}
 use Rattle.ring_model.proofs.contents.PackedRuns.{runs_packed}
 use Rattle.ring_model.proofs.partition.RingsKept.{reached_kept, reached_further}
 use Rattle.world_model.specs.Lanes.{payloads_left}
 use Rattle.line_model.specs.Lines.{first_state}
-use Rattle.line_model.specs.WriterCalls.{LineWriting, first_writer, IsWriterCall, TopCalls, StepsCalls, none_to_step, steps_top, FinishCalls, none_to_finish, finishes_top, begins_frame, begins_none, writes_frame, writes_none, LineCalls, LinesCalls, RestCalls}
+use Rattle.line_model.specs.WriterCalls.{LineWriting, first_writer, IsWriterCall, TopCalls, StepsCalls, none_to_step}
+use Rattle.line_model.specs.WriterCalls.{steps_top, FinishCalls, none_to_finish, finishes_top, begins_frame}
+use Rattle.line_model.specs.WriterCalls.{begins_none, writes_frame, writes_none, LineCalls, LinesCalls, RestCalls}
 use Rattle.line_model.specs.WriterHistories.{IsWellFormed, WritersFormHistories, WritersCommitWholeLines}
 use Rattle.line_model.proofs.LineCallsMade.{lines_calls_make}
 use Rattle.line_model.proofs.PartsJoined.{start_between}

@@ -1,18 +1,24 @@
 -- The lines of a writer, from a ring that stands beside an account: they are lines of the account, and it stands again.
-use Rattle.std.proofs.Common.{◌≡◌, ◌≢◌, ℕ, ◌≤◌, Bool, true, false, List, [], ◌∷◌, ◌++◌, length, Some, None, refl, sym, ap, ◌∙◌, subst, inl, inr, ⊎_elim, arith, append_assoc}
+use Rattle.std.proofs.Common.{◌≡◌, ◌≢◌, ℕ, ◌≤◌, Bool, true, false, List, [], ◌∷◌, ◌++◌, length, Some, None, refl, sym}
+use Rattle.std.proofs.Common.{ap, ◌∙◌, subst, inl, inr, ⊎_elim, arith, append_assoc}
 use Rattle.trace_model.specs.declared.limits.TheConstants.{MAX_FRAMES}
 use Rattle.trace_model.specs.History.{HistoryEvent, push, push_close, open_fill, reserve, leave, wished}
 use Rattle.trace_model.specs.Frames.{Purpose, for_record, for_close, idle, noted_fill, Frame, WriteFault}
 use Rattle.trace_model.specs.Window.{RingEvent, acts, closes, takes, loses, history_events_of}
 use Rattle.trace_model.specs.Ring.{Core}
-use Rattle.trace_model.specs.Steps.{pushes, pushes_close, Answer, pushed, refused, with_history_event, with_frame, Exchange}
+use Rattle.trace_model.specs.Steps.{pushes, pushes_close, Answer, pushed, refused, with_history_event, with_frame}
+use Rattle.trace_model.specs.Steps.{Exchange}
 use Rattle.trace_model.proofs.steps.StepSound.{cases_of}
 use Rattle.ring_model.specs.Reached.{IsReached}
 use Rattle.ring_model.proofs.partition.RingsKept.{reached_further}
 use Rattle.text_model.specs.Script.{Script}
-use Rattle.world_model.specs.Lanes.{Lane, FitsKind, lane_with, FrameRun, IsGone, StepsFrame, lacks_to_step, steps_on, FinishesFrame, lacks_to_finish, finishes, PushesFrame, FinishesPushed, WritesFrame}
+use Rattle.world_model.specs.Lanes.{Lane, FitsKind, lane_with, FrameRun, IsGone, StepsFrame, lacks_to_step, steps_on}
+use Rattle.world_model.specs.Lanes.{FinishesFrame, lacks_to_finish, finishes, PushesFrame, FinishesPushed, WritesFrame}
 use Rattle.line_model.specs.Due.{Situation, situation_after, IsDue}
-use Rattle.line_model.specs.Accounts.{LineFrame, CpuState, IsOwn, frame_after, Does, HasGone, with_own, IsIdle, new_frame, IsRefused, Begins, refuses_frame, pushes_frame, MayGo, stays_on, is_gone, StepsTop, FinishesTop, finishes_it, WritesWhole, refuses_whole, writes_it}
+use Rattle.line_model.specs.Accounts.{LineFrame, CpuState, IsOwn, frame_after, Does, HasGone, with_own, IsIdle}
+use Rattle.line_model.specs.Accounts.{new_frame, IsRefused, Begins, refuses_frame, pushes_frame, MayGo, stays_on}
+use Rattle.line_model.specs.Accounts.{is_gone, StepsTop, FinishesTop, finishes_it, WritesWhole, refuses_whole}
+use Rattle.line_model.specs.Accounts.{writes_it}
 use Rattle.line_model.specs.CallEvents.{IsRecordOnTop}
 use Rattle.line_model.specs.LineParts.{AreForRecords}
 use Rattle.line_model.proofs.Standing.{FramesStand, Stands, AreDue, IsFresh, StaysOrGoes, TopDoes}
@@ -130,13 +136,15 @@ module _ (script : Script) (lane : Lane) (state : CpuState) (stands : Stands scr
       → between ≡ lane_with lane payload answer core
       → PushCases Why kind event lane.core answer core
       → PushStands Refused event payload answer between
-  push_stands Why Refused kind event payload answer between core fits quiet to back reached is (is_pushed a may core_is) =
+  push_stands Why Refused kind event payload answer between core fits quiet to back reached is
+      (is_pushed a may core_is) =
       now_pushed a (λ no. may (back no))
       (subst (λ (l : Lane). Stands script l (with_pushed event payload))
       (sym (is ∙ (λ i. lane_with lane payload (a i) (core_is i))))
       (pushed_stands kind event payload fits quiet
       (subst (λ (c : Core). IsReached script.pages script.size script.start c) core_is reached)))
-  push_stands Why Refused kind event payload answer between core fits quiet to back reached is (is_refused why a because core_is) =
+  push_stands Why Refused kind event payload answer between core fits quiet to back reached is
+      (is_refused why a because core_is) =
       now_refused why a (to because) (is ∙ (λ i. lane_with lane payload (a i) (core_is i)))
 
   many : length state.frames ≡ length lane.core.frames
@@ -151,16 +159,19 @@ module _ (script : Script) (lane : Lane) (state : CpuState) (stands : Stands scr
       (for_record moment (length payload)) _ payload x.answer between p.core refl (λ n h w. (tt, refl))
       (λ why. subst (Refuses script.size moment (length payload)) (sym many) why)
       (λ why. subst (Refuses script.size moment (length payload)) many why)
-      (reached_further script.pages script.size script.start lane.core _ x.answer p.core stands.reached p.step) p.after_is
+      (reached_further script.pages script.size script.start lane.core _ x.answer p.core stands.reached p.step)
+      p.after_is
       (record_push script.pages script.size lane.core moment (length payload) x.answer p.core (cases_of p.step))
 
   close_pushes : (x : Exchange) (between : Lane)
       → PushesFrame script.pages script.size pushes_close [] lane x between
       → PushStands (MAX_FRAMES ≤ length state.frames) push_close [] x.answer between
   close_pushes x between p =
-      push_stands (MAX_FRAMES ≤ length lane.core.frames) _ for_close _ [] x.answer between p.core refl (λ n h w. (tt, refl))
+      push_stands (MAX_FRAMES ≤ length lane.core.frames) _ for_close _ [] x.answer between p.core refl
+      (λ n h w. (tt, refl))
       (λ why. subst (λ (k : ℕ). MAX_FRAMES ≤ k) (sym many) why) (λ why. subst (λ (k : ℕ). MAX_FRAMES ≤ k) many why)
-      (reached_further script.pages script.size script.start lane.core _ x.answer p.core stands.reached p.step) p.after_is
+      (reached_further script.pages script.size script.start lane.core _ x.answer p.core stands.reached p.step)
+      p.after_is
       (close_push script.pages script.size lane.core x.answer p.core (cases_of p.step))
 
   -- nothing is done
@@ -255,7 +266,8 @@ module _ (script : Script) (lane : Lane) (state : CpuState) (stands : Stands scr
       has_some : xs ≢ []
       has_some none =
           let same : lane ≡ next =
-          subst (λ (l : List Exchange). FrameRun script.pages script.size (length lane.core.frames) lane l next) none run in
+          subst (λ (l : List Exchange). FrameRun script.pages script.size (length lane.core.frames) lane l next) none
+          run in
           let long = ap (λ (l : Lane). length l.core.frames) same in
           let made = ap (λ (l : List Exchange). length l) none in
           ⊎_elim (λ all. (let no : ⊥ = omega (arith, all, made, least) in no))
@@ -277,9 +289,11 @@ module _ (script : Script) (lane : Lane) (state : CpuState) (stands : Stands scr
           makes : (after : CpuState)
               → MayGo (situation_after script state.wish (state.events ++ d.own)) state d.own below d.next after
               → StepsTop script count state d.own after
-          makes after may = StepsTop.steps_on top d.next below is few (λ fresh spare. d.first on_top has_some fresh spare) d.does may
+          makes after may =
+              StepsTop.steps_on top d.next below is few (λ fresh spare. d.first on_top has_some fresh spare) d.does may
 
-          by_end : StaysOrGoes script lane state d.own d.next below next → PartStands script (StepsTop script count) state next
+          by_end : StaysOrGoes script lane state d.own d.next below next
+              → PartStands script (StepsTop script count) state next
           by_end (inl (there, deep, again)) = record {
             own = d.own;
             after = with_own state d.own (d.next ∷ below);
@@ -333,7 +347,8 @@ module _ (script : Script) (lane : Lane) (state : CpuState) (stands : Stands scr
       → PartStands script (FinishesTop script) state next
   finish_stands next xs are (lacks_to_finish h) =
       idle_stands (FinishesTop script) next h.stays
-      (λ idle. FinishesTop.lacks_to_finish (no_lines lane.core.frames lane.payloads state.frames stands.frames h.none) idle)
+      (λ idle.
+      FinishesTop.lacks_to_finish (no_lines lane.core.frames lane.payloads state.frames stands.frames h.none) idle)
   finish_stands next xs are (finishes some run ended) =
       let (top, below, is) = some_lines lane.core.frames lane.payloads state.frames stands.frames some in
       let g = goes_away top below next xs is (record_fresh are) run ended in record {
@@ -363,7 +378,8 @@ module _ (script : Script) (lane : Lane) (state : CpuState) (stands : Stands scr
           own = acts event ∷ g.own;
           after = with_own state (acts event ∷ g.own) state.frames;
           part = writes_it g.own g.last may refl g.does
-              (subst (λ (l : List RingEvent). HasGone (situation_after script state.wish l) state.frames g.last) same g.gone)
+              (subst (λ (l : List RingEvent). HasGone (situation_after script state.wish l) state.frames g.last) same
+              g.gone)
               refl;
           due = more_due script state.wish state.events g.own (acts event)
               (any (situation_after script state.wish state.events)) g.due;

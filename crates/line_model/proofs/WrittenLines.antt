@@ -1,26 +1,39 @@
 -- What `w` and `c` lines commit, from rest to rest.
-use Rattle.std.proofs.Common.{◌≡◌, ◌≢◌, ℕ, zero, suc, max, ◌+◌, ◌-◌, ◌≤◌, ◌<◌, ◌⊎◌, Bool, true, false, List, [], ◌∷◌, ◌++◌, length, map, None, refl, sym, ap, ◌∙◌, subst, inl, inr, arith, append_assoc, append-nil, length-append}
+use Rattle.std.proofs.Common.{◌≡◌, ◌≢◌, ℕ, zero, suc, max, ◌+◌, ◌-◌, ◌≤◌, ◌<◌, ◌⊎◌, Bool, true, false, List, [], ◌∷◌}
+use Rattle.std.proofs.Common.{◌++◌, length, map, None, refl, sym, ap, ◌∙◌, subst, inl, inr, arith, append_assoc}
+use Rattle.std.proofs.Common.{append-nil, length-append}
 use Rattle.std.specs.Prelude.{if◌then◌else◌, nat_le}
 use Rattle.std.proofs.lemmas.Bool.{le-leb, lt-leb, lt-ltb, le-ltb, and_from, and_left, and_right}
 use Rattle.std.proofs.lemmas.List.{map-append}
 use Rattle.trace_model.specs.declared.limits.TheConstants.{MIN_PAGES, MOMENT_LIMIT, LINK_FILLS}
 use Rattle.trace_model.specs.Record.{Record}
 use Rattle.trace_model.specs.Words.{padded, slot_len, encoded_len}
-use Rattle.trace_model.specs.History.{HistoryEvent, push, push_close, open_fill, Reservation, record_frame, close_frame, WriterState, after_event, writer_after, reserved_records, last_moment, as_record, committed_records, IsHistory}
+use Rattle.trace_model.specs.History.{HistoryEvent, push, push_close, open_fill, Reservation, record_frame, close_frame}
+use Rattle.trace_model.specs.History.{WriterState, after_event, writer_after, reserved_records, last_moment, as_record}
+use Rattle.trace_model.specs.History.{committed_records, IsHistory}
 use Rattle.trace_model.specs.Packing.{tail_of, IsPacked}
-use Rattle.trace_model.specs.Window.{Window, RingEvent, acts, closes, takes, loses, history_events_of, window_after, WindowRunFrom}
+use Rattle.trace_model.specs.Window.{Window, RingEvent, acts, closes, takes, loses, history_events_of, window_after}
+use Rattle.trace_model.specs.Window.{WindowRunFrom}
 use Rattle.trace_model.specs.Steps.{IsTooLong}
-use Rattle.text_model.specs.Script.{Command, begin_frame, step_frame, finish_frame, write, close, step_reader, take_page, wish, deliver}
+use Rattle.text_model.specs.Script.{Command, begin_frame, step_frame, finish_frame, write, close, step_reader}
+use Rattle.text_model.specs.Script.{take_page, wish, deliver}
 use Rattle.trace_model.proofs.histories.NextEvent.{writer_snoc, settled_at_rest}
 use Rattle.trace_model.proofs.histories.HistoryPrefixes.{none_stands}
 use Rattle.trace_model.proofs.histories.Committed.{whole_front}
 use Rattle.trace_model.proofs.words.Lengths.{length-padded, padded_whole, slot_len-slot_len}
 use Rattle.ring_model.proofs.histories.WindowRuns.{history_events-append}
-use Rattle.line_model.specs.Lines.{LineState, OpenFrame, first_state, frame_count, with_top_stepped, IsQuiet, MayGo, stays_on, goes, TopRun, FinishPart, writes, writes_none, LinePart, LineParts, FinishParts}
-use Rattle.line_model.specs.WrittenRecords.{is_recorded, record_of, records_of_line, records_of_lines, WritesOrCloses, AllWriteOrClose, IsAtRest, LinesFromRestCommit, WholeLinesCommit, WholeLinesHaveCommitted}
+use Rattle.line_model.specs.Lines.{LineState, OpenFrame, first_state, frame_count, with_top_stepped, IsQuiet, MayGo}
+use Rattle.line_model.specs.Lines.{stays_on, goes, TopRun, FinishPart, writes, writes_none, LinePart, LineParts}
+use Rattle.line_model.specs.Lines.{FinishParts}
+use Rattle.line_model.specs.WrittenRecords.{is_recorded, record_of, records_of_line, records_of_lines, WritesOrCloses}
+use Rattle.line_model.specs.WrittenRecords.{AllWriteOrClose, IsAtRest, LinesFromRestCommit, WholeLinesCommit}
+use Rattle.line_model.specs.WrittenRecords.{WholeLinesHaveCommitted}
 use Rattle.line_model.proofs.LineWindows.{Leads, leads_line, leads_lines, leads_rest}
 use Rattle.line_model.proofs.FewFills.{IsFew, few_act, few_run, few_start}
-use Rattle.line_model.proofs.WrittenSteps.{IsAllowed, rest_with, Reached, IsLeft, IsOpen, written, IsWriting, waits, waits_empty, has_reserved, has_left, was_refused, writing_run, IsClosing, closing_open, closing_left, closing_run, IsResting, resting_counts, resting_run}
+use Rattle.line_model.proofs.WrittenSteps.{IsAllowed, rest_with, Reached, IsLeft, IsOpen, written, IsWriting, waits}
+use Rattle.line_model.proofs.WrittenSteps.{waits_empty, has_reserved, has_left, was_refused, writing_run, IsClosing}
+use Rattle.line_model.proofs.WrittenSteps.{closing_open, closing_left, closing_run, IsResting, resting_counts}
+use Rattle.line_model.proofs.WrittenSteps.{resting_run}
 
 -- ---- is it recorded
 
@@ -74,7 +87,8 @@ push_window : (n : ℕ) (h : List HistoryEvent) (w after : Window) (events : Lis
     → ((v : Window) → window_after v (acts a) ≡ v)
     → w.done + 1 ≡ w.opened
     → (after.done ≡ w.done) × (after.opened ≡ w.opened)
-push_window n h w after [] a run one none rest = absurd (let z = ap (λ (l : List HistoryEvent). length l) one in omega arith)
+push_window n h w after [] a run one none rest =
+    absurd (let z = ap (λ (l : List HistoryEvent). length l) one in omega arith)
 push_window n h w after (acts b ∷ events) a run one none rest =
     let same : window_after w (acts b) ≡ w =
     ap (λ (c : HistoryEvent). window_after w (acts c)) (ap (first_of a) one) ∙ none w in
@@ -215,7 +229,8 @@ module _ (n size start : ℕ) (two : MIN_PAGES ≤ n) (rs : List Reservation) (m
         → IsAllowed size p.history (history_events_of events ++ more)
         → IsAllowed size (p.history ++ a ∷ []) (history_events_of behind ++ more)
     begun_allowed a front behind events cut one allowed =
-        let same : p.history ++ (history_events_of events ++ more) ≡ (p.history ++ a ∷ []) ++ (history_events_of behind ++ more) =
+        let same : p.history ++ (history_events_of events ++ more)
+        ≡ (p.history ++ a ∷ []) ++ (history_events_of behind ++ more) =
         ap (λ (l : List RingEvent). p.history ++ (history_events_of l ++ more)) cut
         ∙ ap (λ (l : List HistoryEvent). p.history ++ (l ++ more))
         (history_events-append front behind ∙ ap (λ (l : List HistoryEvent). l ++ history_events_of behind) one)
@@ -252,7 +267,8 @@ module _ (n size start : ℕ) (two : MIN_PAGES ≤ n) (rs : List Reservation) (m
     write_line moment payload cpu q events (writes front behind between may cut is_push finish) allowed =
         let a : HistoryEvent = push moment (length payload) in
         let (done, opened) =
-        push_window n p.history p.window between.window front a is_push.window is_push.acts_one (λ v. refl) rest.closed in
+        push_window n p.history p.window between.window front a is_push.window is_push.acts_one (λ v. refl)
+        rest.closed in
         let short : IsTooLong size (length payload) → ⊥ = (λ long. may (inr (inl long))) in
         let early : moment < MOMENT_LIMIT = in_time (λ late. may (inr (inr late))) in
         let o : IsOpen payload (record_frame moment (length payload) None) rs (begun a payload between.window) =
@@ -382,7 +398,8 @@ module _ (n size start : ℕ) (two : MIN_PAGES ≤ n) where
   lines_written (write cpu moment payload ∷ lines) p q events rs more whole room rest few allowed
       (front, behind, between, cut, part, parts) =
       by_line (λ next low r. lines_written lines between q behind next more whole.1 low r.keeps r.few r.allowed parts)
-      (write_line n size start two rs (history_events_of behind ++ more) p rest few moment payload cpu between front part
+      (write_line n size start two rs (history_events_of behind ++ more) p rest few moment payload cpu between front
+      part
       (cut_allowed p between front behind events more cut allowed))
     where
       by_line : ((next : List Reservation)
@@ -434,7 +451,8 @@ module _ (n size start : ℕ) (two : MIN_PAGES ≤ n) where
   lines_written (deliver collector cpu fill ∷ lines) p q events rs more whole room rest few allowed parts =
       absurd whole.0
 
-  rest_written : (count : ℕ) (p q : LineState) (events : List RingEvent) (rs : List Reservation) (more : List HistoryEvent)
+  rest_written : (count : ℕ) (p q : LineState) (events : List RingEvent) (rs : List Reservation)
+      (more : List HistoryEvent)
       → IsResting rs p
       → IsFew start p.history p.window.opened
       → IsAllowed size p.history (history_events_of events ++ more)
@@ -484,9 +502,12 @@ whole_lines_commit n size start lines h two whole room is_history packed made =
     let by_lines = leads_lines n size lines (first_state start) made.behind made.by_lines made.parts in
     let by_rest = leads_rest n size made.count made.behind made.last made.by_rest made.rest in
     let same : h ≡ history_events_of made.by_lines ++ (history_events_of made.by_rest ++ []) =
-    made.history_is ∙ by_rest.history ∙ ap (λ (l : List HistoryEvent). l ++ history_events_of made.by_rest) by_lines.history
-    ∙ ap (λ (l : List HistoryEvent). history_events_of made.by_lines ++ l) (sym (append-nil (history_events_of made.by_rest))) in
-    let allowed : IsAllowed size [] (history_events_of made.by_lines ++ (history_events_of made.by_rest ++ [])) = record {
+    made.history_is ∙ by_rest.history
+    ∙ ap (λ (l : List HistoryEvent). l ++ history_events_of made.by_rest) by_lines.history
+    ∙ ap (λ (l : List HistoryEvent). history_events_of made.by_lines ++ l)
+    (sym (append-nil (history_events_of made.by_rest))) in
+    let allowed : IsAllowed size [] (history_events_of made.by_lines ++ (history_events_of made.by_rest ++ [])) =
+    record {
       history = subst IsHistory same is_history;
       packed = subst (λ (l : List HistoryEvent). IsPacked l size) same packed;
     } in
@@ -582,7 +603,8 @@ pub lines_from_rest_commit : LinesFromRestCommit
 lines_from_rest_commit n size start lines line p q events more two whole parts rest part is_history packed =
     let before = leads_lines n size lines (first_state start) p events parts in
     let leads = leads_line n size line p q more part in
-    let begins : (front behind : List HistoryEvent) → history_events_of events ≡ front ++ open_fill ∷ behind → tail_of front ≢ [] =
+    let begins : (front behind : List HistoryEvent) → history_events_of events ≡ front ++ open_fill ∷ behind
+    → tail_of front ≢ [] =
     (λ front behind e. packed.begins front (behind ++ history_events_of more)
     (leads.history ∙ ap (λ (l : List HistoryEvent). l ++ history_events_of more) (before.history ∙ e)
     ∙ append_assoc front (open_fill ∷ behind) (history_events_of more))) in

@@ -1,18 +1,24 @@
 -- What a frame does that was pushed at rest, and above which none is pushed.
-use Rattle.std.proofs.Common.{◌≡◌, ◌≢◌, ℕ, suc, ◌+◌, ◌≤◌, ◌<◌, ◌⊎◌, true, false, List, [], ◌∷◌, ◌++◌, length, Option, Some, None, refl, sym, ap, ◌∙◌, subst, inl, inr, arith, append_assoc}
+use Rattle.std.proofs.Common.{◌≡◌, ◌≢◌, ℕ, suc, ◌+◌, ◌≤◌, ◌<◌, ◌⊎◌, true, false, List, [], ◌∷◌, ◌++◌, length, Option}
+use Rattle.std.proofs.Common.{Some, None, refl, sym, ap, ◌∙◌, subst, inl, inr, arith, append_assoc}
 use Rattle.std.specs.Prelude.{nat_le, if◌then◌else◌}
 use Rattle.trace_model.specs.declared.limits.TheConstants.{MIN_PAGES, LINK_FILLS}
 use Rattle.trace_model.specs.Words.{padded, encoded_len}
-use Rattle.trace_model.specs.History.{HistoryEvent, push, push_close, open_fill, reserve, leave, wished, Reservation, PushedFrame, record_frame, close_frame, WriterState, reservation_for, records_with_payload, after_event, writer_after, reserved_records, MayAct, IsHistory}
+use Rattle.trace_model.specs.History.{HistoryEvent, push, push_close, open_fill, reserve, leave, wished, Reservation}
+use Rattle.trace_model.specs.History.{PushedFrame, record_frame, close_frame, WriterState, reservation_for}
+use Rattle.trace_model.specs.History.{records_with_payload, after_event, writer_after, reserved_records, MayAct}
+use Rattle.trace_model.specs.History.{IsHistory}
 use Rattle.trace_model.specs.Packing.{tail_of, FitsBehind, next_reservation, IsPacked}
-use Rattle.trace_model.specs.Window.{Window, RingEvent, acts, closes, takes, loses, history_events_of, MayMove, window_after}
+use Rattle.trace_model.specs.Window.{Window, RingEvent, acts, closes, takes, loses, history_events_of, MayMove}
+use Rattle.trace_model.specs.Window.{window_after}
 use Rattle.trace_model.specs.Steps.{IsTooLong}
 use Rattle.trace_model.proofs.histories.NextEvent.{writer_snoc}
 use Rattle.trace_model.proofs.histories.HistoryPrefixes.{none_stands}
 use Rattle.trace_model.proofs.packing.PackedHistories.{wanted_record}
 use Rattle.trace_model.proofs.words.Lengths.{slot_len-slot_len}
 use Rattle.ring_model.proofs.seats.FrameEnds.{opened_tail}
-use Rattle.line_model.specs.Lines.{LineState, OpenFrame, frame_count, IsOfTop, MayLeaveTop, open_after, finishing_after, state_after, state_moved, TopRun}
+use Rattle.line_model.specs.Lines.{LineState, OpenFrame, frame_count, IsOfTop, MayLeaveTop, open_after, finishing_after}
+use Rattle.line_model.specs.Lines.{state_after, state_moved, TopRun}
 use Rattle.line_model.proofs.FewFills.{IsFew, few_act}
 
 -- the history goes on with this rest, keeps the discipline of the stack, and is packed

@@ -1,28 +1,31 @@
--- What the lines of a script do to one CPU, by events of its ring alone: each line adds events of its own, of its frame or
--- of the reader, and each of them is due. docs/MODEL.md, "What is printed, by histories alone"; tools/account computes
--- it.
-use Rattle.std.specs.Prelude.{◌≡◌, ◌≢◌, ℕ, suc, ◌+◌, ◌<◌, ◌≤◌, ◌⊎◌, Bool, true, false, List, [], ◌∷◌, ◌++◌, length, Option, Some, None, Contains}
+-- What the lines of a script do to one CPU, by events of its ring alone: each line adds events of its own, of its frame
+-- or of the reader, and each of them is due. docs/MODEL.md, "What is printed, by histories alone"; tools/account
+-- computes it.
+use Rattle.std.specs.Prelude.{◌≡◌, ◌≢◌, ℕ, suc, ◌+◌, ◌<◌, ◌≤◌, ◌⊎◌, Bool, true, false, List, [], ◌∷◌, ◌++◌, length}
+use Rattle.std.specs.Prelude.{Option, Some, None, Contains}
 use Rattle.std.specs.List.{slice_get}
 use Rattle.trace_model.specs.declared.limits.TheConstants.{MAX_FRAMES, MOMENT_LIMIT}
 use Rattle.trace_model.specs.Words.{padded, encoded_len}
 use Rattle.trace_model.specs.History.{HistoryEvent, push, push_close, open_fill, reserve, leave, wished}
 use Rattle.trace_model.specs.Window.{RingEvent, acts, closes, takes, loses, history_events_of}
-use Rattle.text_model.specs.Script.{Command, begin_frame, step_frame, finish_frame, write, close, step_reader, take_page, wish, deliver, Script}
+use Rattle.text_model.specs.Script.{Command, begin_frame, step_frame, finish_frame, write, close, step_reader}
+use Rattle.text_model.specs.Script.{take_page, wish, deliver, Script}
 use Rattle.line_model.specs.Due.{Situation, situation_after, window_at, IsFillNeeded, IsDue}
 
 -- ---- one CPU between two lines
 
 -- A frame on the stack. payload: what its line writes, until it has left (of a close frame an empty one, which isn't
--- written). Only a bottom frame is still there then, to close fills, and for the reader's wish. stepped: an `s` line has
--- had it make steps. losing: the last thing that it did was to lose a fill, so its move of the head may not be over.
+-- written). Only a bottom frame is still there then, to close fills, and for the reader's wish. stepped: an `s` line
+-- has had it make steps. losing: the last thing that it did was to lose a fill, so its move of the head may not be
+-- over.
 pub record LineFrame : Type 0 where
   pub payload : Option (List ℕ)
   pub stepped : Bool
   pub losing : Bool
 
 -- events: what was done to the ring so far, in one order. frames: the stack, the top first. seen: the reader knows the
--- fills below this one to be closed. in_take: an `r` line may have left a take under way. wish: one more than the number
--- of the fill that the reader asks for, 0 before its first wish.
+-- fills below this one to be closed. in_take: an `r` line may have left a take under way. wish: one more than the
+-- number of the fill that the reader asks for, 0 before its first wish.
 pub record CpuState : Type 0 where
   pub events : List RingEvent
   pub frames : List LineFrame
@@ -41,8 +44,8 @@ abbrev pub IsThere : (below : List LineFrame) → LineFrame → Type 0
 IsThere below frame = (frame.payload ≢ None) ⊎ (below ≡ [])
 
 -- What the frame on top, with these below it, may do: it pushes none, and leaves with the payload of its line, in whole
--- words, or without a record. When it has left it does nothing more, unless it is the bottom one, which closes fills, finds the
--- reader's wish, and begins a fill or loses one for it.
+-- words, or without a record. When it has left it does nothing more, unless it is the bottom one, which closes fills,
+-- finds the reader's wish, and begins a fill or loses one for it.
 abbrev pub IsOwn : (below : List LineFrame) → LineFrame → RingEvent → Type 0
 IsOwn below frame (acts (push moment len)) = ⊥
 IsOwn below frame (acts push_close) = ⊥
@@ -154,9 +157,9 @@ pub data WritesWhole (script : Script) (Refused : Type 0) (event : HistoryEvent)
 abbrev pub IsMoving : List LineFrame → Type 0
 IsMoving frames = (frame : LineFrame) × Contains frames frame × (frame.losing ≡ true)
 
--- `t`: the oldest fill is taken; nothing only if no closed fill is unread, or a frame may be amid a move of the head, in
--- which a fill may be taken or not. The reader then knows which fills are closed; or no more than before, only if nothing
--- was taken in such a move, or an `r` line came before.
+-- `t`: the oldest fill is taken; nothing only if no closed fill is unread, or a frame may be amid a move of the head,
+-- in which a fill may be taken or not. The reader then knows which fills are closed; or no more than before, only if
+-- nothing was taken in such a move, or an `r` line came before.
 pub record TakesPage (start : ℕ) (before : CpuState) (own : List RingEvent) (after : CpuState) : Type 0 where
   pub own_is : (own ≡ takes ∷ [])
       ⊎ ((own ≡ []) × (IsMoving before.frames
@@ -173,7 +176,8 @@ pub record ReadsOn (start : ℕ) (before : CpuState) (own : List RingEvent) (aft
   pub seen_is : (seen ≡ (window_at start before.events).done) ⊎ (seen ≡ before.seen)
   pub after_is : after ≡ record before { events = before.events ++ own; seen = seen; in_take = true }
 
--- `a`: the reader asks for the first fill that it doesn't know to be closed; its wish is one more than that one's number
+-- `a`: the reader asks for the first fill that it doesn't know to be closed; its wish is one more than that one's
+-- number
 abbrev pub Asks : CpuState → List RingEvent → CpuState → Type 0
 Asks before own after = (own ≡ []) × (after ≡ record before { wish = before.seen + 1 })
 
@@ -185,13 +189,15 @@ At cpu at Part before own after = ((at ≡ cpu) × Part before own after) ⊎ ((
 -- what a line of a script adds on this CPU
 abbrev pub Adds : Script → (cpu : ℕ) → Command → CpuState → List RingEvent → CpuState → Type 0
 Adds script cpu (begin_frame at moment payload) before own after =
-    At cpu at (Begins (IsRefused script.size moment (length payload) before.frames) (push moment (length payload)) payload)
+    At cpu at
+    (Begins (IsRefused script.size moment (length payload) before.frames) (push moment (length payload)) payload)
     before own after
 Adds script cpu (step_frame at count) before own after = At cpu at (StepsTop script count) before own after
 Adds script cpu (finish_frame at) before own after = At cpu at (FinishesTop script) before own after
 Adds script cpu (write at moment payload) before own after =
     At cpu at
-    (WritesWhole script (IsRefused script.size moment (length payload) before.frames) (push moment (length payload)) payload)
+    (WritesWhole script (IsRefused script.size moment (length payload) before.frames)
+    (push moment (length payload)) payload)
     before own after
 Adds script cpu (close at) before own after =
     At cpu at (WritesWhole script (MAX_FRAMES ≤ length before.frames) push_close []) before own after

@@ -1,6 +1,7 @@
 -- What one step of the top frame makes of the writer's part of a ring, whatever frames are below it; and the events
 -- of the window that this is.
-use Rattle.std.specs.Prelude.{◌≡◌, ◌≢◌, ℕ, ◌+◌, ◌-◌, ◌<◌, ◌≤◌, ◌⊎◌, Bool, true, false, List, [], ◌∷◌, ◌++◌, length, Some, None}
+use Rattle.std.specs.Prelude.{◌≡◌, ◌≢◌, ℕ, ◌+◌, ◌-◌, ◌<◌, ◌≤◌, ◌⊎◌, Bool, true, false, List, [], ◌∷◌, ◌++◌, length}
+use Rattle.std.specs.Prelude.{Some, None}
 use Rattle.trace_model.specs.History.{open_fill, reserve, leave, wished, Reservation}
 use Rattle.trace_model.specs.Packing.{tail_of, FitsBehind, next_reservation}
 use Rattle.trace_model.specs.declared.limits.TheConstants.{LINK_FILLS}

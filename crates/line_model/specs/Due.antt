@@ -1,10 +1,12 @@
--- What may happen next to the ring of a CPU, by what was done to it so far: the history of its frames and its window. No
--- link and no step of the ring is spoken of. docs/MODEL.md, "What is printed, by histories alone".
+-- What may happen next to the ring of a CPU, by what was done to it so far: the history of its frames and its window.
+-- No link and no step of the ring is spoken of. docs/MODEL.md, "What is printed, by histories alone".
 use Rattle.std.specs.Prelude.{◌≡◌, ◌≢◌, ℕ, ◌+◌, ◌<◌, ◌≤◌, ◌⊎◌, ⊤, IsTrue, fold, List, [], ◌∷◌, ◌++◌, Option, Some, None}
 use Rattle.trace_model.specs.declared.limits.TheConstants.{LINK_FILLS}
-use Rattle.trace_model.specs.History.{HistoryEvent, push, push_close, open_fill, reserve, leave, wished, PushedFrame, record_frame, close_frame, reservation_for, writer_after, reserved_records}
+use Rattle.trace_model.specs.History.{HistoryEvent, push, push_close, open_fill, reserve, leave, wished, PushedFrame}
+use Rattle.trace_model.specs.History.{record_frame, close_frame, reservation_for, writer_after, reserved_records}
 use Rattle.trace_model.specs.Packing.{tail_of, fill_len, is_wished}
-use Rattle.trace_model.specs.Window.{Window, first_window, window_after, RingEvent, acts, closes, takes, loses, history_events_of}
+use Rattle.trace_model.specs.Window.{Window, first_window, window_after, RingEvent, acts, closes, takes, loses}
+use Rattle.trace_model.specs.Window.{history_events_of}
 use Rattle.text_model.specs.Script.{Script}
 
 -- the window after the events of a ring whose first fill has this number
@@ -34,9 +36,9 @@ situation_after script reader_wish events = record {
 abbrev pub pushed_in : Situation → List PushedFrame
 pushed_in s = (writer_after s.history).stack
 
--- One fill more is needed: by a record frame on top, whose record doesn't fit in the tail page; by a close frame on top,
--- if the tail page has a record; or, if all frames have left and the tail page has a record, for the reader's wish, which
--- was found since the last fill was begun.
+-- One fill more is needed: by a record frame on top, whose record doesn't fit in the tail page; by a close frame on
+-- top, if the tail page has a record; or, if all frames have left and the tail page has a record, for the reader's
+-- wish, which was found since the last fill was begun.
 abbrev pub IsFillNeededFor : Situation → List PushedFrame → Type 0
 IsFillNeededFor s [] = IsTrue (is_wished s.history) × (tail_of s.history ≢ [])
 IsFillNeededFor s (record_frame moment len None ∷ below) =
@@ -77,9 +79,9 @@ Leaves s (close_frame ∷ below) (Some bytes) = ⊥
 
 -- What may happen. A fill is begun, or the oldest one lost for it, only if one is needed, and can be begun: lost if the
 -- ring is full, and that fill closed; begun if the ring isn't full. The oldest fill is taken only if it is closed. The
--- oldest fill that isn't closed is closed only if it isn't the tail, and every frame has left. The reader's wish is found
--- only if there is one to find, and every frame has left. A record is reserved if it needs no fill. A frame may be pushed at any
--- time.
+-- oldest fill that isn't closed is closed only if it isn't the tail, and every frame has left. The reader's wish is
+-- found only if there is one to find, and every frame has left. A record is reserved if it needs no fill. A frame may
+-- be pushed at any time.
 abbrev pub IsDue : Situation → RingEvent → Type 0
 IsDue s (acts (push moment len)) = ⊤
 IsDue s (acts push_close) = ⊤

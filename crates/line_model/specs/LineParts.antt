@@ -7,7 +7,8 @@ use Rattle.trace_model.specs.Steps.{Answer, pushes, pushes_close, pushed, refuse
 use Rattle.text_model.specs.Script.{Command, begin_frame, write, close}
 use Rattle.world_model.specs.Lanes.{event_on_top, payloads_left}
 use Rattle.line_model.specs.Lines.{LineState, first_state, FinishPart, LinePart, LineParts, FinishParts, IsMadeByLines}
-use Rattle.line_model.specs.WriterCalls.{LineWriting, first_writer, IsWriterCall, TopCalls, FinishCalls, LineCalls, LinesCalls, RestCalls, IsReachedByLines}
+use Rattle.line_model.specs.WriterCalls.{LineWriting, first_writer, IsWriterCall, TopCalls, FinishCalls, LineCalls}
+use Rattle.line_model.specs.WriterCalls.{LinesCalls, RestCalls, IsReachedByLines}
 use Rattle.line_model.specs.CallEvents.{Agrees}
 
 -- ---- single calls

@@ -1,11 +1,13 @@
 -- What the lines of one CPU's writer make of its history: one part for each line, in their order, without words or
 -- loads of the ring. docs/FORMATS.md, "Script" and "Writer frames".
-use Rattle.std.specs.Prelude.{◌≡◌, ◌≢◌, ℕ, zero, suc, ◌+◌, ◌-◌, ◌≤◌, ◌⊎◌, ⊤, Bool, true, false, nat_eq, if◌then◌else◌, List, [], ◌∷◌, ◌++◌, length, drop, Option, Some, None}
+use Rattle.std.specs.Prelude.{◌≡◌, ◌≢◌, ℕ, zero, suc, ◌+◌, ◌-◌, ◌≤◌, ◌⊎◌, ⊤, Bool, true, false, nat_eq, if◌then◌else◌}
+use Rattle.std.specs.Prelude.{List, [], ◌∷◌, ◌++◌, length, drop, Option, Some, None}
 use Rattle.trace_model.specs.declared.limits.TheConstants.{MAX_FRAMES, MOMENT_LIMIT, LINK_FILLS}
 use Rattle.trace_model.specs.Words.{padded}
 use Rattle.trace_model.specs.History.{HistoryEvent, push, push_close, open_fill, reserve, leave, wished, Reservation}
 use Rattle.trace_model.specs.Packing.{tail_of, FitsBehind, next_reservation}
-use Rattle.trace_model.specs.Window.{Window, first_window, RingEvent, acts, closes, takes, loses, history_events_of, MayMove, window_after, WindowRunFrom, IsCrowded}
+use Rattle.trace_model.specs.Window.{Window, first_window, RingEvent, acts, closes, takes, loses, history_events_of}
+use Rattle.trace_model.specs.Window.{MayMove, window_after, WindowRunFrom, IsCrowded}
 use Rattle.trace_model.specs.Steps.{IsTooLong}
 use Rattle.text_model.specs.Script.{Command, begin_frame, step_frame, finish_frame, write, close}
 

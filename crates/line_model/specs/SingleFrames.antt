@@ -33,8 +33,8 @@ AreServed n start records (x ∷ calls) = IsServed n start records x × AreServe
 
 -- All calls for a frame that was pushed on an empty stack, and above which none is pushed, are served.
 abbrev pub SingleFramesAreServed : Type 0
-SingleFramesAreServed = (n size start : ℕ) (kind : Purpose) (payload : List ℕ) (s u : LineWriting) (calls : List Exchange)
-    (t : LineWriting) (lefts : List (List ℕ))
+SingleFramesAreServed = (n size start : ℕ) (kind : Purpose) (payload : List ℕ) (s u : LineWriting)
+    (calls : List Exchange) (t : LineWriting) (lefts : List (List ℕ))
     → s.frames ≡ []
     → IsWriterCall n size start s record { event = push_of kind; answer = pushed } u
     → TopCalls n size start 0 u (payload ∷ []) calls t lefts

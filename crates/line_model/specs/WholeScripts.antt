@@ -1,6 +1,7 @@
 -- How many accounts a script has, and how many texts, as statements: one, if no line asks for single steps.
 use Rattle.std.specs.Prelude.{◌≡◌, ℕ, ◌≤◌, ⊤, false, List, All, length}
-use Rattle.text_model.specs.Script.{Command, begin_frame, step_frame, finish_frame, write, close, step_reader, take_page, wish, deliver, Script}
+use Rattle.text_model.specs.Script.{Command, begin_frame, step_frame, finish_frame, write, close, step_reader}
+use Rattle.text_model.specs.Script.{take_page, wish, deliver, Script}
 use Rattle.text_model.specs.ScriptLimits.{IsWithinLimits}
 use Rattle.line_model.specs.Accounts.{CpuState, IsAccount}
 use Rattle.line_model.specs.Shown.{IsAccounted}

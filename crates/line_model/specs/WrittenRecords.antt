@@ -1,9 +1,11 @@
 -- Which records the `w` and `c` lines of a CPU commit. docs/FORMATS.md, "Script" and "Writer frames".
-use Rattle.std.specs.Prelude.{◌≡◌, ◌≢◌, ℕ, max, ◌+◌, ◌≤◌, ◌⊎◌, ⊤, Bool, IsTrue, true, false, ◌&&◌, if◌then◌else◌, nat_le, nat_lt, List, [], ◌∷◌, ◌++◌, length}
+use Rattle.std.specs.Prelude.{◌≡◌, ◌≢◌, ℕ, max, ◌+◌, ◌≤◌, ◌⊎◌, ⊤, Bool, IsTrue, true, false, ◌&&◌, if◌then◌else◌}
+use Rattle.std.specs.Prelude.{nat_le, nat_lt, List, [], ◌∷◌, ◌++◌, length}
 use Rattle.trace_model.specs.declared.limits.TheConstants.{MIN_PAGES, MOMENT_LIMIT, LINK_FILLS}
 use Rattle.trace_model.specs.Record.{Record}
 use Rattle.trace_model.specs.Words.{padded, encoded_len}
-use Rattle.trace_model.specs.History.{HistoryEvent, IsHistory, is_settled, reserved_records, committed_records, last_moment}
+use Rattle.trace_model.specs.History.{HistoryEvent, IsHistory, is_settled, reserved_records, committed_records}
+use Rattle.trace_model.specs.History.{last_moment}
 use Rattle.trace_model.specs.Packing.{tail_of, IsPacked}
 use Rattle.trace_model.specs.Window.{Window, RingEvent, history_events_of, WindowRun}
 use Rattle.text_model.specs.Script.{Command, write, close}

@@ -25,14 +25,18 @@ pub none_left : (below : List Frame) (test : Bool) → test ≡ (length below ==
 none_left below test is holds = nil_from_length below (eqb-true (length below) 0 (sym is ∙ holds))
 
 pub some_below : (below : List Frame) (test : Bool) → test ≡ (length below == 0) → test ≡ false → below ≡ [] → ⊥
-some_below below test is fails none = let zero : length below ≡ 0 = ap length none in let holds = eq-eqb (length below) 0 zero in cc
+some_below below test is fails none = let zero : length below ≡ 0 = ap length none in
+    let holds = eq-eqb (length below) 0 zero in
+    cc
 
 -- the frame below is on top, or the bottom one stays
-pub ended_to : (old new : Stack) (ended : Ended) → (ended ≡ Pending → new.frames ≡ below_top old.frames) → (ended ≡ Full → IsAtBottom new.frames) → IsEndedTo old new ended
+pub ended_to : (old new : Stack) (ended : Ended) → (ended ≡ Pending → new.frames ≡ below_top old.frames)
+    → (ended ≡ Full → IsAtBottom new.frames) → IsEndedTo old new ended
 ended_to old new Pending below bottom = below refl
 ended_to old new Full below bottom = bottom refl
 
 -- the frame on top has left
-pub left_top : (s after : Stack) (top : Frame) (below : List Frame) → s.frames ≡ top ∷ below → after ≡ after_leave s top below → HasLeftTop s after
+pub left_top : (s after : Stack) (top : Frame) (below : List Frame) → s.frames ≡ top ∷ below
+    → after ≡ after_leave s top below → HasLeftTop s after
 left_top s after top [] at is = inl (ap below_top at, subst (λ (x : Stack). IsAtBottom x.frames) (sym is) tt)
 left_top s after top (next ∷ below) at is = inr (ap (λ (x : Stack). x.frames) is ∙ sym (ap below_top at))

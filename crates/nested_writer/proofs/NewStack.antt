@@ -16,7 +16,8 @@ pub nothing : (rs : List Record) → 0 ≡ length rs → rs ≡ []
 nothing [] e = refl
 nothing (r ∷ rs) e = cc
 
-pub new_is : (pages size start : ℕ) → size ≤ MAX_SIZE → IsPage (blank_page size 0 start) → IsStack start [] (new_stack pages size start)
+pub new_is : (pages size start : ℕ) → size ≤ MAX_SIZE → IsPage (blank_page size 0 start)
+    → IsStack start [] (new_stack pages size start)
 new_is pages size start large page = record {
   keeps = IsHistory-none;
   stack_is = refl;

@@ -12,11 +12,13 @@ use Rattle.nested_writer.proofs.Answering.{number_counts}
 use Rattle.nested_writer.proofs.Releasing.{all_left, all_committed, last_fill, tail_written}
 
 -- the last part of a list that is cut is what follows the last cut
-last_part : {X : Type 0} (from : ℕ) (cuts : List ℕ) (xs : List X) → get_or (cut_from from cuts xs) (length cuts) [] ≡ drop (get_or (from ∷ cuts) (length cuts) 0) xs
+last_part : {X : Type 0} (from : ℕ) (cuts : List ℕ) (xs : List X)
+    → get_or (cut_from from cuts xs) (length cuts) [] ≡ drop (get_or (from ∷ cuts) (length cuts) 0) xs
 last_part from [] xs = refl
 last_part from (cut ∷ cuts) xs = last_part cut cuts xs
 
-module _ (start : ℕ) (h : List HistoryEvent) (s : Stack) (none : s.frames ≡ []) (alone : s.older ≡ []) (k : IsStack start h s) where
+module _ (start : ℕ) (h : List HistoryEvent) (s : Stack) (none : s.frames ≡ []) (alone : s.older ≡ [])
+    (k : IsStack start h s) where
   newest : records_of_page s.tail ≡ drop s.tail.first (committed_records h)
   newest =
       let first : s.tail.first ≡ get_or (0 ∷ opens_of h) (length (opens_of h)) 0 = k.holds.tail_is.first_is in

@@ -16,13 +16,17 @@ abbrev pub oldest_first : Stack → ℕ
 oldest_first s = unwrap_or (first_of_pages s.older) s.tail.first
 
 module _ (start : ℕ) (h : List HistoryEvent) (s : Stack) (k : IsStack start h s) where
-  first_by : (older : List Contents) → s.older ≡ older → unwrap_or (first_of_pages older) s.tail.first ≡ first_of_fill h start s.done
+  first_by : (older : List Contents) → s.older ≡ older
+      → unwrap_or (first_of_pages older) s.tail.first ≡ first_of_fill h start s.done
   first_by [] is =
       let few : length s.older ≡ 0 = ap length is in
       let begun = k.holds.begun in
       let from = k.holds.from_start in
-      k.holds.tail_is.first_is ∙ ap (λ (i : ℕ). get_or (0 ∷ opens_of h) i 0) (let last : length (opens_of h) ≡ s.done - start = omega arith in last)
-  first_by (page ∷ older) is = (oldest start (opens_of h) (reserved_records h) (is_wished h) s page older is k.holds).first_is
+      k.holds.tail_is.first_is
+      ∙ ap (λ (i : ℕ). get_or (0 ∷ opens_of h) i 0)
+      (let last : length (opens_of h) ≡ s.done - start = omega arith in last)
+  first_by (page ∷ older) is =
+      (oldest start (opens_of h) (reserved_records h) (is_wished h) s page older is k.holds).first_is
 
   first_is : oldest_first s ≡ first_of_fill h start s.done
   first_is = first_by s.older refl
@@ -31,7 +35,8 @@ module _ (start : ℕ) (h : List HistoryEvent) (s : Stack) (k : IsStack start h 
   first_le =
       let begun = k.holds.begun in
       let from = k.holds.from_start in
-      let low = first_below 0 (opens_of h) (length (reserved_records h)) (s.done - start) (omega arith) k.holds.rising in
+      let low =
+      first_below 0 (opens_of h) (length (reserved_records h)) (s.done - start) (omega arith) k.holds.rising in
       let first = first_is in
       let counts = number_counts start h s k in omega arith
 

@@ -3,7 +3,8 @@ use Rattle.std.specs.Prelude.{◌≡◌, ℕ, List, [], ◌∷◌, ◌++◌, Som
 use Rattle.trace_model.specs.History.{HistoryEvent, reserve, leave}
 use Rattle.record_words.specs.declared.put.Place.{Place}
 use Rattle.nested_writer.specs.declared.fault.WriteFault.{WriteFault}
-use Rattle.nested_writer.specs.declared.fault.WriteFault.TheVariants.{TooDeep, TooLong, LateMoment, Crowded, Worn, NoFrame, NotReserved}
+use Rattle.nested_writer.specs.declared.fault.WriteFault.TheVariants.{TooDeep, TooLong, LateMoment, Crowded, Worn}
+use Rattle.nested_writer.specs.declared.fault.WriteFault.TheVariants.{NoFrame, NotReserved}
 use Rattle.nested_writer.specs.declared.stack.allot.Allot.{Allot}
 use Rattle.nested_writer.specs.declared.stack.allot.Allot.TheVariants.{Fits, NeedsPage}
 use Rattle.nested_writer.specs.declared.frame.Purpose.{Purpose}

@@ -4,7 +4,8 @@ use Rattle.trace_model.specs.declared.limits.TheConstants.{LINK_FILLS}
 use Rattle.trace_model.specs.History.{HistoryEvent, reservation_for, reserved_records}
 use Rattle.trace_model.specs.Packing.{tail_of, FitsBehind}
 use Rattle.nested_writer.specs.declared.fault.WriteFault.{WriteFault}
-use Rattle.nested_writer.specs.declared.fault.WriteFault.TheVariants.{TooDeep, TooLong, LateMoment, Crowded, Worn, NoFrame, NotReserved}
+use Rattle.nested_writer.specs.declared.fault.WriteFault.TheVariants.{TooDeep, TooLong, LateMoment, Crowded, Worn}
+use Rattle.nested_writer.specs.declared.fault.WriteFault.TheVariants.{NoFrame, NotReserved}
 use Rattle.nested_writer.specs.declared.stack.allot.Allot.{Allot}
 use Rattle.nested_writer.specs.declared.stack.allot.Allot.TheVariants.{Fits, NeedsPage}
 use Rattle.nested_writer.specs.declared.frame.Purpose.{Purpose}

@@ -1,7 +1,8 @@
 -- What holds of the fields of a writer's stack.
 use Rattle.std.specs.Prelude.{◌≡◌, ◌+◌, ◌-◌, ◌≤◌, ◌<◌, List, [], ◌∷◌, length, Option, Some, None}
 use Rattle.std.specs.VecDeque.{deque_capacity}
-use Rattle.trace_model.specs.declared.limits.TheConstants.{MIN_PAGES, MAX_PAGES, MIN_SIZE, MAX_SIZE, MAX_FRAMES, LINK_FILLS}
+use Rattle.trace_model.specs.declared.limits.TheConstants.{MIN_PAGES, MAX_PAGES, MIN_SIZE, MAX_SIZE, MAX_FRAMES}
+use Rattle.trace_model.specs.declared.limits.TheConstants.{LINK_FILLS}
 use Rattle.record_words.specs.declared.format.TheConstants.{SHORT_LIMIT}
 use Rattle.nested_writer.specs.declared.frame.Frame.{Frame}
 use Rattle.nested_writer.specs.declared.stack.WriterStack.TheInside.{Inside}

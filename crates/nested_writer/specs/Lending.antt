@@ -1,5 +1,6 @@
 -- The payload that a stack lends out to be written.
-use Rattle.std.specs.Prelude.{◌≡◌, ℕ, ◌-◌, if◌then◌else◌, ◌==◌, List, length, slice_set, slice_index_or, Option, Some, None, Result}
+use Rattle.std.specs.Prelude.{◌≡◌, ℕ, ◌-◌, if◌then◌else◌, ◌==◌, List, length, slice_set, slice_index_or, Option, Some}
+use Rattle.std.specs.Prelude.{None, Result}
 use Rattle.std.specs.Borrow.{Lends, LendsIfOk, MutBor, Fml, Array, u8}
 use Rattle.page_image.specs.Contents.{Contents}
 use Rattle.page_image.specs.Lending.{with_payload}

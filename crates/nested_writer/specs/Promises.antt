@@ -1,6 +1,7 @@
 -- What the calls of a writer's stack promise, each in one word: a call and its rarer cases, which are functions of
 -- their own, promise the same.
-use Rattle.std.specs.Prelude.{◌≡◌, ℕ, ◌<◌, ◌≤◌, ◌↔◌, max, List, [], ◌∷◌, ◌++◌, length, Some, None, Result, Ok, Err, IsOk, IfOk, IfErr, OnOk, OnErr}
+use Rattle.std.specs.Prelude.{◌≡◌, ℕ, ◌<◌, ◌≤◌, ◌↔◌, max, List, [], ◌∷◌, ◌++◌, length, Some, None, Result, Ok, Err}
+use Rattle.std.specs.Prelude.{IsOk, IfOk, IfErr, OnOk, OnErr}
 use Rattle.trace_model.specs.declared.limits.TheConstants.{MAX_FRAMES, MOMENT_LIMIT}
 use Rattle.trace_model.specs.Words.{padded}
 use Rattle.trace_model.specs.History.{HistoryEvent, push, reserve, leave}
@@ -8,7 +9,8 @@ use Rattle.trace_model.specs.Steps.{IsTooLong}
 use Rattle.page_image.specs.Contents.{records_of_page}
 use Rattle.record_words.specs.declared.put.Place.{Place}
 use Rattle.nested_writer.specs.declared.fault.WriteFault.{WriteFault}
-use Rattle.nested_writer.specs.declared.fault.WriteFault.TheVariants.{TooDeep, TooLong, LateMoment, Crowded, Worn, NoFrame, NotReserved}
+use Rattle.nested_writer.specs.declared.fault.WriteFault.TheVariants.{TooDeep, TooLong, LateMoment, Crowded, Worn}
+use Rattle.nested_writer.specs.declared.fault.WriteFault.TheVariants.{NoFrame, NotReserved}
 use Rattle.nested_writer.specs.declared.frame.Purpose.TheVariants.{Record}
 use Rattle.nested_writer.specs.declared.frame.Progress.TheVariants.{Waiting}
 use Rattle.nested_writer.specs.declared.stack.allot.Allot.{Allot}
@@ -21,7 +23,8 @@ use Rattle.nested_writer.specs.Stack.{Stack}
 use Rattle.nested_writer.specs.Calls.{with_frame, IsAtBottom, IsCrowded, IsWorn, NeedsPage, HasTopLeft}
 use Rattle.nested_writer.specs.Kept.{SameFills, SamePages}
 use Rattle.nested_writer.specs.Ends.{MayEndTop, MayNotEndTop, IsEnd}
-use Rattle.nested_writer.specs.Next.{below_top, IsPushedOn, IsPlaced, IsReadyForPage, IsAllottedTo, IsSameFrame, IsRefusedTo, IsEndedTo}
+use Rattle.nested_writer.specs.Next.{below_top, IsPushedOn, IsPlaced, IsReadyForPage, IsAllottedTo, IsSameFrame}
+use Rattle.nested_writer.specs.Next.{IsRefusedTo, IsEndedTo}
 use Rattle.nested_writer.specs.Allotted.{HasEvents, IsAllotted}
 use Rattle.nested_writer.specs.Answered.{IsAllotAnswer}
 use Rattle.nested_writer.specs.AtOnce.{FitsAtOnce, with_left}

@@ -14,7 +14,7 @@ use Rattle.nested_writer.specs.IsStack.{IsStack}
 
 -- What one call makes of a stack, by the clauses of the calls: begin, begin_close, allot and reserve_plain, a payload
 -- of the slot's length written into the slot that top_mut lends, end, add_page, drop_front, pop_bottom, ask_close and
--- ask_close_for, write, write_alone and write_if_short; or a call that is refused.
+-- ask_close_for, write, write_alone, write_any and write_if_short; or a call that is refused.
 pub data IsStackCall (s after : Stack) : Type 0 where
   begins : (moment len : ℕ) → HasEvents s (push moment len ∷ []) after → IsStackCall s after
   begins_close : HasEvents s (push_close ∷ []) after → IsStackCall s after

@@ -1,5 +1,5 @@
 //! An open page. It is lent whole, and acts as the bytes of one payload in it.
-ghost use Rattle.std.specs.Prelude.{◌≡◌, ◌+◌, ◌-◌, ◌*◌, ◌≤◌, ◌<◌, length, replicate, IfSome};
+ghost use Rattle.std.specs.Prelude.{◌≡◌, ◌+◌, ◌-◌, ◌*◌, ◌≤◌, ◌<◌, true, false, length, replicate, if◌then◌else◌, IfSome};
 ghost use Rattle.trace_model.specs.declared.limits.TheConstants.{MOMENT_LIMIT, MAX_SIZE};
 ghost use Rattle.trace_model.specs.Words.{padded, slot_len};
 ghost use Rattle.trace_model.specs.Reading.{EndsInRecord};
@@ -13,7 +13,15 @@ use page_image::Page;
 use record_words::Place;
 use std::marker::Model;
 use std::ops::{DerefSlice, DerefSliceMut};
-use trace_model::{FillNo, RecordNo};
+use trace_model::{FillNo, MOMENT_LIMIT, RecordNo};
+
+/// The first moment that is too late for a short record in this page.
+#[inline(always)]
+fn late_in(page: &Page) -> u64
+    ensures { result ≡ (if is_blank page.now.bytes then 0 else MOMENT_LIMIT) }
+{
+    if page.end() == 0 { 0 } else { MOMENT_LIMIT }
+}
 
 /// An open page. Lent to a caller it is the payload of a reserved record, to be written in the page: it acts as the
 /// slice of that payload's bytes.
@@ -22,17 +30,23 @@ pub struct Payload {
     page: Page,
     /// Its place in the page; in a page that lends none, any place.
     place: Place,
+    /// The first moment that is too late for a short record (`docs/GLOSSARY.md`) in the page: `MOMENT_LIMIT`, or 0 if
+    /// the page holds no record before it.
+    late: u64,
 }
 
 impl Model for Payload {
-    ghost use Rattle.std.specs.Prelude.{◌+◌, ◌≤◌, length};
+    ghost use Rattle.std.specs.Prelude.{◌≡◌, ◌+◌, ◌≤◌, length, if◌then◌else◌};
+    ghost use Rattle.trace_model.specs.declared.limits.TheConstants.{MOMENT_LIMIT};
+    ghost use Rattle.page_image.specs.Contents.{is_blank};
     ghost use Rattle.nested_writer.specs.Lent.{Lent};
 
     ghost Value = { Lent };
 
     ghost view = { λ p. record { page = p.page; place = p.place } };
 
-    ghost invariant = { λ p. p.place.start + p.place.len ≤ length p.page.bytes };
+    ghost invariant = { λ p. (p.place.start + p.place.len ≤ length p.page.bytes)
+        × (p.late ≡ (if is_blank p.page.bytes then 0 else MOMENT_LIMIT)) };
 }
 
 impl DerefSlice for Payload {
@@ -80,9 +94,11 @@ impl Payload {
     pub(crate) fn of(page: Page) -> Payload
         ensures { result.page ≡ page }
     {
+        let late = late_in(&page);
         Payload {
             page,
             place: Place { start: 0, len: 0 },
+            late,
         }
     }
 
@@ -101,6 +117,15 @@ impl Payload {
         ensures { result.now ≡ self.now.page }
     {
         &self.page
+    }
+
+    /// Whether a record of this moment may be a short one: the page holds a record before it, and it isn't too late.
+    #[inline(always)]
+    pub(crate) fn may_follow(&self, moment: u64) -> bool
+        ensures follows { result ≡ true → (is_blank self.now.page.bytes ≡ false) × (moment < MOMENT_LIMIT) }
+        ensures late { result ≡ false → is_blank self.now.page.bytes ≡ false → MOMENT_LIMIT ≤ moment }
+    {
+        moment < self.late
     }
 
     /// Lends the payload at this place.
@@ -151,6 +176,7 @@ impl Payload {
         requires { CanPut self.old.page prev moment len }
         ensures { HasPut self.old.page self.new.page prev moment len (replicate (slot_len len) 0) result }
     {
+        self.late = MOMENT_LIMIT;
         self.page.put(prev, moment, len)
     }
 
@@ -168,12 +194,23 @@ impl Payload {
         self.page.put_plain(prev, moment, len)
     }
 
-    /// `Page::put_payload`.
+    /// `Page::put_payload`, or `Page::put_next_payload` if the page is known to hold a record.
     #[inline(always)]
-    pub(crate) fn put_payload(&mut self, prev: u64, moment: u64, payload: &[u8]) -> Place
-        requires { CanPut self.old.page prev moment (length payload.now) }
+    pub(crate) fn put_payload(
+        &mut self,
+        holds_record: bool,
+        prev: u64,
+        moment: u64,
+        payload: &[u8],
+    ) -> Place
+        requires can { CanPut self.old.page prev moment (length payload.now) }
+        requires behind { holds_record ≡ true → is_blank self.old.page.bytes ≡ false }
         ensures { HasPut self.old.page self.new.page prev moment (length payload.now) (padded payload.now) result }
     {
+        if holds_record {
+            return self.page.put_next_payload(prev, moment, payload);
+        }
+        self.late = MOMENT_LIMIT;
         self.page.put_payload(prev, moment, payload)
     }
 

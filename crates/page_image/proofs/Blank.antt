@@ -23,7 +23,8 @@ pub records_in-blank : (time : ℕ) → records_in time [] ≡ []
 unfolding words_in
 records_in-blank time = refl
 
-pub blank_page : (first fill size : ℕ) → IsPage (record { time = 0; first = first; count = 0; fill = fill; size = size; bytes = [] })
+pub blank_page : (first fill size : ℕ)
+    → IsPage (record { time = 0; first = first; count = 0; fill = fill; size = size; bytes = [] })
 unfolding words_in
 blank_page first fill size = record {
   reads = Decodes-blank 0;

@@ -1,5 +1,6 @@
 -- What a store into the header of a slot makes of it, and of the data behind it.
-use Rattle.std.proofs.Common.{◌≡◌, ℕ, ◌+◌, ◌-◌, ◌≤◌, List, [], ◌++◌, length, take, drop, replicate, refl, sym, ap, ◌∙◌, arith, append_assoc, length-append, length-take-le, length-drop}
+use Rattle.std.proofs.Common.{◌≡◌, ℕ, ◌+◌, ◌-◌, ◌≤◌, List, [], ◌++◌, length, take, drop, replicate, refl, sym, ap, ◌∙◌}
+use Rattle.std.proofs.Common.{arith, append_assoc, length-append, length-take-le, length-drop}
 use Rattle.std.proofs.Math.Seq.{take-append-add, drop-append-add}
 use Rattle.std.proofs.lemmas.List.{drop-drop, drop_all, take_rest, append-nil}
 use borrow.Rule.Slice.PartMut.{put_mid}
@@ -13,29 +14,38 @@ use Rattle.page_image.specs.Slot.{SlotHeader, StoresHeader, slot_bytes, no_heade
 -- ---- a number of the header
 
 -- bytes behind others are overwritten
-overwritten-behind : (front behind new : List ℕ) (at : ℕ) → length front ≡ 8 → overwritten (front ++ behind) (8 + at) new ≡ front ++ overwritten behind at new
+overwritten-behind : (front behind new : List ℕ) (at : ℕ) → length front ≡ 8
+    → overwritten (front ++ behind) (8 + at) new ≡ front ++ overwritten behind at new
 overwritten-behind front behind new at eight =
-    let kept : take (8 + at) (front ++ behind) ≡ front ++ take at behind = ap (λ (n : ℕ). take (n + at) (front ++ behind)) (sym eight) ∙ take-append-add front behind at in
+    let kept : take (8 + at) (front ++ behind) ≡ front ++ take at behind =
+    ap (λ (n : ℕ). take (n + at) (front ++ behind)) (sym eight) ∙ take-append-add front behind at in
     let past : 8 + at + length new ≡ length front + (at + length new) = omega arith in
-    let rest : drop (8 + at + length new) (front ++ behind) ≡ drop (at + length new) behind = ap (λ (n : ℕ). drop n (front ++ behind)) past ∙ drop-append-add front behind (at + length new) in
+    let rest : drop (8 + at + length new) (front ++ behind) ≡ drop (at + length new) behind =
+    ap (λ (n : ℕ). drop n (front ++ behind)) past ∙ drop-append-add front behind (at + length new) in
     (λ i. kept i ++ (new ++ rest i)) ∙ append_assoc front (take at behind) (new ++ drop (at + length new) behind)
 
 -- a number is overwritten by another
-overwritten-number : (old new : ℕ) (behind : List ℕ) → overwritten (le64 old ++ behind) 0 (le64 new) ≡ le64 new ++ behind
+overwritten-number : (old new : ℕ) (behind : List ℕ)
+    → overwritten (le64 old ++ behind) 0 (le64 new) ≡ le64 new ++ behind
 unfolding le64
 overwritten-number old new behind = refl
 
 -- a number further on is
-overwritten-later : (number : ℕ) (behind new result : List ℕ) (at : ℕ) → overwritten behind at new ≡ result → overwritten (le64 number ++ behind) (8 + at) new ≡ le64 number ++ result
-overwritten-later number behind new result at is = overwritten-behind (le64 number) behind new at (length-le64 number) ∙ ap (λ (b : List ℕ). le64 number ++ b) is
+overwritten-later : (number : ℕ) (behind new result : List ℕ) (at : ℕ) → overwritten behind at new ≡ result
+    → overwritten (le64 number ++ behind) (8 + at) new ≡ le64 number ++ result
+overwritten-later number behind new result at is =
+    overwritten-behind (le64 number) behind new at (length-le64 number) ∙ ap (λ (b : List ℕ). le64 number ++ b) is
 
 -- what is behind the header stays
 module _ (old : List ℕ) (at n : ℕ) (within : at + 8 ≤ 48) (long : 48 ≤ length old) where
   front_long : length (take at old ++ le64 n) ≡ at + 8
-  front_long = let front = length-take-le at old (omega arith) in omega (arith, length-append (take at old) (le64 n), length-le64 n)
+  front_long = let front = length-take-le at old (omega arith) in
+      omega (arith, length-append (take at old) (le64 n), length-le64 n)
 
   stored_is : overwritten old at (le64 n) ≡ (take at old ++ le64 n) ++ drop (at + 8) old
-  stored_is = ap (λ (k : ℕ). take at old ++ (le64 n ++ drop (at + k) old)) (length-le64 n) ∙ sym (append_assoc (take at old) (le64 n) (drop (at + 8) old))
+  stored_is =
+      ap (λ (k : ℕ). take at old ++ (le64 n ++ drop (at + k) old)) (length-le64 n)
+      ∙ sym (append_assoc (take at old) (le64 n) (drop (at + 8) old))
 
   pub behind_stays : drop 48 (overwritten old at (le64 n)) ≡ drop 48 old
   behind_stays =
@@ -48,9 +58,13 @@ module _ (old : List ℕ) (at n : ℕ) (within : at + 8 ≤ 48) (long : 48 ≤ l
       ∙ ap (λ (k : ℕ). drop k old) rest
 
   pub length_stays : length (overwritten old at (le64 n)) ≡ length old
-  length_stays = ap length stored_is ∙ (let front = front_long in omega (arith, length-append (take at old ++ le64 n) (drop (at + 8) old), length-drop (at + 8) old))
+  length_stays =
+      ap length stored_is
+      ∙ (let front = front_long in
+      omega (arith, length-append (take at old ++ le64 n) (drop (at + 8) old), length-drop (at + 8) old))
 
-pub stores_fill : (old : List ℕ) (n : ℕ) → 48 ≤ length old → StoresHeader old (overwritten old 8 (le64 n)) (λ was. record was { fill = n })
+pub stores_fill : (old : List ℕ) (n : ℕ) → 48 ≤ length old
+    → StoresHeader old (overwritten old 8 (le64 n)) (λ was. record was { fill = n })
 stores_fill old n long = record {
   header = λ was behind is.
       let rest : List ℕ = le64 was.first ++ (le64 was.missed ++ (le64 was.time ++ (le64 was.commit ++ behind))) in
@@ -60,7 +74,8 @@ stores_fill old n long = record {
   length_stays = length_stays old 8 n (omega arith) long;
 }
 
-pub stores_first : (old : List ℕ) (n : ℕ) → 48 ≤ length old → StoresHeader old (overwritten old 16 (le64 n)) (λ was. record was { first = n })
+pub stores_first : (old : List ℕ) (n : ℕ) → 48 ≤ length old
+    → StoresHeader old (overwritten old 16 (le64 n)) (λ was. record was { first = n })
 stores_first old n long = record {
   header = λ was behind is.
       let rest : List ℕ = le64 was.missed ++ (le64 was.time ++ (le64 was.commit ++ behind)) in
@@ -71,7 +86,8 @@ stores_first old n long = record {
   length_stays = length_stays old 16 n (omega arith) long;
 }
 
-pub stores_time : (old : List ℕ) (n : ℕ) → 48 ≤ length old → StoresHeader old (overwritten old 32 (le64 n)) (λ was. record was { time = n })
+pub stores_time : (old : List ℕ) (n : ℕ) → 48 ≤ length old
+    → StoresHeader old (overwritten old 32 (le64 n)) (λ was. record was { time = n })
 stores_time old n long = record {
   header = λ was behind is.
       let rest : List ℕ = le64 was.commit ++ behind in
@@ -85,7 +101,8 @@ stores_time old n long = record {
   length_stays = length_stays old 32 n (omega arith) long;
 }
 
-pub stores_commit : (old : List ℕ) (n : ℕ) → 48 ≤ length old → StoresHeader old (overwritten old 40 (le64 n)) (λ was. record was { commit = n })
+pub stores_commit : (old : List ℕ) (n : ℕ) → 48 ≤ length old
+    → StoresHeader old (overwritten old 40 (le64 n)) (λ was. record was { commit = n })
 stores_commit old n long = record {
   header = λ was behind is.
       let two : List ℕ = le64 was.time ++ (le64 was.commit ++ behind) in
@@ -101,7 +118,8 @@ stores_commit old n long = record {
 }
 
 -- one store after another
-pub stores_both : (old middle new : List ℕ) (stored then : SlotHeader → SlotHeader) → StoresHeader old middle stored → StoresHeader middle new then → StoresHeader old new (λ was. then (stored was))
+pub stores_both : (old middle new : List ℕ) (stored then : SlotHeader → SlotHeader) → StoresHeader old middle stored
+    → StoresHeader middle new then → StoresHeader old new (λ was. then (stored was))
 stores_both old middle new stored then one other = record {
   header = λ was behind is. other.header (stored was) behind (one.header was behind is);
   behind_stays = other.behind_stays ∙ one.behind_stays;
@@ -130,11 +148,18 @@ unfolding le64
 no_header_bytes behind = refl
 
 -- a number put into a part that reaches to the slot's end
-pub number_put : (slot part : List ℕ) (at n : ℕ) → part ≡ le64 n ++ drop 8 (take (length slot - at) (drop at slot)) → put_mid at (length slot - at) slot part ≡ overwritten slot at (le64 n)
+pub number_put : (slot part : List ℕ) (at n : ℕ) → part ≡ le64 n ++ drop 8 (take (length slot - at) (drop at slot))
+    → put_mid at (length slot - at) slot part ≡ overwritten slot at (le64 n)
 number_put slot part at n part_is =
-    let past : drop (length slot - at) (drop at slot) ≡ [] = drop_all (length slot - at) (drop at slot) (omega (arith, length-drop at slot)) in
-    let rest : drop 8 (take (length slot - at) (drop at slot)) ≡ drop (at + length (le64 n)) slot = ap (drop 8) (take_rest slot at) ∙ drop-drop 8 at slot ∙ ap (λ (k : ℕ). drop (at + k) slot) (sym (length-le64 n)) in
-    (λ i. take at slot ++ (part_is i ++ past i)) ∙ ap (λ (b : List ℕ). take at slot ++ b) (append-nil (le64 n ++ drop 8 (take (length slot - at) (drop at slot))) ∙ ap (λ (b : List ℕ). le64 n ++ b) rest)
+    let past : drop (length slot - at) (drop at slot) ≡ [] =
+    drop_all (length slot - at) (drop at slot) (omega (arith, length-drop at slot)) in
+    let rest : drop 8 (take (length slot - at) (drop at slot)) ≡ drop (at + length (le64 n)) slot =
+    ap (drop 8) (take_rest slot at) ∙ drop-drop 8 at slot
+    ∙ ap (λ (k : ℕ). drop (at + k) slot) (sym (length-le64 n)) in
+    (λ i. take at slot ++ (part_is i ++ past i))
+    ∙ ap (λ (b : List ℕ). take at slot ++ b)
+    (append-nil (le64 n ++ drop 8 (take (length slot - at) (drop at slot)))
+    ∙ ap (λ (b : List ℕ). le64 n ++ b) rest)
 
 pub length-slot_bytes : (header : SlotHeader) (behind : List ℕ) → length (slot_bytes header behind) ≡ 48 + length behind
 length-slot_bytes h behind =
@@ -160,7 +185,8 @@ length-slot_bytes h behind =
     )
 
 -- long enough bytes are a slot
-pub slot_in : (bytes : List ℕ) → AreBytes bytes → 48 ≤ length bytes → (header : SlotHeader) × (behind : List ℕ) × (bytes ≡ slot_bytes header behind)
+pub slot_in : (bytes : List ℕ) → AreBytes bytes → 48 ≤ length bytes
+    → (header : SlotHeader) × (behind : List ℕ) × (bytes ≡ slot_bytes header behind)
 slot_in bytes small long =
     let two : List ℕ = drop 8 bytes in
     let three : List ℕ = drop 8 two in
@@ -177,7 +203,14 @@ slot_in bytes small long =
     let long4 : 24 ≤ length four = omega (arith, length-drop 8 three) in
     let long5 : 16 ≤ length five = omega (arith, length-drop 8 four) in
     let long6 : 8 ≤ length six = omega (arith, length-drop 8 five) in (
-      record { cpu = from_le64 bytes; fill = from_le64 two; first = from_le64 three; missed = from_le64 four; time = from_le64 five; commit = from_le64 six },
+      record {
+        cpu = from_le64 bytes;
+        fill = from_le64 two;
+        first = from_le64 three;
+        missed = from_le64 four;
+        time = from_le64 five;
+        commit = from_le64 six;
+      },
       drop 8 six,
       le64-front bytes (omega arith) small
           ∙ ap (λ (b : List ℕ). le64 (from_le64 bytes) ++ b) (le64-front two (omega arith) small2

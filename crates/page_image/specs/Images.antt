@@ -5,7 +5,8 @@ use Rattle.trace_model.specs.Words.{Decodes}
 use Rattle.trace_model.specs.Reading.{records_in}
 use Rattle.trace_model.specs.Faults.{Cause, cut, bad_length, time_overflow}
 use Rattle.trace_model.specs.declared.limits.TheConstants.{MAX_IMAGE}
-use Rattle.trace_model.specs.Image.{Commit, commit_word, HasParts, Missed, none, unknown, counted, DecodesImage, too_short, bad_size, bad_count, bad_word, FirstImageFault}
+use Rattle.trace_model.specs.Image.{Commit, commit_word, HasParts, Missed, none, unknown, counted, DecodesImage}
+use Rattle.trace_model.specs.Image.{too_short, bad_size, bad_count, bad_word, FirstImageFault}
 use Rattle.record_words.specs.declared.next.WordFault.{WordFault}
 use Rattle.record_words.specs.declared.next.WordFault.TheVariants.{Cut, BadLength, TimeOverflow}
 use Rattle.page_image.specs.declared.image.Missed.{Missed as MissedAnswer}

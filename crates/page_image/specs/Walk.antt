@@ -1,8 +1,10 @@
 -- A walk over the words of a page's data: how far they are read, and what is stated of a word stepped over.
-use Rattle.std.specs.Prelude.{◌≡◌, ℕ, ◌+◌, ◌^◌, nat_lt, if◌then◌else◌, List, [], ◌∷◌, ◌++◌, length, drop, Option, Some, None, unwrap_or}
+use Rattle.std.specs.Prelude.{◌≡◌, ℕ, ◌+◌, ◌^◌, nat_lt, if◌then◌else◌, List, [], ◌∷◌, ◌++◌, length, drop, Option, Some}
+use Rattle.std.specs.Prelude.{None, unwrap_or}
 use Rattle.std.specs.List.{AllByRecursion}
 use Rattle.trace_model.specs.Record.{Record}
-use Rattle.trace_model.specs.Words.{Word, short_data, long_data, padding, time_extend, time_stamp, joined, IsWord, stamp_of, delta_of, moment_after, records_at, records_of, FitsTime}
+use Rattle.trace_model.specs.Words.{Word, short_data, long_data, padding, time_extend, time_stamp, joined, IsWord}
+use Rattle.trace_model.specs.Words.{stamp_of, delta_of, moment_after, records_at, records_of, FitsTime}
 use Rattle.trace_model.specs.Reading.{words_in}
 use Rattle.trace_model.specs.Overwriting.{bytes_at}
 use Rattle.record_words.specs.declared.put.Place.{Place}

@@ -149,11 +149,31 @@ impl Page {
         requires { CanPut self.old prev moment (length payload.now) }
         ensures { HasPut self.old self.new prev moment (length payload.now) (padded payload.now) result }
     {
+        let is_first = self.is_first(PutKind::Any);
+        self.put_payload_as(is_first, prev, moment, payload)
+    }
+
+    /// `put_payload`, into a page that holds a record.
+    #[inline(always)]
+    pub fn put_next_payload(&mut self, prev: u64, moment: u64, payload: &[u8]) -> Place
+        requires can { CanPut self.old prev moment (length payload.now) }
+        requires behind { is_blank self.old.bytes ≡ false }
+        ensures { HasPut self.old self.new prev moment (length payload.now) (padded payload.now) result }
+    {
+        self.put_payload_as(false, prev, moment, payload)
+    }
+
+    /// `put_payload`, for a record that is the page's first one or not.
+    #[inline(always)]
+    fn put_payload_as(&mut self, is_first: bool, prev: u64, moment: u64, payload: &[u8]) -> Place
+        requires can { CanPut self.old prev moment (length payload.now) }
+        requires first { is_first ≡ is_blank self.old.bytes }
+        ensures { HasPut self.old self.new prev moment (length payload.now) (padded payload.now) result }
+    {
         let end = self.end;
-        let is_first = end == 0;
         let delta = moment - prev;
-        let place = self.body.put_payload(end, delta, is_first, payload);
         self.time = self.body.time_with(is_first, moment, self.time);
+        let place = self.body.put_payload(end, delta, is_first, payload);
         self.end = end + size_of(payload.len(), delta, is_first);
         self.count += 1;
         place

@@ -3,14 +3,17 @@ use Rattle.std.specs.Prelude.{ℕ, ◌+◌, ◌^◌, ◌<◌, ◌≤◌, List, l
 use Rattle.trace_model.specs.Faults.{cut, bad_length, time_overflow}
 use Rattle.trace_model.specs.Image.{Missed, ImageCause, too_short, bad_size, bad_count, bad_word}
 use Rattle.trace_model.specs.Parcel.{Parcel}
-use Rattle.trace_model.specs.ParcelBytes.{IsParcel, AgreesWith, DecodesParcel, ParcelCause, bad_cpu, bad_image, number_overflow, missed_too_many, missed_differs, FirstParcelFault}
+use Rattle.trace_model.specs.ParcelBytes.{IsParcel, AgreesWith, DecodesParcel, ParcelCause, bad_cpu, bad_image}
+use Rattle.trace_model.specs.ParcelBytes.{number_overflow, missed_too_many, missed_differs, FirstParcelFault}
 use Rattle.trace_model.specs.declared.limits.TheConstants.{MAX_CPUS}
 use Rattle.record_words.specs.declared.next.WordFault.TheVariants.{Cut, BadLength, TimeOverflow}
 use Rattle.page_image.specs.declared.image.ImageFault.{ImageFault}
-use Rattle.page_image.specs.declared.image.ImageFault.TheVariants.{TooShort, BadSize, BadCount, Word, NoMemory as NoMemoryThere}
+use Rattle.page_image.specs.declared.image.ImageFault.TheVariants.{TooShort, BadSize, BadCount, Word}
+use Rattle.page_image.specs.declared.image.ImageFault.TheVariants.{NoMemory as NoMemoryThere}
 use Rattle.page_image.specs.Images.{word_fault}
 use Rattle.page_numbers.specs.declared.fault.ParcelFault.{ParcelFault}
-use Rattle.page_numbers.specs.declared.fault.ParcelFault.TheVariants.{Image, NumberOverflow, MissedTooMany, MissedDiffers, BadCpu, NoMemory}
+use Rattle.page_numbers.specs.declared.fault.ParcelFault.TheVariants.{Image, NumberOverflow, MissedTooMany}
+use Rattle.page_numbers.specs.declared.fault.ParcelFault.TheVariants.{MissedDiffers, BadCpu, NoMemory}
 
 -- ---- of a page
 

@@ -1,19 +1,26 @@
 -- An answer and what the bytes are decide each other.
-use Rattle.std.proofs.Common.{◌≡◌, ◌⊎◌, inl, inr, ⊎_elim, ◌↔◌, ℕ, List, Result, Ok, Err, IfOk, IfErr, MatchResult, refl, sym, ap, ◌∙◌, subst}
+use Rattle.std.proofs.Common.{◌≡◌, ◌⊎◌, inl, inr, ⊎_elim, ◌↔◌, ℕ, List, Result, Ok, Err, IfOk, IfErr, MatchResult, refl}
+use Rattle.std.proofs.Common.{sym, ap, ◌∙◌, subst}
 use Rattle.trace_model.specs.Faults.{cut as cut_word, bad_length as bad_word_length, time_overflow}
 use Rattle.trace_model.specs.Image.{ImageCause, too_short, bad_size, bad_count, bad_word}
-use Rattle.trace_model.specs.ParcelBytes.{ParcelCause, bad_cpu, bad_image, number_overflow, missed_too_many, missed_differs}
-use Rattle.record_words.specs.declared.next.WordFault.TheVariants.{Cut as CutWord, BadLength as BadWordLength, TimeOverflow}
+use Rattle.trace_model.specs.ParcelBytes.{ParcelCause, bad_cpu, bad_image, number_overflow, missed_too_many}
+use Rattle.trace_model.specs.ParcelBytes.{missed_differs}
+use Rattle.record_words.specs.declared.next.WordFault.TheVariants.{Cut as CutWord, BadLength as BadWordLength}
+use Rattle.record_words.specs.declared.next.WordFault.TheVariants.{TimeOverflow}
 use Rattle.page_image.specs.declared.image.ImageFault.{ImageFault}
-use Rattle.page_image.specs.declared.image.ImageFault.TheVariants.{TooShort, BadSize, BadCount, Word, NoMemory as MemoryInImage}
+use Rattle.page_image.specs.declared.image.ImageFault.TheVariants.{TooShort, BadSize, BadCount, Word}
+use Rattle.page_image.specs.declared.image.ImageFault.TheVariants.{NoMemory as MemoryInImage}
 use Rattle.page_numbers.specs.declared.fault.ParcelFault.{ParcelFault}
-use Rattle.page_numbers.specs.declared.fault.ParcelFault.TheVariants.{Image, NumberOverflow, MissedTooMany, MissedDiffers, BadCpu, NoMemory as MemoryThere}
+use Rattle.page_numbers.specs.declared.fault.ParcelFault.TheVariants.{Image, NumberOverflow, MissedTooMany}
+use Rattle.page_numbers.specs.declared.fault.ParcelFault.TheVariants.{MissedDiffers, BadCpu, NoMemory as MemoryThere}
 use Rattle.page_numbers.specs.Faults.{parcel_fault}
 use Rattle.parcel_streams.specs.declared.piece.Piece.{Piece}
 use Rattle.parcel_streams.specs.declared.fault.PieceFault.{PieceFault}
-use Rattle.parcel_streams.specs.declared.fault.PieceFault.TheVariants.{NotPacked, Cut, BadVersion, BadLength, BadSum, BadKind, Parcel, Loose, BadMark, NoMemory}
+use Rattle.parcel_streams.specs.declared.fault.PieceFault.TheVariants.{NotPacked, Cut, BadVersion, BadLength, BadSum}
+use Rattle.parcel_streams.specs.declared.fault.PieceFault.TheVariants.{BadKind, Parcel, Loose, BadMark, NoMemory}
 use Rattle.parcel_streams.specs.Pieces.{Packed, BeginsWith}
-use Rattle.parcel_streams.specs.Faults.{PieceCause, not_packed, cut, bad_version, bad_length, bad_sum, bad_kind, bad_parcel, loose, bad_mark, FirstPieceFault}
+use Rattle.parcel_streams.specs.Faults.{PieceCause, not_packed, cut, bad_version, bad_length, bad_sum, bad_kind}
+use Rattle.parcel_streams.specs.Faults.{bad_parcel, loose, bad_mark, FirstPieceFault}
 use Rattle.parcel_streams.specs.Answers.{piece_seen, piece_fault, HasPiece, IsPieceFault}
 use Rattle.parcel_streams.proofs.Readings.{one_piece}
 use Rattle.parcel_streams.proofs.OneFault.{one_fault, piece_no_fault}

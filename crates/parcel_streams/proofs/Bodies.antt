@@ -1,11 +1,13 @@
 -- What is read of a piece's body, as its reading or its first fault.
-use Rattle.std.proofs.Common.{◌≡◌, ◌≢◌, ◌⊎◌, inl, inr, ⊎_elim, ◌↔◌, ℕ, ◌^◌, ◌<◌, ◌≤◌, List, length, take, drop, Result, Err, MatchResult, refl, sym, ap, ◌∙◌, subst, arith}
+use Rattle.std.proofs.Common.{◌≡◌, ◌≢◌, ◌⊎◌, inl, inr, ⊎_elim, ◌↔◌, ℕ, ◌^◌, ◌<◌, ◌≤◌, List, length, take, drop, Result}
+use Rattle.std.proofs.Common.{Err, MatchResult, refl, sym, ap, ◌∙◌, subst, arith}
 use Rattle.std.proofs.lemmas.List.{drop-drop, take_all}
 use Rattle.trace_model.specs.FirstFault.{AreBytes}
 use Rattle.trace_model.specs.Words.{Decodes}
 use Rattle.trace_model.specs.Image.{DecodesImage}
 use Rattle.trace_model.specs.Parcel.{Parcel as ParcelSeen}
-use Rattle.trace_model.specs.ParcelBytes.{bytes_of_parcel, DecodesParcel, ParcelCause, bad_cpu, bad_image, number_overflow, missed_too_many, missed_differs, FirstParcelFault}
+use Rattle.trace_model.specs.ParcelBytes.{bytes_of_parcel, DecodesParcel, ParcelCause, bad_cpu, bad_image}
+use Rattle.trace_model.specs.ParcelBytes.{number_overflow, missed_too_many, missed_differs, FirstParcelFault}
 use Rattle.trace_model.proofs.images.Images.{DecodesImage-unique}
 use Rattle.trace_model.proofs.images.ParcelParts.{HasNumbers-are}
 use Rattle.trace_model.proofs.images.Parcels.{parcel_read_or_faulty}

@@ -1,5 +1,6 @@
 -- A byte that changes alone: the checksum of the bytes before it shows it, or it is the checksum's own.
-use Rattle.std.proofs.Common.{◌≡◌, ◌≢◌, ◌⊎◌, ⊎_elim, ℕ, ◌+◌, ◌^◌, ◌<◌, ◌≤◌, List, [], ◌++◌, length, get_or, take, drop, refl, sym, ap, ◌∙◌, subst, arith, append-nil, length-append, length-drop, length-take-le}
+use Rattle.std.proofs.Common.{◌≡◌, ◌≢◌, ◌⊎◌, ⊎_elim, ℕ, ◌+◌, ◌^◌, ◌<◌, ◌≤◌, List, [], ◌++◌, length, get_or, take, drop}
+use Rattle.std.proofs.Common.{refl, sym, ap, ◌∙◌, subst, arith, append-nil, length-append, length-drop, length-take-le}
 use Rattle.std.proofs.lemmas.List.{take_at, drop_at, get_or-take, get_or-drop, get_or_past}
 use Rattle.std.proofs.lemmas.Bool.{cases_lt}
 use Rattle.std.proofs.lemmas.Grind.{same_number_lists}
@@ -10,7 +11,8 @@ use Rattle.crc32c.proofs.Sums.{crc32c-lt}
 use Rattle.trace_model.specs.Image.{le64, from_le64}
 use Rattle.trace_model.proofs.words.OneWord.{AreBytes-take}
 use Rattle.trace_model.proofs.images.ImageParts.{from_le64-take, from_le64-le64}
-use Rattle.parcel_streams.specs.Pieces.{Packed, parcel_piece, mark_piece, kind_of_mark, unsealed, sealed, bytes_of_piece, BeginsWith}
+use Rattle.parcel_streams.specs.Pieces.{Packed, parcel_piece, mark_piece, kind_of_mark, unsealed, sealed}
+use Rattle.parcel_streams.specs.Pieces.{bytes_of_piece, BeginsWith}
 use Rattle.parcel_streams.specs.Faults.{length_in}
 use Rattle.parcel_streams.proofs.Frames.{length-unsealed, length-sealed}
 use Rattle.parcel_streams.proofs.Readings.{parcel_frame, mark_frame}

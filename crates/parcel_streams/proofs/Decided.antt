@@ -1,5 +1,6 @@
 -- Bytes that decide what the piece at the front is: those that follow change nothing.
-use Rattle.std.proofs.Common.{◌≡◌, ◌⊎◌, ⊎_elim, ◌↔◌, ℕ, ◌+◌, ◌-◌, ◌/◌, ◌%◌, ◌^◌, ◌<◌, ◌≤◌, List, ◌++◌, length, take, drop, sym, ap, ◌∙◌, subst, arith, append_assoc, length-append, length-drop}
+use Rattle.std.proofs.Common.{◌≡◌, ◌⊎◌, ⊎_elim, ◌↔◌, ℕ, ◌+◌, ◌-◌, ◌/◌, ◌%◌, ◌^◌, ◌<◌, ◌≤◌, List, ◌++◌, length, take}
+use Rattle.std.proofs.Common.{drop, sym, ap, ◌∙◌, subst, arith, append_assoc, length-append, length-drop}
 use Rattle.std.proofs.lemmas.List.{take-append-le, drop-append-le, take_all}
 use Rattle.crc32c.specs.Castagnoli.{crc32c}
 use Rattle.trace_model.specs.FirstFault.{AreBytes}
@@ -7,7 +8,10 @@ use Rattle.trace_model.specs.Image.{le64, from_le64}
 use Rattle.trace_model.specs.ParcelBytes.{FirstParcelFault}
 use Rattle.trace_model.proofs.images.ImageParts.{from_le64-take}
 use Rattle.parcel_streams.specs.Pieces.{Packed, magic, BeginsWith}
-use Rattle.parcel_streams.specs.Faults.{version_in, kind_in, length_in, body_in, summed_in, sum_in, HasMagic, HasHead, HasVersion, HasLength, IsWhole, IsDecided, IsSealed, HoldsParcel, HoldsMark, IsLoose, IsBadMark, IsCut, PieceCause, not_packed, cut, bad_version, bad_length, bad_sum, bad_kind, bad_parcel, loose, bad_mark, FirstPieceFault}
+use Rattle.parcel_streams.specs.Faults.{version_in, kind_in, length_in, body_in, summed_in, sum_in, HasMagic, HasHead}
+use Rattle.parcel_streams.specs.Faults.{HasVersion, HasLength, IsWhole, IsDecided, IsSealed, HoldsParcel, HoldsMark}
+use Rattle.parcel_streams.specs.Faults.{IsLoose, IsBadMark, IsCut, PieceCause, not_packed, cut, bad_version, bad_length}
+use Rattle.parcel_streams.specs.Faults.{bad_sum, bad_kind, bad_parcel, loose, bad_mark, FirstPieceFault}
 use Rattle.parcel_streams.proofs.OneFault.{one_fault, piece_no_fault, piece_or_fault}
 use Rattle.parcel_streams.proofs.Readings.{one_piece}
 

@@ -1,13 +1,16 @@
 -- The bytes of a parcel whose page has no unused room: its image's commit word tells them from all others.
-use Rattle.std.proofs.Common.{◌≡◌, ℕ, ◌+◌, ◌-◌, ◌^◌, ◌<◌, ◌≤◌, Bool, true, false, cond, ltb, leb, ◌&&◌, List, [], ◌++◌, length, drop, replicate, refl, sym, ap, ◌∙◌, subst, arith, append-nil, length-append}
+use Rattle.std.proofs.Common.{◌≡◌, ℕ, ◌+◌, ◌-◌, ◌^◌, ◌<◌, ◌≤◌, Bool, true, false, cond, ltb, leb, ◌&&◌, List, [], ◌++◌}
+use Rattle.std.proofs.Common.{length, drop, replicate, refl, sym, ap, ◌∙◌, subst, arith, append-nil, length-append}
 use Rattle.std.proofs.lemmas.List.{drop-drop, nil_from_length}
 use Rattle.std.proofs.lemmas.Bool.{lt-leb}
 use Rattle.trace_model.specs.Words.{Decodes}
-use Rattle.trace_model.specs.Image.{le64, from_le64, Commit, commit_word, commit_of, stores_count, stored_count, filled, image_of}
+use Rattle.trace_model.specs.Image.{le64, from_le64, Commit, commit_word, commit_of, stores_count, stored_count, filled}
+use Rattle.trace_model.specs.Image.{image_of}
 use Rattle.trace_model.specs.Parcel.{Parcel}
 use Rattle.trace_model.specs.ParcelBytes.{with_numbers, bytes_of_parcel, DecodesParcel}
 use Rattle.trace_model.specs.declared.limits.TheConstants.{MAX_SIZE}
-use Rattle.trace_model.proofs.images.ImageParts.{from_le64-le64, drop-le64, commit_from, commit_from-commit_word, commit_word_lt, HasHeader-is}
+use Rattle.trace_model.proofs.images.ImageParts.{from_le64-le64, drop-le64, commit_from, commit_from-commit_word}
+use Rattle.trace_model.proofs.images.ImageParts.{commit_word_lt, HasHeader-is}
 use Rattle.trace_model.proofs.images.Images.{length-image_of}
 use Rattle.trace_model.proofs.images.ParcelParts.{HasNumbers-are}
 use Rattle.parcel_streams.specs.Faults.{IsFitted}

@@ -1,5 +1,6 @@
 -- Bytes begin with one piece or have one first fault, and never both.
-use Rattle.std.proofs.Common.{◌≡◌, ◌≢◌, ◌⊎◌, inl, inr, ⊎_elim, ℕ, ◌<◌, ◌≤◌, List, [], ◌∷◌, length, take, drop, refl, sym, ap, subst, arith}
+use Rattle.std.proofs.Common.{◌≡◌, ◌≢◌, ◌⊎◌, inl, inr, ⊎_elim, ℕ, ◌<◌, ◌≤◌, List, [], ◌∷◌, length, take, drop, refl}
+use Rattle.std.proofs.Common.{sym, ap, subst, arith}
 use Rattle.std.proofs.lemmas.Bool.{cases_lt}
 use Rattle.std.proofs.lemmas.Bool.Decides.{eqb_tells}
 use Rattle.crc32c.specs.Castagnoli.{crc32c}
@@ -8,9 +9,13 @@ use Rattle.trace_model.specs.Image.{le64, from_le64, commit_word, commit_of}
 use Rattle.trace_model.specs.Parcel.{Parcel as ParcelSeen}
 use Rattle.trace_model.specs.ParcelBytes.{DecodesParcel, ParcelCause}
 use Rattle.trace_model.specs.declared.limits.TheConstants.{MAX_CPUS}
-use Rattle.trace_model.proofs.images.Parcels.{parcel_read_or_faulty, DecodesParcel-FirstParcelFault, DecodesParcel-unique, FirstParcelFault-unique}
+use Rattle.trace_model.proofs.images.Parcels.{parcel_read_or_faulty, DecodesParcel-FirstParcelFault}
+use Rattle.trace_model.proofs.images.Parcels.{DecodesParcel-unique, FirstParcelFault-unique}
 use Rattle.parcel_streams.specs.Pieces.{Packed, parcel_piece, mark_piece, kind_of_mark, magic, BeginsWith}
-use Rattle.parcel_streams.specs.Faults.{version_in, kind_in, length_in, body_in, summed_in, sum_in, HasMagic, HasVersion, HasLength, IsWhole, IsSealed, HoldsParcel, HoldsMark, IsFitted, IsLoose, mark_body, IsBadMark, IsCut, PieceCause, not_packed, cut, bad_version, bad_length, bad_sum, bad_kind, bad_parcel, loose, bad_mark, FirstPieceFault}
+use Rattle.parcel_streams.specs.Faults.{version_in, kind_in, length_in, body_in, summed_in, sum_in, HasMagic}
+use Rattle.parcel_streams.specs.Faults.{HasVersion, HasLength, IsWhole, IsSealed, HoldsParcel, HoldsMark, IsFitted}
+use Rattle.parcel_streams.specs.Faults.{IsLoose, mark_body, IsBadMark, IsCut, PieceCause, not_packed, cut, bad_version}
+use Rattle.parcel_streams.specs.Faults.{bad_length, bad_sum, bad_kind, bad_parcel, loose, bad_mark, FirstPieceFault}
 use Rattle.parcel_streams.specs.Answers.{HasPiece, mark_stated}
 use Rattle.parcel_streams.proofs.Fitted.{IsFitted-from, IsTight-from}
 use Rattle.parcel_streams.proofs.Marks.{kind_least, kind_most, mark_there, sound_or_empty, sound_not_bad}

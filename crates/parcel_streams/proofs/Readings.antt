@@ -1,5 +1,6 @@
 -- A piece at the front of some bytes: what the bytes state decides it.
-use Rattle.std.proofs.Common.{◌≡◌, ℕ, ◌+◌, ◌-◌, ◌<◌, ◌≤◌, List, ◌++◌, length, drop, refl, sym, ap, ◌∙◌, subst, arith, length-drop, length-take-le}
+use Rattle.std.proofs.Common.{◌≡◌, ℕ, ◌+◌, ◌-◌, ◌<◌, ◌≤◌, List, ◌++◌, length, drop, refl, sym, ap, ◌∙◌, subst, arith}
+use Rattle.std.proofs.Common.{length-drop, length-take-le}
 use Rattle.std.proofs.lemmas.List.{drop-drop}
 use Rattle.trace_model.specs.FirstFault.{AreBytes}
 use Rattle.trace_model.specs.Image.{le64, from_le64, commit_word, commit_of, stored_count, filled, image_of}
@@ -9,15 +10,20 @@ use Rattle.trace_model.proofs.words.OneWord.{AreBytes-drop, AreBytes-take}
 use Rattle.trace_model.proofs.images.ImageParts.{from_le64-le64, from_le64_lt, drop-le64}
 use Rattle.trace_model.proofs.images.Images.{length-image_of}
 use Rattle.trace_model.proofs.images.ParcelParts.{HasNumbers-are}
-use Rattle.trace_model.proofs.images.Parcels.{length-bytes_of_parcel, DecodesParcel-bytes_of_parcel, DecodesParcel-unique}
+use Rattle.trace_model.proofs.images.Parcels.{length-bytes_of_parcel, DecodesParcel-bytes_of_parcel}
+use Rattle.trace_model.proofs.images.Parcels.{DecodesParcel-unique}
 use Rattle.parcel_streams.specs.declared.piece.Mark.{Mark}
 use Rattle.parcel_streams.specs.declared.piece.Piece.{Piece}
 use Rattle.parcel_streams.specs.declared.frame.Frame.{Frame}
 use Rattle.parcel_streams.specs.declared.fault.PieceFault.{PieceFault}
-use Rattle.parcel_streams.specs.declared.fault.PieceFault.TheVariants.{NotPacked, Cut, BadVersion, BadLength, BadSum, BadKind, Parcel, Loose, BadMark, NoMemory}
-use Rattle.parcel_streams.specs.Pieces.{Packed, parcel_piece, mark_piece, kind_of_mark, numbers_of_mark, sealed, bytes_of_piece, IsParcelPiece, IsPiece, BeginsWith}
-use Rattle.parcel_streams.specs.Faults.{length_in, kind_in, stream_in, body_in, IsSealed, HoldsParcel, IsFitted, IsLoose, IsBadMark}
-use Rattle.parcel_streams.specs.Answers.{piece_seen, HasPiece, IsPieceFault, HasFrame, HasBody, IsBodyFault, mark_stated, IsMarkBody}
+use Rattle.parcel_streams.specs.declared.fault.PieceFault.TheVariants.{NotPacked, Cut, BadVersion, BadLength, BadSum}
+use Rattle.parcel_streams.specs.declared.fault.PieceFault.TheVariants.{BadKind, Parcel, Loose, BadMark, NoMemory}
+use Rattle.parcel_streams.specs.Pieces.{Packed, parcel_piece, mark_piece, kind_of_mark, numbers_of_mark, sealed}
+use Rattle.parcel_streams.specs.Pieces.{bytes_of_piece, IsParcelPiece, IsPiece, BeginsWith}
+use Rattle.parcel_streams.specs.Faults.{length_in, kind_in, stream_in, body_in, IsSealed, HoldsParcel, IsFitted}
+use Rattle.parcel_streams.specs.Faults.{IsLoose, IsBadMark}
+use Rattle.parcel_streams.specs.Answers.{piece_seen, HasPiece, IsPieceFault, HasFrame, HasBody, IsBodyFault}
+use Rattle.parcel_streams.specs.Answers.{mark_stated, IsMarkBody}
 use Rattle.parcel_streams.proofs.Frames.{length-sealed, FrameIs, frame_is, sealed_there}
 use Rattle.parcel_streams.proofs.Fitted.{filled_is, fitted_from, IsTight-from}
 use Rattle.parcel_streams.proofs.Marks.{kind_least, kind_most, length-mark, mark_least, mark_most, stated_is}

@@ -1,10 +1,12 @@
 -- Streams: pieces one after the other, which the bytes decide.
-use Rattle.std.proofs.Common.{◌≡◌, ◌⊎◌, inl, inr, ⊎_elim, ℕ, zero, suc, ◌+◌, ◌<◌, ◌≤◌, List, [], ◌∷◌, ◌++◌, length, refl, sym, ap, ◌∙◌, subst, arith, append_assoc, append-nil, length-append}
+use Rattle.std.proofs.Common.{◌≡◌, ◌⊎◌, inl, inr, ⊎_elim, ℕ, zero, suc, ◌+◌, ◌<◌, ◌≤◌, List, [], ◌∷◌, ◌++◌, length}
+use Rattle.std.proofs.Common.{refl, sym, ap, ◌∙◌, subst, arith, append_assoc, append-nil, length-append}
 use Rattle.trace_model.specs.FirstFault.{AreBytes}
 use Rattle.trace_model.proofs.words.OneWord.{AreBytes-drop}
 use Rattle.trace_model.specs.Image.{le64}
 use Rattle.trace_model.specs.ParcelBytes.{bytes_of_parcel}
-use Rattle.parcel_streams.specs.Pieces.{Packed, parcel_piece, mark_piece, kind_of_mark, numbers_of_mark, bytes_of_piece, IsPiece, BeginsWith, AreAllPieces, bytes_of_pieces, IsStream}
+use Rattle.parcel_streams.specs.Pieces.{Packed, parcel_piece, mark_piece, kind_of_mark, numbers_of_mark, bytes_of_piece}
+use Rattle.parcel_streams.specs.Pieces.{IsPiece, BeginsWith, AreAllPieces, bytes_of_pieces, IsStream}
 use Rattle.parcel_streams.specs.Faults.{PieceCause, FirstPieceFault, FirstStreamFault, length_in}
 use Rattle.parcel_streams.proofs.Frames.{length-sealed}
 use Rattle.parcel_streams.proofs.Marks.{kind_least, kind_most, length-mark, mark_least}

@@ -4,7 +4,8 @@ use Rattle.trace_model.specs.Image.{le64, from_le64}
 use Rattle.trace_model.specs.ParcelBytes.{bytes_of_parcel, DecodesParcel, ParcelCause, FirstParcelFault}
 use Rattle.trace_model.specs.Parcel.{Parcel as ParcelSeen}
 use Rattle.page_numbers.specs.declared.fault.ParcelFault.{ParcelFault}
-use Rattle.page_numbers.specs.declared.fault.ParcelFault.TheVariants.{Image, NumberOverflow, MissedTooMany, MissedDiffers, BadCpu, NoMemory as MemoryThere}
+use Rattle.page_numbers.specs.declared.fault.ParcelFault.TheVariants.{Image, NumberOverflow, MissedTooMany}
+use Rattle.page_numbers.specs.declared.fault.ParcelFault.TheVariants.{MissedDiffers, BadCpu, NoMemory as MemoryThere}
 use Rattle.page_numbers.specs.Parcels.{ParcelValue, as_parcel}
 use Rattle.page_numbers.specs.Faults.{parcel_fault}
 use Rattle.trace_model.specs.declared.limits.TheConstants.{MAX_CPUS}
@@ -15,9 +16,13 @@ use Rattle.parcel_streams.specs.declared.piece.Piece.TheVariants.{Parcel as Parc
 use Rattle.parcel_streams.specs.declared.frame.Frame.{Frame}
 use Rattle.parcel_streams.specs.declared.fault.StreamFault.{StreamFault}
 use Rattle.parcel_streams.specs.declared.fault.PieceFault.{PieceFault}
-use Rattle.parcel_streams.specs.declared.fault.PieceFault.TheVariants.{NotPacked, Cut, BadVersion, BadLength, BadSum, BadKind, Parcel, Loose, BadMark, NoMemory}
-use Rattle.parcel_streams.specs.Pieces.{Packed, parcel_piece, mark_piece, kind_of_mark, numbers_of_mark, IsMark, sealed, bytes_of_piece, IsPiece, BeginsWith}
-use Rattle.parcel_streams.specs.Faults.{IsSealed, kind_in, stream_in, body_in, length_in, IsFitted, IsLoose, IsBadMark, PieceCause, not_packed, cut, bad_version, bad_length, bad_sum, bad_kind, bad_parcel, loose, bad_mark, FirstPieceFault, ReadsTo}
+use Rattle.parcel_streams.specs.declared.fault.PieceFault.TheVariants.{NotPacked, Cut, BadVersion, BadLength, BadSum}
+use Rattle.parcel_streams.specs.declared.fault.PieceFault.TheVariants.{BadKind, Parcel, Loose, BadMark, NoMemory}
+use Rattle.parcel_streams.specs.Pieces.{Packed, parcel_piece, mark_piece, kind_of_mark, numbers_of_mark, IsMark, sealed}
+use Rattle.parcel_streams.specs.Pieces.{bytes_of_piece, IsPiece, BeginsWith}
+use Rattle.parcel_streams.specs.Faults.{IsSealed, kind_in, stream_in, body_in, length_in, IsFitted, IsLoose, IsBadMark}
+use Rattle.parcel_streams.specs.Faults.{PieceCause, not_packed, cut, bad_version, bad_length, bad_sum, bad_kind}
+use Rattle.parcel_streams.specs.Faults.{bad_parcel, loose, bad_mark, FirstPieceFault, ReadsTo}
 
 -- the model's piece of a parcel, which has the page's time and data and not its room
 abbrev pub piece_of_parcel : ℕ → ParcelValue → Packed

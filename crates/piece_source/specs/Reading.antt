@@ -1,6 +1,7 @@
 -- What is read of a source of pieces. The bytes that a source has yet to give are known, or they aren't; where they
 -- aren't, nothing is said of them.
-use Rattle.std.specs.Prelude.{◌≡◌, ℕ, ◌-◌, ◌^◌, ◌<◌, ◌≤◌, min, ◌⊎◌, ⊤, List, ◌++◌, length, Option, Some, None, Result, Ok, Err}
+use Rattle.std.specs.Prelude.{◌≡◌, ℕ, ◌-◌, ◌^◌, ◌<◌, ◌≤◌, min, ◌⊎◌, ⊤, List, ◌++◌, length, Option, Some, None, Result}
+use Rattle.std.specs.Prelude.{Ok, Err}
 use Rattle.std.specs.Io.KnownBytes.{Consumes, IsAtEnd}
 use Rattle.parcel_streams.specs.Pieces.{Packed, bytes_of_piece, IsPiece, AreAllPieces, bytes_of_pieces}
 use Rattle.parcel_streams.specs.Faults.{HasMagic, PieceCause, FirstPieceFault, IsDecided}

@@ -14,7 +14,8 @@ use Rattle.reader_thread.specs.Value.{ReaderEndValue}
 use Rattle.reader_thread.specs.Takes.{IsPageFound, IsNoneFound, IsPutOff}
 
 -- the page's parcel is that of what was taken
-parcel_is : (cpu size : ℕ) (page : Contents) (missed : ℕ) (t : TakenFill) → IsTakenPage size page missed t → as_parcel (fitted_parcel cpu page missed) ≡ parcel_of cpu t
+parcel_is : (cpu size : ℕ) (page : Contents) (missed : ℕ) (t : TakenFill) → IsTakenPage size page missed t
+    → as_parcel (fitted_parcel cpu page missed) ≡ parcel_of cpu t
 parcel_is cpu size page missed t is =
     let fill = is.written.fill_is in
     let first = is.written.first_is in
@@ -23,7 +24,9 @@ parcel_is cpu size page missed t is =
     cc
 
 -- one parcel more is that of what was taken
-pub one_more : (cpu size : ℕ) (before after : List ParcelValue) (page : Contents) (missed : ℕ) (t : TakenFill) → IsTakenPage size page missed t → after ≡ before ++ fitted_parcel cpu page missed ∷ [] → as_parcels after ≡ as_parcels before ++ parcel_of cpu t ∷ []
+pub one_more : (cpu size : ℕ) (before after : List ParcelValue) (page : Contents) (missed : ℕ) (t : TakenFill)
+    → IsTakenPage size page missed t → after ≡ before ++ fitted_parcel cpu page missed ∷ []
+    → as_parcels after ≡ as_parcels before ++ parcel_of cpu t ∷ []
 one_more cpu size before after page missed t is kept =
     ap as_parcels kept
     ∙ map-append as_parcel before (fitted_parcel cpu page missed ∷ [])
@@ -49,7 +52,11 @@ pub none_parcels : (cpu : ℕ) (taken : List ParcelValue) (was now : List TakenF
     → as_parcels taken ≡ map (parcel_of cpu) now
 none_parcels cpu taken was now were now_is = were ∙ ap (map (parcel_of cpu)) (sym now_is)
 
-pub page_found : (before after : ReaderEndValue) (page : Contents) (missed : ℕ) → TakesSteps before.reader.shape before.reader.part (Page page missed) after.reader.part → after.reader.empty_at ≡ None → IsPageTaken before.reader.shape before.reader.part page missed after.reader.part → after.taken ≡ before.taken ++ fitted_parcel before.cpu page missed ∷ [] → (back : List ℕ) × (after.body ≡ Some back) → IsPageFound before after
+pub page_found : (before after : ReaderEndValue) (page : Contents) (missed : ℕ)
+    → TakesSteps before.reader.shape before.reader.part (Page page missed) after.reader.part
+    → after.reader.empty_at ≡ None → IsPageTaken before.reader.shape before.reader.part page missed after.reader.part
+    → after.taken ≡ before.taken ++ fitted_parcel before.cpu page missed ∷ []
+    → (back : List ℕ) × (after.body ≡ Some back) → IsPageFound before after
 page_found before after page missed steps empty_at is kept body = record {
   kept = body;
   page = page;
@@ -60,10 +67,30 @@ page_found before after page missed steps empty_at is kept body = record {
   one_more = one_more before.cpu before.reader.shape.size before.taken after.taken page missed is.taken is.is kept;
 }
 
-pub none_found : (before after : ReaderEndValue) (done : ℕ) (back : List ℕ) → TakesSteps before.reader.shape before.reader.part (Empty done back) after.reader.part → after.reader.empty_at ≡ Some done → IsEmptyFound before.reader.shape before.reader.part done after.reader.part → after.taken ≡ before.taken → after.body ≡ Some back → IsNoneFound before after
+pub none_found : (before after : ReaderEndValue) (done : ℕ) (back : List ℕ)
+    → TakesSteps before.reader.shape before.reader.part (Empty done back) after.reader.part
+    → after.reader.empty_at ≡ Some done → IsEmptyFound before.reader.shape before.reader.part done after.reader.part
+    → after.taken ≡ before.taken → after.body ≡ Some back → IsNoneFound before after
 none_found before after done back steps empty_at is kept body =
-    record { done = done; back = back; answer = record { steps = steps; empty_at = empty_at }; is = is; kept = body; taken_are = kept }
+    record {
+      done = done;
+      back = back;
+      answer = record { steps = steps; empty_at = empty_at };
+      is = is;
+      kept = body;
+      taken_are = kept;
+    }
 
-pub put_off : (before after : ReaderEndValue) (fill : FillNo) (back : List ℕ) → TakesSteps before.reader.shape before.reader.part (Moving fill back) after.reader.part → after.reader.empty_at ≡ None → IsMovingFound before.reader.shape before.reader.part fill.0 after.reader.part → after.taken ≡ before.taken → after.body ≡ Some back → IsPutOff before after
+pub put_off : (before after : ReaderEndValue) (fill : FillNo) (back : List ℕ)
+    → TakesSteps before.reader.shape before.reader.part (Moving fill back) after.reader.part
+    → after.reader.empty_at ≡ None → IsMovingFound before.reader.shape before.reader.part fill.0 after.reader.part
+    → after.taken ≡ before.taken → after.body ≡ Some back → IsPutOff before after
 put_off before after fill back steps empty_at is kept body =
-    record { fill = fill; back = back; answer = record { steps = steps; empty_at = empty_at }; is = is; kept = body; taken_are = kept }
+    record {
+      fill = fill;
+      back = back;
+      answer = record { steps = steps; empty_at = empty_at };
+      is = is;
+      kept = body;
+      taken_are = kept;
+    }

@@ -1,5 +1,6 @@
 -- One more take, among what a reader made.
-use Rattle.std.proofs.Common.{◌≡◌, ℕ, List, [], ◌∷◌, ◌++◌, length, refl, sym, ap, ◌∙◌, subst, arith, append_assoc, append-nil, length-append}
+use Rattle.std.proofs.Common.{◌≡◌, ℕ, List, [], ◌∷◌, ◌++◌, length, refl, sym, ap, ◌∙◌, subst, arith, append_assoc}
+use Rattle.std.proofs.Common.{append-nil, length-append}
 use Rattle.std.specs.Prelude.{map}
 use Rattle.std.proofs.lemmas.List.{map-append}
 use Rattle.trace_model.specs.Ring.{TakenFill, Reader, Core}
@@ -18,7 +19,8 @@ use Rattle.ring_shared.specs.Takes.{IsPageTaken, ReadsSo, ReadsOn, no_step, one_
 use Rattle.reader_thread.specs.TakesMade.{reads_in, AreReadingOn, AnswersPages, AreTakes, answered, put_off}
 
 -- a step of the reader is the one exchange that it has made more
-read_one : (shape : Shape) (before : Reading) (sees : Core → Type 0) (event : model.Event) (answer : model.Answer) (after : Reading)
+read_one : (shape : Shape) (before : Reading) (sees : Core → Type 0) (event : model.Event) (answer : model.Answer)
+    (after : Reading)
     → IsReaderStep shape before sees event answer after
     → reads_in after ≡ reads_in before ++ record { event = event; answer = answer } ∷ []
 read_one shape before sees event answer after s =

@@ -4,7 +4,8 @@ use Rattle.trace_model.specs.declared.numbers.FillNo.{FillNo}
 use Rattle.world_model.specs.World.{parcel_of}
 use Rattle.page_image.specs.Contents.{Contents}
 use Rattle.page_numbers.specs.Parcels.{as_parcels, fitted_parcel}
-use Rattle.ring_shared.specs.declared.take.Take.TheVariants.{Page as page_answer, Empty as empty_answer, Moving as moving_answer}
+use Rattle.ring_shared.specs.declared.take.Take.TheVariants.{Page as page_answer, Empty as empty_answer}
+use Rattle.ring_shared.specs.declared.take.Take.TheVariants.{Moving as moving_answer}
 use Rattle.ring_shared.specs.Takes.{IsPageTaken, IsEmptyFound, IsMovingFound, AnswersTake}
 use Rattle.reader_thread.specs.declared.end.Found.{Found}
 use Rattle.reader_thread.specs.declared.end.Found.TheVariants.{Page, Empty, Moving}

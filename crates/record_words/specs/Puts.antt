@@ -1,5 +1,6 @@
 -- What is put at the front of a buffer.
-use Rattle.std.specs.Prelude.{◌≡◌, ℕ, ◌+◌, ◌/◌, ◌≤◌, ◌<◌, ◌⊎◌, Bool, true, if◌then◌else◌, nat_le, List, ◌++◌, length, drop}
+use Rattle.std.specs.Prelude.{◌≡◌, ℕ, ◌+◌, ◌/◌, ◌≤◌, ◌<◌, ◌⊎◌, Bool, true, if◌then◌else◌, nat_le, List, ◌++◌, length}
+use Rattle.std.specs.Prelude.{drop}
 use Rattle.trace_model.specs.Words.{le32, first_word, encoded_len}
 use Rattle.trace_model.specs.declared.limits.TheConstants.{MOMENT_LIMIT}
 use Rattle.record_words.specs.declared.format.TheConstants.{SHORT_LIMIT, MAX_PAYLOAD}

@@ -157,10 +157,12 @@ fn put_short_payload(out: &mut [u8], delta: u32, payload: &[u8]) -> usize
     ensures put { Puts out.old out.new (bytes_of_word (data_word delta (padded payload.now))) }
     ensures len { result ≡ 4 + slot_len (length payload.now) }
 {
-    let slot = slot_len(payload.len());
-    put_word(out, (slot / 4) as u32, delta);
-    put_padded(&mut out[4..], slot, payload);
-    4 + slot
+    let len = payload.len().max(1);
+    let words = (len + 3) / 4;
+    let size = (4 + len).next_multiple_of(4);
+    put_word(out, words as u32, delta);
+    put_padded(&mut out[4..], size - 4, payload);
+    size
 }
 
 /// `put_payload`, whatever the record's form.

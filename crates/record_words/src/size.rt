@@ -22,8 +22,7 @@ pub fn size_of(len: usize, delta: u64, first: bool) -> usize
     requires time { (first ≡ true) ⊎ (delta < MOMENT_LIMIT) }
     ensures { result ≡ encoded_len len delta first }
 {
-    let slot = slot_len(len);
     let extend = if first || delta < EXTEND_FROM { 0 } else { 8 };
     let word = if len <= SHORT_LIMIT { 4 } else { 8 };
-    extend + word + slot
+    extend + (word + len.max(1)).next_multiple_of(4)
 }

@@ -15,7 +15,8 @@ use Rattle.stream_command.specs.Gathering.{IsGathered}
 use Rattle.ring_region.specs.declared.regions.Region.{Region}
 use Rattle.recover_command.specs.declared.ending.Outcome.{Outcome}
 use Rattle.recover_command.specs.declared.ending.Ending.{Ending}
-use Rattle.recover_command.specs.declared.ending.Ending.TheVariants.{Done, Damaged, Malformed, NoMemory, NotRead, TooLong, NotWritten}
+use Rattle.recover_command.specs.declared.ending.Ending.TheVariants.{Done, Damaged, Malformed, NoMemory, NotRead}
+use Rattle.recover_command.specs.declared.ending.Ending.TheVariants.{TooLong, NotWritten}
 use Rattle.recover_command.specs.declared.read.Unread.{Unread}
 use Rattle.recover_command.specs.declared.read.Unread.TheVariants.{Read, TooLong as TooMany, Fault, NoMemory as NoRoom}
 use Rattle.recover_command.specs.declared.read.Stopped.{Stopped}
@@ -73,7 +74,8 @@ abbrev pub TellsStop : (input : ℕ) → Stop → (contents after : Option (List
 TellsStop input NoRoomLeft contents after failed ending = IsMemoryLine contents after failed ending
 TellsStop input (Refused index at stream cpu refusal) contents after failed ending =
     ((is_memory_refusal refusal ≡ false)
-    × IsTextWritten contents after failed (fault_line at index (RefusedPiece stream cpu refusal)) (Malformed input) ending)
+    × IsTextWritten contents after failed (fault_line at index (RefusedPiece stream cpu refusal)) (Malformed input)
+    ending)
     ⊎ ((is_memory_refusal refusal ≡ true) × IsMemoryLine contents after failed ending)
 
 module _ {R : Type 0} (remaining : R → Option (List ℕ)) (count : R → ℕ) (has_failed : R → Bool) where

@@ -3,7 +3,8 @@ use Rattle.std.specs.Prelude.{ℕ, if◌then◌else◌}
 use Rattle.command_io.specs.declared.status.TheConstants.{DONE, REFUSED, NO_MEMORY, END_FAILED}
 use Rattle.recover_command.specs.declared.ending.Outcome.{Outcome}
 use Rattle.recover_command.specs.declared.ending.Ending.{Ending}
-use Rattle.recover_command.specs.declared.ending.Ending.TheVariants.{Done, Damaged, Malformed, NoMemory, NotRead, TooLong, NotWritten}
+use Rattle.recover_command.specs.declared.ending.Ending.TheVariants.{Done, Damaged, Malformed, NoMemory, NotRead}
+use Rattle.recover_command.specs.declared.ending.Ending.TheVariants.{TooLong, NotWritten}
 
 abbrev pub status_for : Ending → ℕ
 status_for Done = DONE

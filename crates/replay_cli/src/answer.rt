@@ -27,14 +27,16 @@ pub fn answer_to<R: Source, W: Sink>(
     ensures refused { IsRefusedCall
         ((call.entry ≡ Ok Call.Run) ⊎ (call.entry ≡ Ok Call.Steps) ⊎ (call.entry ≡ Ok Call.Dump)
         ⊎ ((asked : CollectCall) × (call.entry ≡ Ok (Call.Collect asked)))
-        ⊎ ((asked : RecoverCall) × (call.entry ≡ Ok (Call.Recover asked))) ⊎ (call.entry ≡ Err CallFault.Usage))
+        ⊎ ((asked : RecoverCall) × (call.entry ≡ Ok (Call.Recover asked))) ⊎ (call.entry ≡ Ok Call.Version)
+        ⊎ (call.entry ≡ Err CallFault.Usage))
         (call.entry ≡ Err CallFault.NoMemory)
         (source_run R.remaining R.count R.failed reader.old reader.new)
         (sink_run W.contents W.failed writer.old writer.new) result }
 {
     match call {
         Ok(Call::Replay { log }) => replay_to(alloc, reader, writer, log),
-        Ok(Call::Run | Call::Steps | Call::Dump | Call::Collect(_) | Call::Recover(_)) => USAGE,
+        Ok(Call::Run | Call::Steps | Call::Dump) => USAGE,
+        Ok(Call::Collect(_) | Call::Recover(_) | Call::Version) => USAGE,
         Err(CallFault::NoMemory) => print_memory_line(writer),
         Err(CallFault::Usage) => USAGE,
     }

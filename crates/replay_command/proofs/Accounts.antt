@@ -1,5 +1,6 @@
 -- The printing of a script's world is an account of it.
-use Rattle.std.proofs.Common.{◌≡◌, ◌⊎◌, ℕ, zero, suc, ◌<◌, ◌≤◌, Bool, List, [], ◌∷◌, length, map, Some, refl, sym, ap, ◌∙◌, subst, inl, inr, arith}
+use Rattle.std.proofs.Common.{◌≡◌, ◌⊎◌, ℕ, zero, suc, ◌<◌, ◌≤◌, Bool, List, [], ◌∷◌, length, map, Some, refl, sym, ap}
+use Rattle.std.proofs.Common.{◌∙◌, subst, inl, inr, arith}
 use Rattle.std.specs.Prelude.{Contains, slice_index_or, ◌↔◌, ◌==◌}
 use Rattle.std.specs.List.{slice_get, AllZip}
 use Rattle.std.proofs.lemmas.List.{length-map}
@@ -21,7 +22,8 @@ use Rattle.command_io.specs.declared.status.TheConstants.{DONE, REFUSED}
 use Rattle.collector.specs.Runs.{AreRuns}
 use Rattle.collector_text.specs.Prints.{IsPrintOf}
 use Rattle.world_model.specs.World.{World, WorldOf, IsFill}
-use Rattle.world_model.specs.GenuineWorlds.{StandsIn, IsOverwrittenBefore, parcels_from, IsOneOf, IsExact, IsGenuineWorld}
+use Rattle.world_model.specs.GenuineWorlds.{StandsIn, IsOverwrittenBefore, parcels_from, IsOneOf, IsExact}
+use Rattle.world_model.specs.GenuineWorlds.{IsGenuineWorld}
 use Rattle.world_model.specs.Printing.{Shown}
 use Rattle.world_model.proofs.Lookups.{element_at, contains_at, get_map, get_from_map, kept_by}
 use Rattle.world_model.proofs.KeptElements.{kept_from}
@@ -43,7 +45,8 @@ abbrev keys_of : List Parcel → List (ℕ × ℕ)
 keys_of parcels = map key_of parcels
 
 -- of the same numbers the runs are the same
-same_runs : (holds other : ℕ → Type 0) (runs : List (ℕ × ℕ)) → ((number : ℕ) → holds number ↔ other number) → AreRuns holds runs → AreRuns other runs
+same_runs : (holds other : ℕ → Type 0) (runs : List (ℕ × ℕ)) → ((number : ℕ) → holds number ↔ other number)
+    → AreRuns holds runs → AreRuns other runs
 same_runs holds other runs both are = record {
   forward = are.forward;
   apart = are.apart;
@@ -51,7 +54,8 @@ same_runs holds other runs both are = record {
   whole = λ number has. are.whole number ((both number).1 has);
 }
 
-module _ (script : Script) (w : World) (limits : IsWithinLimits script) (of : WorldOf script w) (genuine : IsGenuineWorld script w) where
+module _ (script : Script) (w : World) (limits : IsWithinLimits script) (of : WorldOf script w)
+    (genuine : IsGenuineWorld script w) where
   -- ---- the states of a CPU
 
   data Known (cpu : ℕ) : Type 0 where
@@ -91,13 +95,17 @@ module _ (script : Script) (w : World) (limits : IsWithinLimits script) (of : Wo
   behind_kept : (k : ℕ) → IsWorldKept script (behind k)
   behind_kept k = kept_at script script.commands of.new w of.obeyed (new_kept script of.new limits of.is_new) k
 
-  was_taken : (cpu : ℕ) (is_known : Known cpu) (k : ℕ) (parcel : Parcel) → parcel.cpu ≡ cpu → Contains (behind k).taken parcel → Contains (fills_taken script.start (states_of cpu is_known k).events) parcel.fill
+  was_taken : (cpu : ℕ) (is_known : Known cpu) (k : ℕ) (parcel : Parcel) → parcel.cpu ≡ cpu
+      → Contains (behind k).taken parcel
+      → Contains (fills_taken script.start (states_of cpu is_known k).events) parcel.fill
   was_taken cpu (known low) k parcel is has =
       let (i, there) = element_at (behind k).taken parcel has in
       let (j, place) = kept_by (λ p. p.cpu == cpu) (behind k).taken i parcel there (eq-eqb parcel.cpu cpu is) in
       subst (λ (l : List ℕ). Contains l parcel.fill) (sym (taken_behind script w limits of cpu low k))
-      (contains_at (map (λ p. p.fill) (parcels_from cpu (behind k).taken)) j parcel.fill (get_map (λ (p : Parcel). p.fill) (parcels_from cpu (behind k).taken) j parcel place))
-  was_taken cpu (unknown past) k parcel is has = absurd (let low = (behind_kept k).of_a_cpu parcel has in let no : ⊥ = omega (arith, past, low, is) in no)
+      (contains_at (map (λ p. p.fill) (parcels_from cpu (behind k).taken)) j parcel.fill
+      (get_map (λ (p : Parcel). p.fill) (parcels_from cpu (behind k).taken) j parcel place))
+  was_taken cpu (unknown past) k parcel is has =
+      absurd (let low = (behind_kept k).of_a_cpu parcel has in let no : ⊥ = omega (arith, past, low, is) in no)
 
   none_in : (x : ℕ) → Contains [] x → ⊥
   none_in x (k, low, is) = omega (arith, low)
@@ -106,10 +114,13 @@ module _ (script : Script) (w : World) (limits : IsWithinLimits script) (of : Wo
   IsTaken : (cpu fill k : ℕ) → Type 0
   IsTaken cpu fill k = (parcel : Parcel) × Contains (behind k).taken parcel × IsFill cpu fill parcel
 
-  taken_from : (cpu : ℕ) (is_known : Known cpu) (fill k : ℕ) → Contains (fills_taken script.start (states_of cpu is_known k).events) fill → IsTaken cpu fill k
+  taken_from : (cpu : ℕ) (is_known : Known cpu) (fill k : ℕ)
+      → Contains (fills_taken script.start (states_of cpu is_known k).events) fill → IsTaken cpu fill k
   unfolding IsTaken
   taken_from cpu (known low) fill k has =
-      let (j, at) = element_at (map (λ p. p.fill) (parcels_from cpu (behind k).taken)) fill (subst (λ (l : List ℕ). Contains l fill) (taken_behind script w limits of cpu low k) has) in
+      let (j, at) =
+      element_at (map (λ p. p.fill) (parcels_from cpu (behind k).taken)) fill
+      (subst (λ (l : List ℕ). Contains l fill) (taken_behind script w limits of cpu low k) has) in
       let (parcel, there, is) = get_from_map (λ (p : Parcel). p.fill) (parcels_from cpu (behind k).taken) j fill at in
       let (i, place, passes) = kept_from (λ p. p.cpu == cpu) (behind k).taken j parcel there in
       (parcel, contains_at (behind k).taken i parcel place, (eqb-true parcel.cpu cpu passes, is))
@@ -121,8 +132,10 @@ module _ (script : Script) (w : World) (limits : IsWithinLimits script) (of : Wo
       × (slice_get script.commands k ≡ Some (line, deliver collector cpu fill))
       × Contains (fills_taken script.start (states cpu k).events) fill
 
-  handed : (collector : ℕ) (parcel : Parcel) → IsHanded script script.commands of.new w of.obeyed collector parcel → IsHandedOver collector parcel.cpu parcel.fill
-  handed collector parcel (k, line, at, taken) = (k, line, at, was_taken parcel.cpu (known_at parcel.cpu) k parcel refl taken)
+  handed : (collector : ℕ) (parcel : Parcel) → IsHanded script script.commands of.new w of.obeyed collector parcel
+      → IsHandedOver collector parcel.cpu parcel.fill
+  handed collector parcel (k, line, at, taken) =
+      (k, line, at, was_taken parcel.cpu (known_at parcel.cpu) k parcel refl taken)
 
   is_delivered : (collector : ℕ) (own : List (ℕ × ℕ)) (cpu fill : ℕ)
       → slice_get (map keys_of w.delivered) collector ≡ Some own
@@ -131,9 +144,12 @@ module _ (script : Script) (w : World) (limits : IsWithinLimits script) (of : Wo
   is_delivered collector own cpu fill own_at has =
       let (parcels, at, is) = get_from_map keys_of w.delivered collector own own_at in
       let (k, there) = element_at own (cpu, fill) has in
-      let (parcel, parcel_at, same) = get_from_map key_of parcels k (cpu, fill) (subst (λ (l : List (ℕ × ℕ)). slice_get l k ≡ Some (cpu, fill)) (sym is) there) in
+      let (parcel, parcel_at, same) =
+      get_from_map key_of parcels k (cpu, fill)
+      (subst (λ (l : List (ℕ × ℕ)). slice_get l k ≡ Some (cpu, fill)) (sym is) there) in
       subst (λ (key : ℕ × ℕ). IsHandedOver collector key.0 key.1) same
-      (handed collector parcel (handed_by_lines script w collector parcels parcel of at (contains_at parcels k parcel parcel_at)))
+      (handed collector parcel
+      (handed_by_lines script w collector parcels parcel of at (contains_at parcels k parcel parcel_at)))
 
   was_delivered : (collector : ℕ) (own : List (ℕ × ℕ)) (cpu fill : ℕ)
       → slice_get (map keys_of w.delivered) collector ≡ Some own
@@ -142,25 +158,32 @@ module _ (script : Script) (w : World) (limits : IsWithinLimits script) (of : Wo
   unfolding IsTaken
   was_delivered collector own cpu fill own_at (k, line, at, has) =
       let (parcel, taken, is) = taken_from cpu (known_at cpu) fill k has in
-      let (other, same, got) = hands_lines script script.commands of.new w of.obeyed k line collector cpu fill parcel at taken is in
+      let (other, same, got) =
+      hands_lines script script.commands of.new w of.obeyed k line collector cpu fill parcel at taken is in
       let (parcels, parcels_at, one) = got in
       let (i, place) = element_at parcels other one in
-      let own_is : own ≡ keys_of parcels = some_is own (keys_of parcels) (sym own_at ∙ get_map keys_of w.delivered collector parcels parcels_at) in
+      let own_is : own ≡ keys_of parcels =
+      some_is own (keys_of parcels) (sym own_at ∙ get_map keys_of w.delivered collector parcels parcels_at) in
       let key : key_of other ≡ (cpu, fill) = (λ i. (same.0 i, same.1 i)) in
       subst (λ (l : List (ℕ × ℕ)). Contains l (cpu, fill)) (sym own_is)
-      (contains_at (keys_of parcels) i (cpu, fill) (get_map key_of parcels i other place ∙ ap (λ (x : ℕ × ℕ). Some x) key))
+      (contains_at (keys_of parcels) i (cpu, fill)
+      (get_map key_of parcels i other place ∙ ap (λ (x : ℕ × ℕ). Some x) key))
 
   -- ---- what is shown
 
   module _ (collector : ℕ) (parcels : List Parcel) (at_parcels : slice_get w.delivered collector ≡ Some parcels) where
     low : (cpu : ℕ) (parcel : Parcel) → parcel.cpu ≡ cpu → Contains parcels parcel → cpu < script.cpus
-    low cpu parcel is has = subst (λ (j : ℕ). j < script.cpus) is (genuine.of_a_cpu parcel (genuine.delivered collector parcels parcel at_parcels has))
+    low cpu parcel is has =
+        subst (λ (j : ℕ). j < script.cpus) is
+        (genuine.of_a_cpu parcel (genuine.delivered collector parcels parcel at_parcels has))
 
     key_in : (cpu : ℕ) (parcel : Parcel) → IsOneOf parcels cpu parcel → Contains (keys_of parcels) (cpu, parcel.fill)
     key_in cpu parcel (has, is) = let (k, at) = element_at parcels parcel has in
-        subst (λ (j : ℕ). Contains (keys_of parcels) (j, parcel.fill)) is (contains_at (keys_of parcels) k (key_of parcel) (get_map key_of parcels k parcel at))
+        subst (λ (j : ℕ). Contains (keys_of parcels) (j, parcel.fill)) is
+        (contains_at (keys_of parcels) k (key_of parcel) (get_map key_of parcels k parcel at))
 
-    key_of_one : (cpu fill : ℕ) → Contains (keys_of parcels) (cpu, fill) → (parcel : Parcel) × IsOneOf parcels cpu parcel × (parcel.fill ≡ fill)
+    key_of_one : (cpu fill : ℕ) → Contains (keys_of parcels) (cpu, fill)
+        → (parcel : Parcel) × IsOneOf parcels cpu parcel × (parcel.fill ≡ fill)
     key_of_one cpu fill has =
         let (k, at) = element_at (keys_of parcels) (cpu, fill) has in
         let (parcel, there, same) = get_from_map key_of parcels k (cpu, fill) at in
@@ -187,34 +210,50 @@ module _ (script : Script) (w : World) (limits : IsWithinLimits script) (of : Wo
         let here : List RingEvent = (states_behind script w limits of cpu below all_lines).events in
         let h : List HistoryEvent = history_events_of here in
         let e : IsExact h script.start cut.events cpu parcels parcels =
-        subst (λ (l : List HistoryEvent). IsExact l script.start cut.events cpu parcels parcels) (sym reported.history_events) (genuine.exact collector cpu parcels lane at_parcels at) in
+        subst (λ (l : List HistoryEvent). IsExact l script.start cut.events cpu parcels parcels)
+        (sym reported.history_events) (genuine.exact collector cpu parcels lane at_parcels at) in
         record {
           has = λ number r. (
-            λ there. let (committed, parcel, one, stands) = (e.has number r).0 there in (committed, parcel.fill, key_in cpu parcel one, stands),
+            λ there. let (committed, parcel, one, stands) = (e.has number r).0 there in
+                (committed, parcel.fill, key_in cpu parcel one, stands),
             λ (committed, fill, key, stands). let (parcel, one, is) = key_of_one cpu fill key in
-                (e.has number r).1 (committed, parcel, one, subst (λ (f : ℕ). StandsIn h script.start f number) (sym is) stands),
+                (e.has number r).1
+                (committed, parcel, one, subst (λ (f : ℕ). StandsIn h script.start f number) (sym is) stands),
           );
           misses = λ number. (
-            λ there. let (parcel, one, over) = (e.misses number).0 there in
-                (parcel.fill, key_in cpu parcel one, overwritten_same script.pages script.start lane.core cut.events here cut.reported reported parcel.fill number over),
+            λ there. let (parcel, one, over) = (e.misses number).0 there in (
+              parcel.fill,
+              key_in cpu parcel one,
+              overwritten_same script.pages script.start lane.core cut.events here cut.reported reported parcel.fill
+                  number over,
+            ),
             λ (fill, key, over). let (parcel, one, is) = key_of_one cpu fill key in
                 (e.misses number).1 (
                   parcel,
                   one,
                   subst (λ (f : ℕ). IsOverwrittenBefore script.start cut.events f number) (sym is)
-                      (overwritten_same script.pages script.start lane.core here cut.events reported cut.reported fill number over),
+                      (overwritten_same script.pages script.start lane.core here cut.events reported cut.reported fill
+                      number over),
                 ),
           );
         }
     is_of cpu (unknown past) =
-        let none : (parcel : Parcel) → parcel.cpu ≡ cpu → Contains parcels parcel → ⊥ = λ parcel is has. (let below = low cpu parcel is has in omega (arith, past, below)) in
+        let none : (parcel : Parcel) → parcel.cpu ≡ cpu → Contains parcels parcel → ⊥ =
+        λ parcel is has. (let below = low cpu parcel is has in omega (arith, past, below)) in
         record {
           has = λ number r. (
-            λ there. absurd (none there.parcel (sym there.pair.cpu_is) (contains_at parcels there.index there.parcel there.at)),
-            λ (committed, fill, key, stands). let (parcel, one, is) = key_of_one cpu fill key in absurd (none parcel one.1 one.0),
+            λ there.
+                absurd
+                (none there.parcel (sym there.pair.cpu_is)
+                (contains_at parcels there.index there.parcel there.at)),
+            λ (committed, fill, key, stands). let (parcel, one, is) = key_of_one cpu fill key in
+                absurd (none parcel one.1 one.0),
           );
           misses = λ number. (
-            λ there. absurd (none there.parcel (sym there.missing.cpu_is) (contains_at parcels there.index there.parcel there.at)),
+            λ there.
+                absurd
+                (none there.parcel (sym there.missing.cpu_is)
+                (contains_at parcels there.index there.parcel there.at)),
             λ (fill, key, over). let (parcel, one, is) = key_of_one cpu fill key in absurd (none parcel one.1 one.0),
           );
         }
@@ -222,24 +261,32 @@ module _ (script : Script) (w : World) (limits : IsWithinLimits script) (of : Wo
     is_shown : (shown : Shown) → IsPrintOf parcels shown → IsShownOf script.start all_events (keys_of parcels) shown
     is_shown shown print = record {
       ordered = print.lines.ordered;
-      lines = λ line. let here = is_of line.cpu (known_at line.cpu) in let r : Record = record { moment = line.moment; bytes = line.bytes } in (
-        λ has. let (k, at) = element_at shown.lines line has in (here.has line.number r).0 (print.lines.of_them k line at),
-        λ there. let (k, at) = print.lines.whole line.cpu line.number r ((here.has line.number r).1 there) in contains_at shown.lines k line at,
-      );
-      missing = λ cpu. same_runs _ _ (slice_index_or shown.runs cpu []) (is_of cpu (known_at cpu)).misses (print.runs cpu);
+      lines = λ line. let here = is_of line.cpu (known_at line.cpu) in
+          let r : Record = record { moment = line.moment; bytes = line.bytes } in (
+            λ has. let (k, at) = element_at shown.lines line has in
+                (here.has line.number r).0 (print.lines.of_them k line at),
+            λ there. let (k, at) = print.lines.whole line.cpu line.number r ((here.has line.number r).1 there) in
+                contains_at shown.lines k line at,
+          );
+      missing =
+          λ cpu. same_runs _ _ (slice_index_or shown.runs cpu []) (is_of cpu (known_at cpu)).misses (print.runs cpu);
     }
 
   all_shown : (delivered : List (List Parcel)) (shown : List Shown)
-      → ((k : ℕ) (parcels : List Parcel) → slice_get delivered k ≡ Some parcels → (collector : ℕ) × (slice_get w.delivered collector ≡ Some parcels))
+      → ((k : ℕ) (parcels : List Parcel) → slice_get delivered k ≡ Some parcels
+      → (collector : ℕ) × (slice_get w.delivered collector ≡ Some parcels))
       → AllZip IsPrintOf delivered shown
       → AllZip (IsShownOf script.start all_events) (map keys_of delivered) shown
   all_shown [] [] places all = tt
   all_shown [] (s ∷ shown) places all = absurd all
   all_shown (d ∷ delivered) [] places all = absurd all
-  all_shown (d ∷ delivered) (s ∷ shown) places all = let (collector, at) = places zero d refl in
-      (is_shown collector d at s all.0, all_shown delivered shown (λ k parcels there. places (suc k) parcels there) all.1)
+  all_shown (d ∷ delivered) (s ∷ shown) places all = let (collector, at) = places zero d refl in (
+    is_shown collector d at s all.0,
+    all_shown delivered shown (λ k parcels there. places (suc k) parcels there) all.1,
+  )
 
-pub accounted : (script : Script) (asked : Bool) (bytes : List ℕ) → IsWithinLimits script → IsPrinting script asked bytes → IsAccounted script asked bytes
+pub accounted : (script : Script) (asked : Bool) (bytes : List ℕ) → IsWithinLimits script
+    → IsPrinting script asked bytes → IsAccounted script asked bytes
 accounted script asked bytes limits p =
     let w : World = p.world in
     let of : WorldOf script w = p.of_script in
@@ -259,14 +306,27 @@ accounted script asked bytes limits p =
     }
 
 -- what `replay` gives with the status 0 is an account
-case_accounted : (asked : Bool) (text bytes : List ℕ) (status : ℕ) → PrintsReplay asked text bytes status ⊎ PrintsFault text bytes status → status ≡ DONE
+case_accounted : (asked : Bool) (text bytes : List ℕ) (status : ℕ)
+    → PrintsReplay asked text bytes status ⊎ PrintsFault text bytes status → status ≡ DONE
     → AccountGives asked text bytes status
-case_accounted asked text bytes status (inl p) is = (p.script, p.spelled, accounted p.script asked bytes (script_in-within text p.script p.spelled) p.printing)
-case_accounted asked text bytes status (inr f) is = absurd (let other : DONE ≡ REFUSED = sym is ∙ f.refused in let no : ⊥ = cc in no)
+case_accounted asked text bytes status (inl p) is =
+    (p.script, p.spelled, accounted p.script asked bytes (script_in-within text p.script p.spelled) p.printing)
+case_accounted asked text bytes status (inr f) is =
+    absurd (let other : DONE ≡ REFUSED = sym is ∙ f.refused in let no : ⊥ = cc in no)
 
-pub account_written : (asked : Bool) (source : SourceRun) (sink : SinkRun) (status : ℕ) → IsCommandRun (ReplayGives asked) source sink status → status ≡ DONE
+pub account_written : (asked : Bool) (source : SourceRun) (sink : SinkRun) (status : ℕ)
+    → IsCommandRun (ReplayGives asked) source sink status → status ≡ DONE
     → WritesOutput (AccountGives asked) source.unread source.left sink.contents sink.contents_after status
 account_written asked source sink status run is =
     let (bytes, output, written) = run.finished (inl is) in
-    let (text, read, at_end, limited, given) = output in
-    (bytes, (text, read, at_end, limited, case_accounted asked text bytes status (cases_given asked text bytes status given) is), written)
+    let (text, read, at_end, limited, given) = output in (
+      bytes,
+      (
+        text,
+        read,
+        at_end,
+        limited,
+        case_accounted asked text bytes status (cases_given asked text bytes status given) is,
+      ),
+      written,
+    )

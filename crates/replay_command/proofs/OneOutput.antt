@@ -21,7 +21,8 @@ use Rattle.replay_command.specs.Commands.{IsPrinting, PrintsReading, PrintsRepla
 
 -- ---- what `replay` gives for a text, by its two cases
 
-reading_cases : (asked : Bool) (text bytes : List ℕ) (status : ℕ) (r : Result Script (ℕ × LineFault)) → script_in text ≡ r
+reading_cases : (asked : Bool) (text bytes : List ℕ) (status : ℕ) (r : Result Script (ℕ × LineFault))
+    → script_in text ≡ r
     → PrintsReading asked r bytes status → PrintsReplay asked text bytes status ⊎ PrintsFault text bytes status
 reading_cases asked text bytes status (Ok script) is (printing, done) =
     inl record { script = script; spelled = is; printing = printing; done = done }
@@ -35,9 +36,11 @@ cases_given asked text bytes status given = reading_cases asked text bytes statu
 pub given_by_cases : (asked : Bool) (text bytes : List ℕ) (status : ℕ)
     → PrintsReplay asked text bytes status ⊎ PrintsFault text bytes status → ReplayGives asked text bytes status
 given_by_cases asked text bytes status (inl a) =
-    subst (λ (r : Result Script (ℕ × LineFault)). PrintsReading asked r bytes status) (sym a.spelled) (a.printing, a.done)
+    subst (λ (r : Result Script (ℕ × LineFault)). PrintsReading asked r bytes status) (sym a.spelled)
+    (a.printing, a.done)
 given_by_cases asked text bytes status (inr a) =
-    subst (λ (r : Result Script (ℕ × LineFault)). PrintsReading asked r bytes status) (sym a.first) (a.printed, a.refused)
+    subst (λ (r : Result Script (ℕ × LineFault)). PrintsReading asked r bytes status) (sym a.first)
+    (a.printed, a.refused)
 
 -- ---- one output
 

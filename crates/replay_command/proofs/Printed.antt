@@ -15,7 +15,8 @@ use Rattle.script_replay.specs.Replay.{IsHeadline}
 use Rattle.replay_command.specs.Commands.{IsPrinting}
 
 pub all_report : (collectors delivered : List (List Parcel)) (shown : List Shown) → length collectors ≡ length delivered
-    → ((collector : ℕ) (kept parcels : List Parcel) → slice_get collectors collector ≡ Some kept → slice_get delivered collector ≡ Some parcels → IsSame kept parcels)
+    → ((collector : ℕ) (kept parcels : List Parcel) → slice_get collectors collector ≡ Some kept
+    → slice_get delivered collector ≡ Some parcels → IsSame kept parcels)
     → AllZip IsPrintOf collectors shown → AllZip IsPrintOf delivered shown
 all_report [] [] [] count same all = tt
 all_report [] [] (s ∷ shown) count same all = absurd all
@@ -27,7 +28,8 @@ all_report (c ∷ collectors) (d ∷ delivered) (s ∷ shown) count same all = (
   all_report collectors delivered shown (omega arith) (λ k kept parcels at bt. same (suc k) kept parcels at bt) all.1,
 )
 
-pub printing : (script : Script) (collectors : List (List Parcel)) (log : List logged.LogLine) (asked : Bool) (bytes : List ℕ)
+pub printing : (script : Script) (collectors : List (List Parcel)) (log : List logged.LogLine) (asked : Bool)
+    (bytes : List ℕ)
     → IsHeadline script collectors log
     → (shown : List Shown) × AllZip IsPrintOf collectors shown × (bytes ≡ printed_world asked (shown_log log) shown)
     → IsPrinting script asked bytes

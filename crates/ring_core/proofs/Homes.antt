@@ -17,7 +17,8 @@ get_set_same [] i x low = absurd (omega arith)
 get_set_same (y ∷ xs) zero x low = refl
 get_set_same (y ∷ xs) (suc i) x low = get_set_same xs i x (omega arith)
 
-pub get_set_other : {A : Type 0} (xs : List A) (i : ℕ) (x : A) (j : ℕ) → j ≢ i → slice_get (slice_set xs i x) j ≡ slice_get xs j
+pub get_set_other : {A : Type 0} (xs : List A) (i : ℕ) (x : A) (j : ℕ) → j ≢ i
+    → slice_get (slice_set xs i x) j ≡ slice_get xs j
 get_set_other [] i x j ne = refl
 get_set_other (y ∷ xs) zero x zero ne = absurd (ne refl)
 get_set_other (y ∷ xs) zero x (suc j) ne = refl
@@ -25,7 +26,8 @@ get_set_other (y ∷ xs) (suc i) x zero ne = refl
 get_set_other (y ∷ xs) (suc i) x (suc j) ne = get_set_other xs i x j (λ e. ne (ap suc e))
 
 -- the page at a position has a home
-pub page_has_home : (n size start : ℕ) (v : CoreValue) (c : Core) (at f : ℕ) → IsCore n size start v c → length v.homes ≡ length v.links + 1 → at ≡ page_at (length v.links) v.order f → at < length v.homes
+pub page_has_home : (n size start : ℕ) (v : CoreValue) (c : Core) (at f : ℕ) → IsCore n size start v c
+    → length v.homes ≡ length v.links + 1 → at ≡ page_at (length v.links) v.order f → at < length v.homes
 page_has_home n size start v c at f core homes is =
     let k = kept_of n size start v c core in let some = k.links.some_pages in let wide = core.shows.positions in
     let low = page_below n c.order c.spare f (omega arith) k.links.apart in

@@ -17,34 +17,43 @@ module _ (old new : CoreValue) (result : Answer) (some : IsSomeCore old) where
   keeps_lens makes =
       let (n, size, start, c, core) = some in
       let s = makes n size start c core in
-      frames.keeps_lens n size start (frames_of old) (frames_of new) c s.after core.shows.frames s.is_core.shows.frames result s.answer s.reports s.step
+      frames.keeps_lens n size start (frames_of old) (frames_of new) c s.after core.shows.frames s.is_core.shows.frames
+      result s.answer s.reports s.step
 
-  pushed_lens : (moment len : ℕ) → MakesStep old (model.pushes moment len) result new → result ≡ Pushed → lens new.stack ≡ Some len ∷ lens old.stack
+  pushed_lens : (moment len : ℕ) → MakesStep old (model.pushes moment len) result new → result ≡ Pushed
+      → lens new.stack ≡ Some len ∷ lens old.stack
   pushed_lens moment len makes =
       let (n, size, start, c, core) = some in
       let s = makes n size start c core in
-      frames.pushes_lens n size start (frames_of old) (frames_of new) c s.after core.shows.frames s.is_core.shows.frames result s.answer s.reports moment len s.step
+      frames.pushes_lens n size start (frames_of old) (frames_of new) c s.after core.shows.frames s.is_core.shows.frames
+      result s.answer s.reports moment len s.step
 
   pushed_none : MakesStep old model.pushes_close result new → result ≡ Pushed → lens new.stack ≡ None ∷ lens old.stack
   pushed_none makes =
       let (n, size, start, c, core) = some in
       let s = makes n size start c core in
-      frames.pushes_none n size start (frames_of old) (frames_of new) c s.after core.shows.frames s.is_core.shows.frames result s.answer s.reports s.step
+      frames.pushes_none n size start (frames_of old) (frames_of new) c s.after core.shows.frames s.is_core.shows.frames
+      result s.answer s.reports s.step
 
-  pending_lens : (payload : List ℕ) → MakesStep old (model.ends payload) result new → result ≡ Ended Pending → IsOneMore (lens old.stack) (lens new.stack)
+  pending_lens : (payload : List ℕ) → MakesStep old (model.ends payload) result new → result ≡ Ended Pending
+      → IsOneMore (lens old.stack) (lens new.stack)
   pending_lens payload makes =
       let (n, size, start, c, core) = some in
       let s = makes n size start c core in
-      frames.ends_lens n size start (frames_of old) (frames_of new) c s.after core.shows.frames s.is_core.shows.frames result s.answer s.reports payload s.step
+      frames.ends_lens n size start (frames_of old) (frames_of new) c s.after core.shows.frames s.is_core.shows.frames
+      result s.answer s.reports payload s.step
 
   -- what is refused
-  refused_lens : (event : model.Event) → IsPushOrEnd event → MakesStep old event result new → (fault : WriteFault) → result ≡ Refused fault → lens new.stack ≡ lens old.stack
+  refused_lens : (event : model.Event) → IsPushOrEnd event → MakesStep old event result new → (fault : WriteFault)
+      → result ≡ Refused fault → lens new.stack ≡ lens old.stack
   refused_lens event may makes =
       let (n, size, start, c, core) = some in
       let s = makes n size start c core in
-      frames.refused_lens n size start (frames_of old) (frames_of new) c s.after core.shows.frames s.is_core.shows.frames result s.answer s.reports event may s.step
+      frames.refused_lens n size start (frames_of old) (frames_of new) c s.after core.shows.frames
+      s.is_core.shows.frames result s.answer s.reports event may s.step
 
-  pub pushes_lens : (moment len : ℕ) → MakesStep old (model.pushes moment len) result new → PushesLens (Some len) result old.stack new.stack
+  pub pushes_lens : (moment len : ℕ) → MakesStep old (model.pushes moment len) result new
+      → PushesLens (Some len) result old.stack new.stack
   pushes_lens moment len makes = record {
     pushed = pushed_lens moment len makes;
     refused = refused_lens (model.pushes moment len) tt makes;
@@ -56,7 +65,8 @@ module _ (old new : CoreValue) (result : Answer) (some : IsSomeCore old) where
     refused = refused_lens model.pushes_close tt makes;
   }
 
-  pub ends_lens : (payload : List ℕ) → MakesStep old (model.ends payload) result new → EndsLens result old.stack new.stack
+  pub ends_lens : (payload : List ℕ) → MakesStep old (model.ends payload) result new
+      → EndsLens result old.stack new.stack
   ends_lens payload makes = record {
     pending = pending_lens payload makes;
     refused = refused_lens (model.ends payload) tt makes;

@@ -1,5 +1,6 @@
 -- A new ring as a value is the model's new ring.
-use Rattle.std.proofs.Common.{◌≡◌, ◌≢◌, ℕ, ◌+◌, ◌%◌, ◌<◌, ◌≤◌, List, [], ◌∷◌, length, get_or, map, Some, None, refl, sym, ap, ◌∙◌, subst, mod-lt, arith}
+use Rattle.std.proofs.Common.{◌≡◌, ◌≢◌, ℕ, ◌+◌, ◌%◌, ◌<◌, ◌≤◌, List, [], ◌∷◌, length, get_or, map, Some, None, refl}
+use Rattle.std.proofs.Common.{sym, ap, ◌∙◌, subst, mod-lt, arith}
 use Rattle.std.specs.Prelude.{replicate}
 use Rattle.std.proofs.lemmas.List.{length-map, get_or-map, length-replicate, get_or-replicate}
 use Rattle.std.proofs.lemmas.Option.{slice_get-get_or}
@@ -36,18 +37,23 @@ pub record HasFirstParts (n size start : ℕ) (laid : List code.Link) (v : CoreV
   pub wish : v.wish ≡ 0
   pub reader : v.reader ≡ record { phase = LoadingHead; hint = start; seen = start; expected = 0 }
 
-module _ (n size start : ℕ) (laid : List code.Link) (v : CoreValue) (some : MIN_PAGES ≤ n) (numbers : start + n < LINK_FILLS) (p : HasFirstParts n size start laid v) where
+module _ (n size start : ℕ) (laid : List code.Link) (v : CoreValue) (some : MIN_PAGES ≤ n)
+    (numbers : start + n < LINK_FILLS) (p : HasFirstParts n size start laid v) where
   no_link : code.Link
   no_link = record { mark = Normal; page = 0; fill = 0 }
 
   link_at : (f : ℕ) → IsFirstLink n start (f % n) (link_into n v.links f)
-  link_at f = let low : f % n < n = mod-lt f (omega arith) in let wide = p.positions in let inside : f % n < length laid = omega arith in
+  link_at f = let low : f % n < n = mod-lt f (omega arith) in
+      let wide = p.positions in
+      let inside : f % n < length laid = omega arith in
       subst (IsFirstLink n start (f % n))
-      (sym (get_or-map link_of laid (f % n) no_link (normal_link 0 0) inside) ∙ ap (λ ls. get_or ls (f % n) (normal_link 0 0)) (sym p.links_are))
+      (sym (get_or-map link_of laid (f % n) no_link (normal_link 0 0) inside)
+      ∙ ap (λ ls. get_or ls (f % n) (normal_link 0 0)) (sym p.links_are))
       (p.links (f % n) (get_or laid (f % n) no_link) (slice_get-get_or laid (f % n) no_link inside))
 
   page_is : (position : ℕ) → position < n → get_or v.order position 0 ≡ position
-  page_is position low = let wide = p.pages in p.order position (get_or v.order position 0) (slice_get-get_or v.order position 0 (omega arith))
+  page_is position low = let wide = p.pages in
+      p.order position (get_or v.order position 0) (slice_get-get_or v.order position 0 (omega arith))
 
   abbrev first_core : Core
   first_core = record {
@@ -89,7 +95,8 @@ module _ (n size start : ℕ) (laid : List code.Link) (v : CoreValue) (some : MI
 
   free : (f : ℕ) → start + 1 ≤ f → f < start + n → HasBody v.homes size (page_at n v.order f)
   free f low high = let below : f % n < n = mod-lt f (omega arith) in let wide = p.homes_are in
-      let ne : f % n ≢ start % n = apart start n f start (omega arith) high (omega arith) (omega arith) (λ e. omega arith) in
+      let ne : f % n ≢ start % n =
+      apart start n f start (omega arith) high (omega arith) (omega arith) (λ e. omega arith) in
       let there = slice_get-get_or v.homes (f % n) None (omega arith) in
       let (body, home, sized) = p.homes (f % n) (get_or v.homes (f % n) None) there below ne in
       subst (HasBody v.homes size) (sym (page_is (f % n) below)) (body, there ∙ ap Some home, sized)
@@ -116,7 +123,14 @@ module _ (n size start : ℕ) (laid : List code.Link) (v : CoreValue) (some : MI
     first_core,
     starts,
     record {
-      reached = record { from = first_core; exchanges = []; may_start = record { some_pages = some; numbers_left = omega arith }; is_new = starts; run = refl };
+      reached =
+          record {
+            from = first_core;
+            exchanges = [];
+            may_start = record { some_pages = some; numbers_left = omega arith };
+            is_new = starts;
+            run = refl;
+          };
       shows = first_shown;
     },
   )

@@ -37,5 +37,9 @@ calls_are_runs n size start from v (writes next ∷ more) after core (stays, cal
 pub calls_from_new_are_runs : CallsFromNewAreRuns
 calls_from_new_are_runs n size start v happened after (from, is_new, core) calls =
     let some_pages = core.reached.may_start.some_pages in
-    let (one, is_start, only) = new_ring_is_one n start (omega arith) in
-    (from, is_new, (λ other is. only other is ∙ sym (only from is_new)), calls_are_runs n size start from v happened after core calls)
+    let (one, is_start, only) = new_ring_is_one n start (omega arith) in (
+      from,
+      is_new,
+      (λ other is. only other is ∙ sym (only from is_new)),
+      calls_are_runs n size start from v happened after core calls,
+    )

@@ -18,21 +18,26 @@ use Rattle.ring_frames.proofs.Left.{tops_are}
 use Rattle.ring_frames.proofs.Ended.{stands, fills_slot}
 
 -- the payload in the slot of the frame on top takes exactly that slot
-pub may_end : (n size start : ℕ) (v : FramesValue) (c : Core) → AreFrames n size start v c → MayAsk c (model.ends (top_bytes v.stack v.stack.frames))
+pub may_end : (n size start : ℕ) (v : FramesValue) (c : Core) → AreFrames n size start v c
+    → MayAsk c (model.ends (top_bytes v.stack v.stack.frames))
 may_end n size start v c k frame below number moment len model_is at kind = by_frames v.stack.frames refl
   where
-    by_progress : (top : Frame) (rest : List Frame) → v.stack.frames ≡ top ∷ rest → (progress : Progress) → top.progress ≡ progress → frame.state ≡ state_of progress → slot_len (length (top_bytes v.stack v.stack.frames)) ≡ slot_len len
+    by_progress : (top : Frame) (rest : List Frame) → v.stack.frames ≡ top ∷ rest → (progress : Progress)
+        → top.progress ≡ progress → frame.state ≡ state_of progress
+        → slot_len (length (top_bytes v.stack v.stack.frames)) ≡ slot_len len
     by_progress top rest stack_is (Waiting noted) has state_is = absurd (let z : ⊥ = cc in z)
     by_progress top rest stack_is (Through noted) has state_is = absurd (let z : ⊥ = cc in z)
     by_progress top rest stack_is (Reserved slot) has state_is =
         let (frame_is, below_is, same) = tops_are v c n size start top rest frame below k stack_is model_is in
         let (moment', len', kind', lies) = stands n size start v c k top rest slot stack_is has frame below model_is in
-        let kinds : for_record moment' len' ≡ for_record moment len = sym kind' ∙ sym (ap (λ (f : ModelFrame). f.kind) frame_is) ∙ kind in
+        let kinds : for_record moment' len' ≡ for_record moment len =
+        sym kind' ∙ sym (ap (λ (f : ModelFrame). f.kind) frame_is) ∙ kind in
         let lens : len' ≡ len = cc in
         fills_slot n size start v c k top rest slot stack_is has frame below model_is ∙ ap slot_len lens
     by_progress top rest stack_is (Left noted) has state_is = absurd (let z : ⊥ = cc in z)
 
-    by_frames : (frames : List Frame) → v.stack.frames ≡ frames → slot_len (length (top_bytes v.stack v.stack.frames)) ≡ slot_len len
+    by_frames : (frames : List Frame) → v.stack.frames ≡ frames
+        → slot_len (length (top_bytes v.stack v.stack.frames)) ≡ slot_len len
     by_frames [] none =
         let e = sym model_is ∙ k.frames_are ∙ ap (λ (fs : List Frame). frames_in_phases fs (v.phase ∷ v.below)) none in
         let z = ap (λ (fs : List ModelFrame). length fs) e in absurd (omega arith)
@@ -41,8 +46,10 @@ may_end n size start v c k frame below number moment len model_is at kind = by_f
         by_progress top rest is top.progress refl (ap (λ (f : ModelFrame). f.state) frame_is)
 
 -- a step of the frame on top is private if the phase of the frames is
-pub steps_are_private : (n size start : ℕ) (v : FramesValue) (c : Core) → AreFrames n size start v c → PhaseIsPrivate (phase_of v.phase) (opened v.stack) → IsPrivate c model.steps
-steps_are_private n size start v c k own = subst (λ (fs : List ModelFrame). TopIsPrivate fs c.opened) (sym k.frames_are) (by_frames v.stack.frames)
+pub steps_are_private : (n size start : ℕ) (v : FramesValue) (c : Core) → AreFrames n size start v c
+    → PhaseIsPrivate (phase_of v.phase) (opened v.stack) → IsPrivate c model.steps
+steps_are_private n size start v c k own =
+    subst (λ (fs : List ModelFrame). TopIsPrivate fs c.opened) (sym k.frames_are) (by_frames v.stack.frames)
   where
     by_frames : (frames : List Frame) → TopIsPrivate (frames_in_phases frames (v.phase ∷ v.below)) c.opened
     by_frames [] = tt

@@ -34,7 +34,8 @@ left_is (Through noted) is = absurd (waiting_ne_left is)
 left_is (Reserved slot) is = absurd (reserved_ne_left slot.number is)
 left_is (Left noted) is = (noted, refl)
 
-none_below : (frames : List stack.Frame) (phases : List Phase) → length phases ≡ length frames → frames_in_phases frames phases ≡ [] → (frames ≡ []) × (phases ≡ [])
+none_below : (frames : List stack.Frame) (phases : List Phase) → length phases ≡ length frames
+    → frames_in_phases frames phases ≡ [] → (frames ≡ []) × (phases ≡ [])
 none_below [] [] many none = (refl, refl)
 none_below [] (phase ∷ phases) many none = absurd (omega arith)
 none_below (f ∷ frames) [] many none = absurd (omega arith)
@@ -42,10 +43,13 @@ none_below (f ∷ frames) (phase ∷ phases) many none = let z = ap length none 
 
 -- a frame in this phase has left
 abbrev pub OnlyOfLeft : Phase → Type 0
-OnlyOfLeft phase = (kind : frames_model.Purpose) (state : frames_model.Progress) → MayBeIn kind state (phase_of phase) → state ≡ left
+OnlyOfLeft phase =
+    (kind : frames_model.Purpose) (state : frames_model.Progress) → MayBeIn kind state (phase_of phase) → state ≡ left
 
-alone_in : (frames : List stack.Frame) (phase : Phase) (below : List Phase) → frames ≢ [] → AreBelow frames below → FramesAgree (frames_in_phases frames (phase ∷ below)) → OnlyOfLeft phase
-    → (purpose : Purpose) × (noted : Option ℕ) × (frames ≡ record { purpose = purpose; progress = Left noted } ∷ []) × (below ≡ [])
+alone_in : (frames : List stack.Frame) (phase : Phase) (below : List Phase) → frames ≢ [] → AreBelow frames below
+    → FramesAgree (frames_in_phases frames (phase ∷ below)) → OnlyOfLeft phase
+    → (purpose : Purpose) × (noted : Option ℕ) × (frames ≡ record { purpose = purpose; progress = Left noted } ∷ [])
+    × (below ≡ [])
 alone_in [] phase below some many agree only = absurd (some refl)
 alone_in (f ∷ frames) phase below some many agree only =
     let has_left = only (kind_of f.purpose) (state_of f.progress) agree.0 in
@@ -53,9 +57,12 @@ alone_in (f ∷ frames) phase below some many agree only =
     let (none, none_kept) = none_below frames below many (agree.1 has_left) in
     (f.purpose, noted, (λ i. record { purpose = f.purpose; progress = is i } ∷ none i), none_kept)
 
-pub alone : (n size start : ℕ) (v : FramesValue) (c : Core) → AreFrames n size start v c → IsRingKept n size start c → v.stack.frames ≢ [] → OnlyOfLeft v.phase → IsAlone v c
+pub alone : (n size start : ℕ) (v : FramesValue) (c : Core) → AreFrames n size start v c → IsRingKept n size start c
+    → v.stack.frames ≢ [] → OnlyOfLeft v.phase → IsAlone v c
 alone n size start v c s k some only =
-    let (purpose, noted, frames_are, below_is) = alone_in v.stack.frames v.phase v.below some s.below_are (subst FramesAgree s.frames_are k.stack.agree) only in record {
+    let (purpose, noted, frames_are, below_is) =
+    alone_in v.stack.frames v.phase v.below some s.below_are (subst FramesAgree s.frames_are k.stack.agree) only in
+    record {
       purpose = purpose;
       noted = noted;
       frames_are = frames_are;

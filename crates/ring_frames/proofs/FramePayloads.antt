@@ -4,7 +4,8 @@ use Rattle.std.proofs.Common.{◌≡◌, ℕ, ◌-◌, List, ◌++◌, length, t
 use Rattle.std.proofs.lemmas.List.{reverse-append, length-reverse, length-drop, take-append-drop, take-map, drop_at}
 
 -- those of the lowest frames are the last ones
-lowest_last : (xs : List (List ℕ)) (depth : ℕ) → reverse (take depth xs) ≡ drop (length (reverse xs) - depth) (reverse xs)
+lowest_last : (xs : List (List ℕ)) (depth : ℕ)
+    → reverse (take depth xs) ≡ drop (length (reverse xs) - depth) (reverse xs)
 lowest_last xs depth =
     let whole : reverse xs ≡ reverse (drop depth xs) ++ reverse (take depth xs) =
     ap reverse (sym (take-append-drop depth xs)) ∙ reverse-append (take depth xs) (drop depth xs) in

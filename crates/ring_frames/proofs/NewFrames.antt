@@ -8,7 +8,8 @@ use Rattle.ring_frames.specs.Value.{FramesValue}
 use Rattle.ring_frames.specs.AreFrames.{frames_in_phases, AreBelow, AreNotedAlike}
 use Rattle.ring_frames.specs.Steps.{AreNew}
 
-pub new_frames : (n size start : ℕ) (v : FramesValue) → v.stack ≡ new_stack n size start → IsStack start [] v.stack → v.below ≡ [] → AreNew n size start v
+pub new_frames : (n size start : ℕ) (v : FramesValue) → v.stack ≡ new_stack n size start → IsStack start [] v.stack
+    → v.below ≡ [] → AreNew n size start v
 new_frames n size start v is stack_is below c starts =
     let none : v.stack.frames ≡ [] = ap (λ (s : Stack). s.frames) is in record {
       pages_is = ap (λ (s : Stack). s.pages) is;

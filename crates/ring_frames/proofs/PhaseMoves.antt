@@ -17,23 +17,30 @@ abbrev in_place : model.Phase → List Frame → List Frame
 in_place phase [] = []
 in_place phase (frame ∷ below) = record frame { phase = phase } ∷ below
 
-rephased : (frames : List stack.Frame) (from to : Phase) (below : List Phase) → in_place (phase_of to) (frames_in_phases frames (from ∷ below)) ≡ frames_in_phases frames (to ∷ below)
+rephased : (frames : List stack.Frame) (from to : Phase) (below : List Phase)
+    → in_place (phase_of to) (frames_in_phases frames (from ∷ below)) ≡ frames_in_phases frames (to ∷ below)
 rephased [] from to below = refl
 rephased (f ∷ frames) from to below = refl
 
 -- what is noted stays alike
-noted_so : (purpose : Purpose) (progress : Progress) (from to : Phase) (o : ℕ) → noted_fill (phase_of from) ≡ Some o → noted_fill (phase_of to) ≡ Some o → NotedAlike purpose progress from → NotedAlike purpose progress to
+noted_so : (purpose : Purpose) (progress : Progress) (from to : Phase) (o : ℕ) → noted_fill (phase_of from) ≡ Some o
+    → noted_fill (phase_of to) ≡ Some o → NotedAlike purpose progress from → NotedAlike purpose progress to
 noted_so purpose (Through noted) from to o was is alike = alike
-noted_so purpose (Reserved slot) from to o was is alike = absurd (none_some (sym (ap (λ (p : Phase). noted_fill (phase_of p)) alike) ∙ was))
+noted_so purpose (Reserved slot) from to o was is alike =
+    absurd (none_some (sym (ap (λ (p : Phase). noted_fill (phase_of p)) alike) ∙ was))
 noted_so (Record moment len) (Waiting noted) from to o was is alike = λ o' e. alike o' (was ∙ sym is ∙ e)
 noted_so Close (Waiting noted) from to o was is alike = alike ∙ was ∙ sym is
 noted_so purpose (Left noted) from to o was is alike = λ o' e. alike o' (was ∙ sym is ∙ e)
 
-noted_alike : (frames : List stack.Frame) (from to : Phase) (below : List Phase) (o : ℕ) → noted_fill (phase_of from) ≡ Some o → noted_fill (phase_of to) ≡ Some o → AreNotedAlike frames (from ∷ below) → AreNotedAlike frames (to ∷ below)
+noted_alike : (frames : List stack.Frame) (from to : Phase) (below : List Phase) (o : ℕ)
+    → noted_fill (phase_of from) ≡ Some o → noted_fill (phase_of to) ≡ Some o → AreNotedAlike frames (from ∷ below)
+    → AreNotedAlike frames (to ∷ below)
 noted_alike [] from to below o was is alike = tt
-noted_alike (f ∷ frames) from to below o was is alike = (noted_so f.purpose f.progress from to o was is alike.0, alike.1)
+noted_alike (f ∷ frames) from to below o was is alike =
+    (noted_so f.purpose f.progress from to o was is alike.0, alike.1)
 
-pub goes_on : (v : FramesValue) (to : Phase) (noted : ℕ) → IsNotedIn v.phase to noted → GoesOnIn v to (record v { phase = to })
+pub goes_on : (v : FramesValue) (to : Phase) (noted : ℕ) → IsNotedIn v.phase to noted
+    → GoesOnIn v to (record v { phase = to })
 goes_on v to noted is = λ n size start c frame below k top. record {
   pages_is = k.pages_is;
   size_is = k.size_is;

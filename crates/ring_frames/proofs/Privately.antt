@@ -16,7 +16,9 @@ use Rattle.ring_frames.specs.Steps.{IsPrivateStep}
 pub kept_of : (n size start : ℕ) (v : FramesValue) (c : Core) → HasFrames n size start v c → IsRingKept n size start c
 kept_of n size start v c core = reached_kept n size start c core.reached
 
-pub privately : (n size start : ℕ) (new : FramesValue) (c : Core) (event : model.Event) (result : Answer) (answer : model.Answer) (after : Core) → model.Step n size c event answer after → IsPrivate c event → IsAnswerOf size result answer → AreFrames n size start new after → IsPrivateStep n size start c event result new
+pub privately : (n size start : ℕ) (new : FramesValue) (c : Core) (event : model.Event) (result : Answer)
+    (answer : model.Answer) (after : Core) → model.Step n size c event answer after → IsPrivate c event
+    → IsAnswerOf size result answer → AreFrames n size start new after → IsPrivateStep n size start c event result new
 privately n size start new c event result answer after step own reports are = record {
   answer = answer;
   after = after;
@@ -27,5 +29,6 @@ privately n size start new c event result answer after step own reports are = re
 }
 
 -- a step of the frame on top is private if its phase is
-pub top_is_private : (c : Core) (frame : Frame) (below : List Frame) → c.frames ≡ frame ∷ below → PhaseIsPrivate frame.phase c.opened → IsPrivate c model.steps
+pub top_is_private : (c : Core) (frame : Frame) (below : List Frame) → c.frames ≡ frame ∷ below
+    → PhaseIsPrivate frame.phase c.opened → IsPrivate c model.steps
 top_is_private c frame below top own = subst (λ (fs : List Frame). TopIsPrivate fs c.opened) (sym top) own

@@ -6,7 +6,8 @@ use Rattle.trace_model.specs.Steps as model
 use Rattle.nested_writer.specs.declared.fault.WriteFault.{WriteFault}
 use Rattle.nested_writer.specs.declared.stack.leave.Ended.TheVariants.{Pending, Full}
 use Rattle.ring_frames.specs.declared.answer.Answer.{Answer}
-use Rattle.ring_frames.specs.declared.answer.Answer.TheVariants.{Pushed, Going, Reserved, Ended, Gone, Refused, Looking, Empty, Moving, Taken, Wished}
+use Rattle.ring_frames.specs.declared.answer.Answer.TheVariants.{Pushed, Going, Reserved, Ended, Gone, Refused, Looking}
+use Rattle.ring_frames.specs.declared.answer.Answer.TheVariants.{Empty, Moving, Taken, Wished}
 use Rattle.ring_frames.specs.Answers.{IsAnswerOf}
 
 -- it refuses
@@ -31,7 +32,8 @@ Means reported result = Unit {0}
 means : (size : ℕ) (result : Answer) (reported : model.Answer) → IsAnswerOf size result reported → Means reported result
 means size Pushed reported t = subst (λ (a : model.Answer). Means a Pushed) (sym t) refl
 means size Going reported t = subst (λ (a : model.Answer). Means a Going) (sym t) refl
-means size (Reserved number) reported t = subst (λ (a : model.Answer). Means a (Reserved number)) (sym t) (number, refl, refl)
+means size (Reserved number) reported t =
+    subst (λ (a : model.Answer). Means a (Reserved number)) (sym t) (number, refl, refl)
 means size (Ended Pending) reported t = subst (λ (a : model.Answer). Means a (Ended Pending)) (sym t) refl
 means size (Ended Full) reported t = subst (λ (a : model.Answer). Means a (Ended Full)) (sym t) refl
 means size Gone reported t = subst (λ (a : model.Answer). Means a Gone) (sym t) refl
@@ -43,30 +45,39 @@ means size (Taken page missed) reported t = subst (λ (a : model.Answer). Means 
 means size (Wished fill) reported t = subst (λ (a : model.Answer). Means a (Wished fill)) (sym t) tt
 
 -- the same of an answer that is known
-meant : (size : ℕ) (result : Answer) (reported is : model.Answer) → IsAnswerOf size result reported → reported ≡ is → Means is result
+meant : (size : ℕ) (result : Answer) (reported is : model.Answer) → IsAnswerOf size result reported → reported ≡ is
+    → Means is result
 meant size result reported is t e = subst (λ (a : model.Answer). Means a result) e (means size result reported t)
 
-pub is_pushed : (size : ℕ) (result : Answer) (reported : model.Answer) → IsAnswerOf size result reported → reported ≡ model.pushed → result ≡ Pushed
+pub is_pushed : (size : ℕ) (result : Answer) (reported : model.Answer) → IsAnswerOf size result reported
+    → reported ≡ model.pushed → result ≡ Pushed
 is_pushed size result reported t e = meant size result reported model.pushed t e
 
-pub is_going : (size : ℕ) (result : Answer) (reported : model.Answer) → IsAnswerOf size result reported → reported ≡ model.going → result ≡ Going
+pub is_going : (size : ℕ) (result : Answer) (reported : model.Answer) → IsAnswerOf size result reported
+    → reported ≡ model.going → result ≡ Going
 is_going size result reported t e = meant size result reported model.going t e
 
-pub is_number : (size : ℕ) (result : Answer) (reported : model.Answer) (number : ℕ) → IsAnswerOf size result reported → reported ≡ model.reserved_as number → ReportsNumber result number
+pub is_number : (size : ℕ) (result : Answer) (reported : model.Answer) (number : ℕ) → IsAnswerOf size result reported
+    → reported ≡ model.reserved_as number → ReportsNumber result number
 is_number size result reported number t e = meant size result reported (model.reserved_as number) t e
 
-pub is_pending : (size : ℕ) (result : Answer) (reported : model.Answer) → IsAnswerOf size result reported → reported ≡ model.pending → result ≡ Ended Pending
+pub is_pending : (size : ℕ) (result : Answer) (reported : model.Answer) → IsAnswerOf size result reported
+    → reported ≡ model.pending → result ≡ Ended Pending
 is_pending size result reported t e = meant size result reported model.pending t e
 
-pub is_full : (size : ℕ) (result : Answer) (reported : model.Answer) → IsAnswerOf size result reported → reported ≡ model.full → result ≡ Ended Full
+pub is_full : (size : ℕ) (result : Answer) (reported : model.Answer) → IsAnswerOf size result reported
+    → reported ≡ model.full → result ≡ Ended Full
 is_full size result reported t e = meant size result reported model.full t e
 
-pub is_gone_reported : (size : ℕ) (result : Answer) (reported : model.Answer) → IsAnswerOf size result reported → reported ≡ model.gone → result ≡ Gone
+pub is_gone_reported : (size : ℕ) (result : Answer) (reported : model.Answer) → IsAnswerOf size result reported
+    → reported ≡ model.gone → result ≡ Gone
 is_gone_reported size result reported t e = meant size result reported model.gone t e
 
-pub is_refusal : (size : ℕ) (result : Answer) (reported : model.Answer) (why : frames_model.WriteFault) → IsAnswerOf size result reported → reported ≡ model.refused why → IsRefusal result
+pub is_refusal : (size : ℕ) (result : Answer) (reported : model.Answer) (why : frames_model.WriteFault)
+    → IsAnswerOf size result reported → reported ≡ model.refused why → IsRefusal result
 is_refusal size result reported why t e = meant size result reported (model.refused why) t e
 
 -- the model answers `pushed` only if the ring does
-pub reported_pushed : (size : ℕ) (result : Answer) (reported : model.Answer) → IsAnswerOf size result reported → reported ≡ model.pushed → result ≢ Pushed → ⊥
+pub reported_pushed : (size : ℕ) (result : Answer) (reported : model.Answer) → IsAnswerOf size result reported
+    → reported ≡ model.pushed → result ≢ Pushed → ⊥
 reported_pushed size result reported t e not = not (is_pushed size result reported t e)

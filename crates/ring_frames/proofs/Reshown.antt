@@ -18,7 +18,8 @@ abbrev pub reframed : Core → List Frame → List HistoryEvent → List PageRec
 reframed c frames history held = record c { frames = frames; history = history; held = held }
 
 -- The stack is that of the history and of the frames, over pages of the same fills.
-pub record Restacks (start : ℕ) (v : FramesValue) (stack : Stack) (phase : Phase) (below : List Phase) (frames : List Frame) (history : List HistoryEvent) : Type 0 where
+pub record Restacks (start : ℕ) (v : FramesValue) (stack : Stack) (phase : Phase) (below : List Phase)
+    (frames : List Frame) (history : List HistoryEvent) : Type 0 where
   pub pages_is : stack.pages ≡ v.stack.pages
   pub size_is : stack.size ≡ v.stack.size
   pub done_is : stack.done ≡ v.stack.done
@@ -28,7 +29,10 @@ pub record Restacks (start : ℕ) (v : FramesValue) (stack : Stack) (phase : Pha
   pub below_are : AreBelow stack.frames below
   pub noted : AreNotedAlike stack.frames (phase ∷ below)
 
-pub reshown : (n size start : ℕ) (v : FramesValue) (c : Core) (stack : Stack) (phase : Phase) (below : List Phase) (frames : List Frame) (history : List HistoryEvent) (held : List PageRecords) → AreFrames n size start v c → Restacks start v stack phase below frames history → AreFrames n size start (restacked stack phase below) (reframed c frames history held)
+pub reshown : (n size start : ℕ) (v : FramesValue) (c : Core) (stack : Stack) (phase : Phase) (below : List Phase)
+    (frames : List Frame) (history : List HistoryEvent) (held : List PageRecords) → AreFrames n size start v c
+    → Restacks start v stack phase below frames history
+    → AreFrames n size start (restacked stack phase below) (reframed c frames history held)
 reshown n size start v c stack phase below frames history held k r = record {
   pages_is = r.pages_is ∙ k.pages_is;
   size_is = r.size_is ∙ k.size_is;

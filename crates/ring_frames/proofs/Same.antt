@@ -6,7 +6,9 @@ use Rattle.nested_writer.specs.IsStack.{IsStack}
 use Rattle.ring_frames.specs.Value.{FramesValue}
 use Rattle.ring_frames.specs.AreFrames.{AreFrames}
 
-pub same_frames : (n size start : ℕ) (v : FramesValue) (c other : Core) → AreFrames n size start v c → other.frames ≡ c.frames → other.history ≡ c.history → other.done ≡ c.done → other.opened ≡ c.opened → AreFrames n size start v other
+pub same_frames : (n size start : ℕ) (v : FramesValue) (c other : Core) → AreFrames n size start v c
+    → other.frames ≡ c.frames → other.history ≡ c.history → other.done ≡ c.done → other.opened ≡ c.opened
+    → AreFrames n size start v other
 same_frames n size start v c other are frames history done opened = record {
   pages_is = are.pages_is;
   size_is = are.size_is;

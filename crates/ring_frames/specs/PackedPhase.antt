@@ -2,7 +2,8 @@
 use Rattle.std.specs.Prelude.{ℕ}
 use Rattle.ring_frames.specs.declared.phase.Role.{Role}
 use Rattle.ring_frames.specs.declared.phase.Phase.{Phase}
-use Rattle.ring_frames.specs.declared.phase.Phase.TheVariants.{Idle, Looking, Claiming, LookingNext, Marking, Clearing, Opening, Releasing, Wishing}
+use Rattle.ring_frames.specs.declared.phase.Phase.TheVariants.{Idle, Looking, Claiming, LookingNext, Marking, Clearing}
+use Rattle.ring_frames.specs.declared.phase.Phase.TheVariants.{Opening, Releasing, Wishing}
 use Rattle.ring_frames.specs.declared.packed_phase.Tag.{Tag}
 use Rattle.ring_frames.specs.declared.packed_phase.Tag.TheVariants as tag
 use Rattle.ring_frames.specs.declared.packed_phase.PackedPhase.TheInside.{Inside}

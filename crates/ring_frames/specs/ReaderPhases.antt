@@ -1,7 +1,8 @@
 -- The reader's phases as the ring's model has them.
 use Rattle.trace_model.specs.Ring as ring
 use Rattle.ring_frames.specs.declared.reader.ReaderPhase.{ReaderPhase}
-use Rattle.ring_frames.specs.declared.reader.ReaderPhase.TheVariants.{LoadingHead, LoadingDone, StoringSpareLink, Swapping}
+use Rattle.ring_frames.specs.declared.reader.ReaderPhase.TheVariants.{LoadingHead, LoadingDone, StoringSpareLink}
+use Rattle.ring_frames.specs.declared.reader.ReaderPhase.TheVariants.{Swapping}
 
 abbrev pub reader_phase_of : ReaderPhase → ring.ReaderPhase
 reader_phase_of LoadingHead = ring.loading_head

@@ -5,7 +5,8 @@ use Rattle.nested_writer.specs.Stack.{Stack}
 use Rattle.ring_frames.specs.declared.phase.Role.{Role}
 use Rattle.ring_frames.specs.declared.phase.Role.TheVariants.{Owner, Helper}
 use Rattle.ring_frames.specs.declared.phase.Phase.{Phase}
-use Rattle.ring_frames.specs.declared.phase.Phase.TheVariants.{Idle, Looking, Claiming, LookingNext, Marking, Clearing, Opening, Releasing, Wishing}
+use Rattle.ring_frames.specs.declared.phase.Phase.TheVariants.{Idle, Looking, Claiming, LookingNext, Marking, Clearing}
+use Rattle.ring_frames.specs.declared.phase.Phase.TheVariants.{Opening, Releasing, Wishing}
 
 -- The writers' stack; and how far its frames have come with the ring, the top one and those below it.
 pub record FramesValue : Type 0 where

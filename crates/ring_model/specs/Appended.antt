@@ -1,11 +1,15 @@
 -- What each event of a ring appends to the history of its frames, by its answer.
 -- docs/FORMATS.md, "Writer frames".
 use Rattle.std.specs.Prelude.{◌≡◌, ◌≢◌, ℕ, ◌⊎◌, List, [], ◌∷◌, length, Some, None}
-use Rattle.trace_model.specs.History.{HistoryEvent, push, push_close, open_fill, reserve, leave, wished, reserved_records}
+use Rattle.trace_model.specs.History.{HistoryEvent, push, push_close, open_fill, reserve, leave, wished}
+use Rattle.trace_model.specs.History.{reserved_records}
 use Rattle.trace_model.specs.Packing.{tail_of}
-use Rattle.trace_model.specs.Frames.{Purpose, for_record, for_close, Progress, waiting, reserved, left, Phase, idle, opening, wishing, noted_fill, owned_update, Frame, WriteFault, crowded, worn, no_frame, not_reserved}
+use Rattle.trace_model.specs.Frames.{Purpose, for_record, for_close, Progress, waiting, reserved, left, Phase, idle}
+use Rattle.trace_model.specs.Frames.{opening, wishing, noted_fill, owned_update, Frame, WriteFault, crowded, worn}
+use Rattle.trace_model.specs.Frames.{no_frame, not_reserved}
 use Rattle.trace_model.specs.Ring.{Core}
-use Rattle.trace_model.specs.Steps.{Event, pushes, pushes_close, steps, ends, reads, wishes, Answer, pushed, going, reserved_as, gone, refused, leave_answer, end_answer, IsGranted}
+use Rattle.trace_model.specs.Steps.{Event, pushes, pushes_close, steps, ends, reads, wishes, Answer, pushed, going}
+use Rattle.trace_model.specs.Steps.{reserved_as, gone, refused, leave_answer, end_answer, IsGranted}
 
 -- ---- a push, and an end
 

@@ -4,7 +4,9 @@ use Rattle.std.specs.Prelude.{◌≡◌, ℕ, List, [], ◌∷◌, ◌++◌, len
 use Rattle.trace_model.specs.Record.{Record}
 use Rattle.trace_model.specs.History.{Reservation, committed_records}
 use Rattle.trace_model.specs.Ring.{Core, IsStart}
-use Rattle.trace_model.specs.Steps.{pushes, pushes_close, steps, ends, reads, wishes, Answer, pushed, going, reserved_as, pending, full, gone, reading, empty, moving, page_taken, wished_for, Exchange, Run}
+use Rattle.trace_model.specs.Steps.{pushes, pushes_close, steps, ends, reads, wishes, Answer, pushed, going}
+use Rattle.trace_model.specs.Steps.{reserved_as, pending, full, gone, reading, empty, moving, page_taken, wished_for}
+use Rattle.trace_model.specs.Steps.{Exchange, Run}
 
 -- ---- what is asked and answered
 

@@ -1,6 +1,7 @@
 -- What becomes of the frame on top by one of its steps, and of those below it.
 use Rattle.std.specs.Prelude.{◌≡◌, ℕ, ◌⊎◌, List, ◌∷◌}
-use Rattle.trace_model.specs.Frames.{Purpose, for_record, for_close, Progress, waiting, reserved, left, WriteFault, Frame}
+use Rattle.trace_model.specs.Frames.{Purpose, for_record, for_close, Progress, waiting, reserved, left, WriteFault}
+use Rattle.trace_model.specs.Frames.{Frame}
 use Rattle.trace_model.specs.Ring.{Core}
 use Rattle.trace_model.specs.Steps.{steps, going, gone, reserved_as, refused, Answer, Step}
 use Rattle.ring_model.specs.RingKept.{IsRingKept}

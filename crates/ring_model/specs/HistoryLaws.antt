@@ -1,9 +1,11 @@
 -- The laws of what a ring's frames did, and of the partition of its records, as statements: each is a clause
 -- of a function of src/laws/histories.rt.
-use Rattle.std.specs.Prelude.{◌≡◌, ◌≢◌, ℕ, ◌+◌, ◌-◌, ◌*◌, ◌^◌, ◌<◌, ◌≤◌, List, [], ◌++◌, length, map, drop, flat_map, Some, slice_get}
+use Rattle.std.specs.Prelude.{◌≡◌, ◌≢◌, ℕ, ◌+◌, ◌-◌, ◌*◌, ◌^◌, ◌<◌, ◌≤◌, List, [], ◌++◌, length, map, drop, flat_map}
+use Rattle.std.specs.Prelude.{Some, slice_get}
 use Rattle.trace_model.specs.declared.limits.TheConstants.{MAX_SIZE}
 use Rattle.trace_model.specs.Record.{Record}
-use Rattle.trace_model.specs.History.{HistoryEvent, IsHistory, Reservation, reserved_records, as_record, committed_records}
+use Rattle.trace_model.specs.History.{HistoryEvent, IsHistory, Reservation, reserved_records, as_record}
+use Rattle.trace_model.specs.History.{committed_records}
 use Rattle.trace_model.specs.Packing.{fills_of, tail_of, IsPacked, first_of_fill}
 use Rattle.trace_model.specs.Partition.{IsPartition}
 use Rattle.trace_model.specs.Ring.{TakenFill, Core, AreFillsOf}

@@ -3,8 +3,10 @@
 use Rattle.std.specs.Prelude.{◌≡◌, ◌≢◌, ℕ, suc, ◌+◌, ◌<◌, ◌≤◌, ◌⊎◌, List, [], ◌∷◌, length, Option, Some, None}
 use Rattle.trace_model.specs.declared.limits.TheConstants.{MIN_PAGES, LINK_FILLS}
 use Rattle.trace_model.specs.Links.{Link, normal_link, header_link, update_link}
-use Rattle.trace_model.specs.Frames.{Phase, idle, looking, claiming, looking_next, marking, clearing, opening, releasing, wishing, Frame, noted_fill, owned_update}
-use Rattle.trace_model.specs.Ring.{link_into, page_at, ReaderPhase, loading_head, loading_done, storing_spare_link, swapping, Core, AreApart}
+use Rattle.trace_model.specs.Frames.{Phase, idle, looking, claiming, looking_next, marking, clearing, opening}
+use Rattle.trace_model.specs.Frames.{releasing, wishing, Frame, noted_fill, owned_update}
+use Rattle.trace_model.specs.Ring.{link_into, page_at, ReaderPhase, loading_head, loading_done, storing_spare_link}
+use Rattle.trace_model.specs.Ring.{swapping, Core, AreApart}
 
 -- a frame of these has set the UPDATE at the position of fill f and not yet cleared it
 abbrev pub HasMover : List Frame → ℕ → Type 0

@@ -2,7 +2,8 @@
 -- HEADER set. docs/FORMATS.md, "Writer frames".
 use Rattle.std.specs.Prelude.{◌≡◌, ◌≢◌, ℕ, suc, ◌+◌, ◌<◌, ◌≤◌, List, [], ◌∷◌}
 use Rattle.trace_model.specs.Links.{Link, normal_link}
-use Rattle.trace_model.specs.Frames.{Phase, idle, looking, claiming, looking_next, marking, clearing, opening, releasing, wishing, Frame}
+use Rattle.trace_model.specs.Frames.{Phase, idle, looking, claiming, looking_next, marking, clearing, opening}
+use Rattle.trace_model.specs.Frames.{releasing, wishing, Frame}
 use Rattle.trace_model.specs.Ring.{Core, link_into}
 
 -- the fill after a lost one doesn't wait for its HEADER any more

@@ -2,7 +2,8 @@
 -- docs/FORMATS.md, "Writer frames".
 use Rattle.std.specs.Prelude.{◌≡◌, ◌≢◌, ℕ, ◌+◌, ◌≤◌, List, [], ◌∷◌, length}
 use Rattle.trace_model.specs.declared.limits.TheConstants.{MAX_FRAMES}
-use Rattle.trace_model.specs.Frames.{Purpose, for_record, for_close, Progress, waiting, reserved, left, Phase, idle, releasing, wishing, Frame}
+use Rattle.trace_model.specs.Frames.{Purpose, for_record, for_close, Progress, waiting, reserved, left, Phase, idle}
+use Rattle.trace_model.specs.Frames.{releasing, wishing, Frame}
 use Rattle.trace_model.specs.Ring.{Core}
 
 abbrev pub IsForRecord : Purpose → Type 0

@@ -1,5 +1,6 @@
 -- The laws of a record's payload in a ring, as statements: each is a clause of a function of src/laws/payloads.rt.
-use Rattle.std.specs.Prelude.{◌≡◌, ◌≢◌, ℕ, ◌+◌, ◌-◌, ◌<◌, ◌≤◌, ◌⊎◌, List, ◌∷◌, length, Some, None, slice_get, slice_index_or}
+use Rattle.std.specs.Prelude.{◌≡◌, ◌≢◌, ℕ, ◌+◌, ◌-◌, ◌<◌, ◌≤◌, ◌⊎◌, List, ◌∷◌, length, Some, None, slice_get}
+use Rattle.std.specs.Prelude.{slice_index_or}
 use Rattle.trace_model.specs.History.{Reservation}
 use Rattle.trace_model.specs.Frames.{reserved, Frame}
 use Rattle.trace_model.specs.Ring.{Core, page_at}

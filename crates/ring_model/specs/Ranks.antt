@@ -1,12 +1,15 @@
 -- How far the frame on top is from being gone, and a take from its answer: numbers that are lower after each step of a
 -- take that isn't answered yet, and after each step of a frame that hasn't reserved, and each end, if the frame is
 -- still on the stack. So both have an end. docs/FORMATS.md, "Writer frames" and "The reader".
-use Rattle.std.specs.Prelude.{◌≡◌, ℕ, ◌+◌, ◌-◌, ◌*◌, ◌<◌, ◌≤◌, min, None, Bool, true, false, if◌then◌else◌, ◌==◌, List, [], ◌∷◌, length}
+use Rattle.std.specs.Prelude.{◌≡◌, ℕ, ◌+◌, ◌-◌, ◌*◌, ◌<◌, ◌≤◌, min, None, Bool, true, false, if◌then◌else◌, ◌==◌, List}
+use Rattle.std.specs.Prelude.{[], ◌∷◌, length}
 use Rattle.trace_model.specs.History.{Reservation}
 use Rattle.trace_model.specs.Packing.{tail_of}
 use Rattle.trace_model.specs.Links.{Mark, normal, header, update}
-use Rattle.trace_model.specs.Frames.{Progress, waiting, reserved, left, number_of, Phase, idle, looking, claiming, looking_next, marking, clearing, opening, releasing, wishing, Frame}
-use Rattle.trace_model.specs.Ring.{link_into, ReaderPhase, loading_head, loading_done, storing_spare_link, swapping, Core}
+use Rattle.trace_model.specs.Frames.{Progress, waiting, reserved, left, number_of, Phase, idle, looking, claiming}
+use Rattle.trace_model.specs.Frames.{looking_next, marking, clearing, opening, releasing, wishing, Frame}
+use Rattle.trace_model.specs.Ring.{link_into, ReaderPhase, loading_head, loading_done, storing_spare_link, swapping}
+use Rattle.trace_model.specs.Ring.{Core}
 use Rattle.trace_model.specs.Steps.{steps, ends, reads, Answer, reading, Step}
 use Rattle.ring_model.specs.RingKept.{IsRingKept}
 

@@ -5,7 +5,8 @@ use Rattle.trace_model.specs.Words.{slot_len}
 use Rattle.trace_model.specs.Window.{first_window}
 use Rattle.trace_model.specs.Frames.{for_record, reserved, left, releasing, wishing, Frame}
 use Rattle.trace_model.specs.Ring.{Core, IsStart, IsRing, window_of}
-use Rattle.trace_model.specs.Steps.{Event, pushes, pushes_close, steps, ends, reads, wishes, Answer, Step, Exchange, Run}
+use Rattle.trace_model.specs.Steps.{Event, pushes, pushes_close, steps, ends, reads, wishes, Answer, Step, Exchange}
+use Rattle.trace_model.specs.Steps.{Run}
 use Rattle.ring_model.specs.Reached.{MayStart, IsReached}
 use Rattle.ring_model.specs.RingKept.{IsRingKept}
 

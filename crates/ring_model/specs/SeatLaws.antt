@@ -3,7 +3,8 @@ use Rattle.std.specs.Prelude.{ℕ, List}
 use Rattle.trace_model.specs.Ring.{Core}
 use Rattle.trace_model.specs.Steps.{Event, Answer, Step, Exchange}
 use Rattle.ring_model.specs.RingKept.{IsRingKept}
-use Rattle.ring_model.specs.Seats.{IsOfReader, ReaderPart, seen_by, WriterPart, written_by, OpenPagesHold, OtherPagesHold, WriterStays, ReaderStays, IsPrivate, PrivateRun, WordsStay}
+use Rattle.ring_model.specs.Seats.{IsOfReader, ReaderPart, seen_by, WriterPart, written_by, OpenPagesHold}
+use Rattle.ring_model.specs.Seats.{OtherPagesHold, WriterStays, ReaderStays, IsPrivate, PrivateRun, WordsStay}
 
 -- a step of the writer is the same whatever the reader's part is: it reads nothing of that
 abbrev pub WriterReadsNoReader : Type 0

@@ -4,9 +4,11 @@
 use Rattle.std.specs.Prelude.{◌≡◌, ◌≢◌, ℕ, ◌<◌, List, [], ◌∷◌, length, slice_index_or}
 use Rattle.trace_model.specs.History.{HistoryEvent}
 use Rattle.trace_model.specs.Links.{Link}
-use Rattle.trace_model.specs.Frames.{owner, helper, Phase, idle, looking, claiming, looking_next, marking, clearing, opening, releasing, wishing, Frame}
+use Rattle.trace_model.specs.Frames.{owner, helper, Phase, idle, looking, claiming, looking_next, marking, clearing}
+use Rattle.trace_model.specs.Frames.{opening, releasing, wishing, Frame}
 use Rattle.trace_model.specs.Ring.{Reader, Core}
-use Rattle.trace_model.specs.Steps.{contents_of, Event, pushes, pushes_close, steps, ends, reads, wishes, Step, Exchange}
+use Rattle.trace_model.specs.Steps.{contents_of, Event, pushes, pushes_close, steps, ends, reads, wishes, Step}
+use Rattle.trace_model.specs.Steps.{Exchange}
 
 -- ---- the seats
 

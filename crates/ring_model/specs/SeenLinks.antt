@@ -2,7 +2,8 @@
 use Rattle.std.specs.Prelude.{◌≡◌, ℕ, ◌+◌, ◌<◌, ◌≤◌, List, [], ◌∷◌}
 use Rattle.trace_model.specs.declared.limits.TheConstants.{MAX_PAGES, LINK_PAGES}
 use Rattle.trace_model.specs.Links.{Link, header_link}
-use Rattle.trace_model.specs.Frames.{Phase, idle, looking, claiming, looking_next, marking, clearing, opening, releasing, wishing, Frame}
+use Rattle.trace_model.specs.Frames.{Phase, idle, looking, claiming, looking_next, marking, clearing, opening}
+use Rattle.trace_model.specs.Frames.{releasing, wishing, Frame}
 use Rattle.trace_model.specs.Ring.{Core, link_into}
 use Rattle.ring_model.specs.Reached.{IsReached}
 

@@ -12,8 +12,8 @@ use Rattle.ring_model.specs.RunsAsEvents.{fills_taken, fills_lost, AreEventsOfRu
 -- ---- steps
 
 -- An event that moves the window, as the state shows it. If a fill is begun, the history has one more open_fill; if one
--- is taken, it is the head, and the last page that the reader took; that one is closed or lost changes neither. No other
--- history event moves the window.
+-- is taken, it is the head, and the last page that the reader took; that one is closed or lost changes neither. No
+-- other history event moves the window.
 abbrev pub IsEventShown : Core → Core → RingEvent → Type 0
 IsEventShown c after (acts (push moment len)) = ⊥
 IsEventShown c after (acts push_close) = ⊥

@@ -4,7 +4,8 @@ use Rattle.trace_model.specs.declared.limits.TheConstants.{LINK_FILLS}
 use Rattle.trace_model.specs.Packing.{tail_of, first_of_fill}
 use Rattle.trace_model.specs.Frames.{reserved, wishing, Frame}
 use Rattle.trace_model.specs.Ring.{Core}
-use Rattle.trace_model.specs.Steps.{Event, ends, wishes, Answer, gone, full, empty, wished_for, IsGranted, Step, Exchange, Run}
+use Rattle.trace_model.specs.Steps.{Event, ends, wishes, Answer, gone, full, empty, wished_for, IsGranted, Step}
+use Rattle.trace_model.specs.Steps.{Exchange, Run}
 use Rattle.ring_model.specs.RingKept.{IsRingKept}
 use Rattle.ring_model.specs.WindowLaws.{HeadIsLost}
 

@@ -6,7 +6,8 @@ use Rattle.std.specs.Prelude.{◌≡◌, ◌≢◌, ℕ, ◌+◌, ◌-◌, ◌*�
 use Rattle.trace_model.specs.History.{HistoryEvent, Reservation}
 use Rattle.trace_model.specs.Packing.{tail_of}
 use Rattle.trace_model.specs.Links.{header_link}
-use Rattle.trace_model.specs.Frames.{Progress, waiting, reserved, left, number_of, Phase, idle, looking, claiming, looking_next, marking, clearing, opening, releasing, wishing, Frame}
+use Rattle.trace_model.specs.Frames.{Progress, waiting, reserved, left, number_of, Phase, idle, looking, claiming}
+use Rattle.trace_model.specs.Frames.{looking_next, marking, clearing, opening, releasing, wishing, Frame}
 use Rattle.trace_model.specs.Ring.{link_into, Core}
 use Rattle.trace_model.specs.Steps.{steps, Answer, Step}
 use Rattle.ring_model.specs.Ranks.{state_rank, late_rank, frame_limit}

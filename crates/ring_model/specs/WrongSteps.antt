@@ -4,8 +4,10 @@ use Rattle.trace_model.specs.History.{wished}
 use Rattle.trace_model.specs.Packing.{IsPacked}
 use Rattle.trace_model.specs.Links.{normal_link, header_link}
 use Rattle.trace_model.specs.Ring.{Core, IsStart, IsRing}
-use Rattle.trace_model.specs.Steps.{Event, Answer, going, reserved_as, pending, full, reading, with_history_event, with_link, with_new_tail, after_swap, Step, Exchange, Run}
-use Rattle.ring_model.specs.Examples.{pushing, stepping, after_going, ending, taking, all, four, writing, writing_on_free, writing_over_head, closing_above, wishing_for, pushing_close}
+use Rattle.trace_model.specs.Steps.{Event, Answer, going, reserved_as, pending, full, reading, with_history_event}
+use Rattle.trace_model.specs.Steps.{with_link, with_new_tail, after_swap, Step, Exchange, Run}
+use Rattle.ring_model.specs.Examples.{pushing, stepping, after_going, ending, taking, all, four, writing}
+use Rattle.ring_model.specs.Examples.{writing_on_free, writing_over_head, closing_above, wishing_for, pushing_close}
 
 -- These exchanges lead from a new ring of n positions to a state. What the wrong step makes of it is no ring; and
 -- no event and no answer make it.

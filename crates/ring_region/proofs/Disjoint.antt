@@ -14,7 +14,8 @@ abbrev IsOf : Parcel → ℕ → Type 0
 IsOf parcel n = (parcel.first ≤ n + parcel.missed) × (n < end_of parcel)
 
 -- the numbers of all parcels are not below this one
-above : (low : ℕ) (parcels : List Parcel) → AreApart low parcels → (k : ℕ) (parcel : Parcel) → slice_get parcels k ≡ Some parcel
+above : (low : ℕ) (parcels : List Parcel) → AreApart low parcels → (k : ℕ) (parcel : Parcel)
+    → slice_get parcels k ≡ Some parcel
     → low + parcel.missed ≤ parcel.first
 above low [] apart k parcel at = absurd (none-some parcel at)
 above low (first ∷ parcels) apart zero parcel at =
@@ -58,7 +59,8 @@ apart_agree low parcels apart = record {
       let same = one_parcel low parcels apart has.index has_too.index has.parcel has_too.parcel n has.at has_too.at
       (paired c n r has.parcel has.pair) (paired c n other has_too.parcel has_too.pair) in
       let first = ap (λ (p : Parcel). p.first) same in
-      let place : has.pair.index ≡ has_too.pair.index = omega (arith, has.pair.number_is, has_too.pair.number_is, first) in
+      let place : has.pair.index ≡ has_too.pair.index =
+      omega (arith, has.pair.number_is, has_too.pair.number_is, first) in
       some_is r other (sym has.pair.record_is ∙ ap (λ (p : Parcel). slice_get p.records has.pair.index) same
       ∙ ap (λ (k : ℕ). slice_get has_too.parcel.records k) place ∙ has_too.pair.record_is);
   not_missing = λ c n r has misses.

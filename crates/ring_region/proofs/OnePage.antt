@@ -8,9 +8,11 @@ use Rattle.trace_model.specs.ParcelBytes.{DecodesParcel, ParcelCause, bad_image,
 use Rattle.trace_model.proofs.images.ImageParts.{from_le64-take}
 use Rattle.trace_model.proofs.images.ParcelParts.{HasNumbers-are}
 use Rattle.record_words.specs.declared.next.WordFault.TheVariants.{Cut, BadLength, TimeOverflow}
-use Rattle.ring_region.specs.declared.faults.SlotCause.TheVariants.{OtherCpu, Missed, BadCommit, Word, NumberOverflow, SameFill, Overlap}
+use Rattle.ring_region.specs.declared.faults.SlotCause.TheVariants.{OtherCpu, Missed, BadCommit, Word, NumberOverflow}
+use Rattle.ring_region.specs.declared.faults.SlotCause.TheVariants.{SameFill, Overlap}
 use Rattle.ring_region.specs.Headers.{number_in}
-use Rattle.ring_region.specs.Slots.{Slot, blank, intact, faulty, IsSlotOf, IsOfCpu, IsUnmissed, IsCommitted, commit_in, committed_in}
+use Rattle.ring_region.specs.Slots.{Slot, blank, intact, faulty, IsSlotOf, IsOfCpu, IsUnmissed, IsCommitted, commit_in}
+use Rattle.ring_region.specs.Slots.{committed_in}
 
 -- a number that ends before the cut is the same in what is before it
 pub number-take : (bytes : List ℕ) (n at : ℕ) → at + 8 ≤ n → number_in (take n bytes) at ≡ number_in bytes at
@@ -23,9 +25,12 @@ number-take bytes n at fits =
     ∙ from_le64-take (drop at bytes)
 
 -- a slot that is a page has its region's CPU, and misses nothing
-pub page-numbers : (cpu : ℕ) (bytes : List ℕ) (parcel : Parcel) → IsSlotOf cpu bytes (intact parcel) → (parcel.cpu ≡ cpu) × (parcel.missed ≡ 0)
+pub page-numbers : (cpu : ℕ) (bytes : List ℕ) (parcel : Parcel) → IsSlotOf cpu bytes (intact parcel)
+    → (parcel.cpu ≡ cpu) × (parcel.missed ≡ 0)
 page-numbers cpu bytes parcel is =
-    let are = HasNumbers-are (committed_in bytes) parcel.cpu parcel.fill parcel.first parcel.missed is.1.image.image is.1.image.numbers in (
+    let are =
+    HasNumbers-are (committed_in bytes) parcel.cpu parcel.fill parcel.first parcel.missed is.1.image.image
+    is.1.image.numbers in (
       are.cpu_is ∙ number-take bytes (48 + commit_in bytes) 0 (omega arith) ∙ is.0.unmissed.of_cpu.cpu_is,
       are.missed_is ∙ number-take bytes (48 + commit_in bytes) 24 (omega arith) ∙ is.0.unmissed.none_missed,
     )
@@ -42,42 +47,58 @@ pub record AreAlike (bytes other : List ℕ) : Type 0 where
   pub past : length bytes < 48 + commit_in bytes → length other < 48 + commit_in bytes
 
 alike_of_cpu : (cpu : ℕ) (bytes other : List ℕ) → AreAlike bytes other → IsOfCpu cpu bytes → IsOfCpu cpu other
-alike_of_cpu cpu bytes other alike is = record { some = λ none. is.some (alike.commits ∙ none); cpu_is = sym alike.cpus ∙ is.cpu_is }
+alike_of_cpu cpu bytes other alike is =
+    record { some = λ none. is.some (alike.commits ∙ none); cpu_is = sym alike.cpus ∙ is.cpu_is }
 
 same_unmissed : (cpu : ℕ) (bytes other : List ℕ) → AreAlike bytes other → IsUnmissed cpu bytes → IsUnmissed cpu other
 same_unmissed cpu bytes other alike is =
     record { of_cpu = alike_of_cpu cpu bytes other alike is.of_cpu; none_missed = sym alike.misses ∙ is.none_missed }
 
-alike_committed : (cpu : ℕ) (bytes other : List ℕ) → AreAlike bytes other → IsCommitted cpu bytes → IsCommitted cpu other
+alike_committed : (cpu : ℕ) (bytes other : List ℕ) → AreAlike bytes other → IsCommitted cpu bytes
+    → IsCommitted cpu other
 alike_committed cpu bytes other alike is = record {
   unmissed = same_unmissed cpu bytes other alike is.unmissed;
   there = subst (λ (n : ℕ). 48 + n ≤ length other) alike.commits (alike.there is.there);
 }
 
-alike_fault : (bytes other : List ℕ) (cause : ParcelCause) → AreAlike bytes other → FirstParcelFault (committed_in bytes) cause → FirstParcelFault (committed_in other) cause
+alike_fault : (bytes other : List ℕ) (cause : ParcelCause) → AreAlike bytes other
+    → FirstParcelFault (committed_in bytes) cause → FirstParcelFault (committed_in other) cause
 alike_fault bytes other cause alike is = subst (λ (b : List ℕ). FirstParcelFault b cause) alike.committed is
 
 -- then they are the same slot
-pub same_slot : (cpu : ℕ) (bytes other : List ℕ) (slot : Slot) → AreAlike bytes other → IsSlotOf cpu bytes slot → IsSlotOf cpu other slot
+pub same_slot : (cpu : ℕ) (bytes other : List ℕ) (slot : Slot) → AreAlike bytes other → IsSlotOf cpu bytes slot
+    → IsSlotOf cpu other slot
 same_slot cpu bytes other blank alike is = sym alike.commits ∙ is
 same_slot cpu bytes other (intact parcel) alike (is, reads) =
     (alike_committed cpu bytes other alike is, subst (λ (b : List ℕ). DecodesParcel b parcel) alike.committed reads)
-same_slot cpu bytes other (faulty OtherCpu) alike (some, differs) = (λ none. some (alike.commits ∙ none), λ same. differs (alike.cpus ∙ same))
-same_slot cpu bytes other (faulty Missed) alike (is, misses) = (alike_of_cpu cpu bytes other alike is, λ none. misses (alike.misses ∙ none))
+same_slot cpu bytes other (faulty OtherCpu) alike (some, differs) =
+    (λ none. some (alike.commits ∙ none), λ same. differs (alike.cpus ∙ same))
+same_slot cpu bytes other (faulty Missed) alike (is, misses) =
+    (alike_of_cpu cpu bytes other alike is, λ none. misses (alike.misses ∙ none))
 same_slot cpu bytes other (faulty BadCommit) alike (is, past) =
     (same_unmissed cpu bytes other alike is, subst (λ (n : ℕ). length other < 48 + n) alike.commits (alike.past past))
-same_slot cpu bytes other (faulty (Word (Cut at))) alike (is, bad) = (alike_committed cpu bytes other alike is, alike_fault bytes other (bad_image (bad_word cut at)) alike bad)
-same_slot cpu bytes other (faulty (Word (BadLength at))) alike (is, bad) = (alike_committed cpu bytes other alike is, alike_fault bytes other (bad_image (bad_word bad_length at)) alike bad)
-same_slot cpu bytes other (faulty (Word (TimeOverflow at))) alike (is, bad) = (alike_committed cpu bytes other alike is, alike_fault bytes other (bad_image (bad_word time_overflow at)) alike bad)
-same_slot cpu bytes other (faulty NumberOverflow) alike (is, bad) = (alike_committed cpu bytes other alike is, alike_fault bytes other number_overflow alike bad)
+same_slot cpu bytes other (faulty (Word (Cut at))) alike (is, bad) =
+    (alike_committed cpu bytes other alike is, alike_fault bytes other (bad_image (bad_word cut at)) alike bad)
+same_slot cpu bytes other (faulty (Word (BadLength at))) alike (is, bad) =
+    (alike_committed cpu bytes other alike is, alike_fault bytes other (bad_image (bad_word bad_length at)) alike bad)
+same_slot cpu bytes other (faulty (Word (TimeOverflow at))) alike (is, bad) = (
+  alike_committed cpu bytes other alike is,
+  alike_fault bytes other (bad_image (bad_word time_overflow at)) alike bad,
+)
+same_slot cpu bytes other (faulty NumberOverflow) alike (is, bad) =
+    (alike_committed cpu bytes other alike is, alike_fault bytes other number_overflow alike bad)
 same_slot cpu bytes other (faulty SameFill) alike is = is
 same_slot cpu bytes other (faulty Overlap) alike is = is
 
 -- bytes that agree up to the commit
-pub alike-behind : (bytes other : List ℕ) → length other ≡ length bytes → take (48 + commit_in bytes) other ≡ take (48 + commit_in bytes) bytes → AreAlike bytes other
+pub alike-behind : (bytes other : List ℕ) → length other ≡ length bytes
+    → take (48 + commit_in bytes) other ≡ take (48 + commit_in bytes) bytes → AreAlike bytes other
 alike-behind bytes other long same =
     let n : ℕ = 48 + commit_in bytes in
-    let number = λ (at : ℕ) (low : at + 8 ≤ n). sym (number-take bytes n at low) ∙ ap (λ (b : List ℕ). number_in b at) (sym same) ∙ number-take other n at low in
+    let number =
+    λ (at : ℕ) (low : at + 8 ≤ n).
+    sym (number-take bytes n at low) ∙ ap (λ (b : List ℕ). number_in b at) (sym same)
+    ∙ number-take other n at low in
     let commits = number 40 (omega arith) in
     record {
       cpus = number 0 (omega arith);

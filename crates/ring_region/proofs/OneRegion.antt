@@ -1,5 +1,6 @@
 -- A region holds one thing.
-use Rattle.std.proofs.Common.{◌≡◌, ◌≢◌, ◌∙◌, ℕ, zero, suc, ◌+◌, ◌%◌, ◌≤◌, ◌<◌, ◌⊎◌, inl, inr, ⊎_elim, List, [], ◌∷◌, ◌++◌, length, take, drop, Some, None, refl, sym, ap, subst, arith, length-append}
+use Rattle.std.proofs.Common.{◌≡◌, ◌≢◌, ◌∙◌, ℕ, zero, suc, ◌+◌, ◌%◌, ◌≤◌, ◌<◌, ◌⊎◌, inl, inr, ⊎_elim, List, [], ◌∷◌}
+use Rattle.std.proofs.Common.{◌++◌, length, take, drop, Some, None, refl, sym, ap, subst, arith, length-append}
 use Rattle.std.proofs.lemmas.Bool.{cases_lt}
 use Rattle.std.proofs.lemmas.List.{length-take}
 use Rattle.std.proofs.lemmas.Option.{none-some}
@@ -10,8 +11,10 @@ use Rattle.trace_model.proofs.words.OneWord.{AreBytes-drop, AreBytes-take}
 use Rattle.ring_region.specs.declared.headers.Header.{Header}
 use Rattle.ring_region.specs.declared.faults.Damaged.{Damaged}
 use Rattle.ring_region.specs.declared.faults.RegionFault.{RegionFault}
-use Rattle.ring_region.specs.declared.faults.RegionFault.TheVariants.{TooShort, NotARegion, BadVersion, BadPages, BadSize, BadCpu, BadEnd, NoMemory}
-use Rattle.ring_region.specs.Headers.{header_in, number_in, magic, region_len, slot_at, slot_in, IsMarked, HasVersion, HasPages, HasSize, HasCpu, HasEnd, IsWhole, IsRegionFault}
+use Rattle.ring_region.specs.declared.faults.RegionFault.TheVariants.{TooShort, NotARegion, BadVersion, BadPages}
+use Rattle.ring_region.specs.declared.faults.RegionFault.TheVariants.{BadSize, BadCpu, BadEnd, NoMemory}
+use Rattle.ring_region.specs.Headers.{header_in, number_in, magic, region_len, slot_at, slot_in, IsMarked, HasVersion}
+use Rattle.ring_region.specs.Headers.{HasPages, HasSize, HasCpu, HasEnd, IsWhole, IsRegionFault}
 use Rattle.ring_region.specs.Slots.{Slot}
 use Rattle.ring_region.specs.Order.{AreByFill, kept_behind, recovered}
 use Rattle.ring_region.specs.Regions.{unpassed, IsUnpassedSlotOf, AreSlots, Recovered, damaged_in, IsHeld, IsRegion}
@@ -21,7 +24,8 @@ use Rattle.ring_region.proofs.ByFill.{one_by_fill, some_by_fill, get_pushed}
 -- ---- one
 
 -- lists of the same length with the same elements at each index
-same_lists : (xs ys : List Slot) → length xs ≡ length ys → ((k : ℕ) (x y : Slot) → slice_get xs k ≡ Some x → slice_get ys k ≡ Some y → x ≡ y) → xs ≡ ys
+same_lists : (xs ys : List Slot) → length xs ≡ length ys
+    → ((k : ℕ) (x y : Slot) → slice_get xs k ≡ Some x → slice_get ys k ≡ Some y → x ≡ y) → xs ≡ ys
 same_lists [] [] long same = refl
 same_lists [] (y ∷ ys) long same = absurd (omega arith)
 same_lists (x ∷ xs) [] long same = absurd (omega arith)
@@ -30,19 +34,30 @@ same_lists (x ∷ xs) (y ∷ ys) long same =
     let rest = same_lists xs ys (omega arith) (λ k a b at there. same (suc k) a b at there) in
     (λ i. first i ∷ rest i)
 
-one_unpassed : (header : Header) (bytes : List ℕ) (slot other : Slot) → IsUnpassedSlotOf header bytes slot → IsUnpassedSlotOf header bytes other → slot ≡ other
+one_unpassed : (header : Header) (bytes : List ℕ) (slot other : Slot) → IsUnpassedSlotOf header bytes slot
+    → IsUnpassedSlotOf header bytes other → slot ≡ other
 one_unpassed header bytes slot other is also =
-    is.slot_is ∙ ap (unpassed header.taken.0) (one_slot header.cpu.0 bytes is.read also.read is.read_is also.read_is) ∙ sym also.slot_is
+    is.slot_is ∙ ap (unpassed header.taken.0) (one_slot header.cpu.0 bytes is.read also.read is.read_is also.read_is)
+    ∙ sym also.slot_is
 
-pub one_held : (bytes : List ℕ) (held other : Recovered) → held.header ≡ other.header → IsHeld bytes held → IsHeld bytes other → held ≡ other
+pub one_held : (bytes : List ℕ) (held other : Recovered) → held.header ≡ other.header → IsHeld bytes held
+    → IsHeld bytes other → held ≡ other
 one_held bytes held other header is also =
-    let long : length is.slots ≡ length also.slots = is.count_is ∙ ap (λ (h : Header). h.pages + 1) header ∙ sym also.count_is in
-    let there : AreSlots held.header bytes also.slots = subst (λ (h : Header). AreSlots h bytes also.slots) (sym header) also.slots_are in
+    let long : length is.slots ≡ length also.slots =
+    is.count_is ∙ ap (λ (h : Header). h.pages + 1) header ∙ sym also.count_is in
+    let there : AreSlots held.header bytes also.slots =
+    subst (λ (h : Header). AreSlots h bytes also.slots) (sym header) also.slots_are in
     let slots : is.slots ≡ also.slots = same_lists is.slots also.slots long
-    (λ k x y at here. one_unpassed held.header (slot_in held.header.size bytes k) x y (is.slots_are k x at) (there k y here)) in
-    let found : is.found ≡ also.found = one_by_fill also.slots is.found also.found (subst (λ (ss : List Slot). AreByFill ss is.found) slots is.by_fill) also.by_fill in
-    let damaged : held.damaged ≡ other.damaged = is.damaged_are ∙ (λ i. damaged_in (header i).size (slots i) (found i)) ∙ sym also.damaged_are in
-    let parcels : held.parcels ≡ other.parcels = is.parcels_are ∙ (λ i. recovered (header i).taken.0 (damaged i) (kept_behind None (found i))) ∙ sym also.parcels_are in
+    (λ k x y at here.
+    one_unpassed held.header (slot_in held.header.size bytes k) x y (is.slots_are k x at) (there k y here)) in
+    let found : is.found ≡ also.found =
+    one_by_fill also.slots is.found also.found (subst (λ (ss : List Slot). AreByFill ss is.found) slots is.by_fill)
+    also.by_fill in
+    let damaged : held.damaged ≡ other.damaged =
+    is.damaged_are ∙ (λ i. damaged_in (header i).size (slots i) (found i)) ∙ sym also.damaged_are in
+    let parcels : held.parcels ≡ other.parcels =
+    is.parcels_are ∙ (λ i. recovered (header i).taken.0 (damaged i) (kept_behind None (found i)))
+    ∙ sym also.parcels_are in
     (λ i. record { header = header i; parcels = parcels i; damaged = damaged i })
 
 pub one_region : (bytes : List ℕ) (held other : Recovered) → IsRegion bytes held → IsRegion bytes other → held ≡ other
@@ -53,18 +68,23 @@ one_region bytes held other is also = one_held bytes held other (is.header_is �
 abbrev HasSlots : Header → List ℕ → ℕ → Type 0
 HasSlots header bytes count = (slots : List Slot) × (length slots ≡ count) × AreSlots header bytes slots
 
-some_slots : (header : Header) (bytes : List ℕ) → AreBytes bytes → header.cpu.0 < MAX_CPUS → header.size ≤ MAX_SIZE → (count : ℕ) → HasSlots header bytes count
+some_slots : (header : Header) (bytes : List ℕ) → AreBytes bytes → header.cpu.0 < MAX_CPUS → header.size ≤ MAX_SIZE
+    → (count : ℕ) → HasSlots header bytes count
 some_slots header bytes small known limit zero = ([], refl, λ number slot at. absurd (none-some slot at))
 some_slots header bytes small known limit (suc count) =
     let before = some_slots header bytes small known limit count in
     let piece : List ℕ = slot_in header.size bytes count in
-    let slot = some_slot header.cpu.0 piece known (AreBytes-take (48 + header.size) (drop (slot_at header.size count) bytes) (AreBytes-drop (slot_at header.size count) bytes small))
+    let slot =
+    some_slot header.cpu.0 piece known
+    (AreBytes-take (48 + header.size) (drop (slot_at header.size count) bytes)
+    (AreBytes-drop (slot_at header.size count) bytes small))
     (omega (arith, limit, length-take (48 + header.size) (drop (slot_at header.size count) bytes))) in (
       before.0 ++ unpassed header.taken.0 slot.0 ∷ [],
       omega (arith, before.1, length-append before.0 (unpassed header.taken.0 slot.0 ∷ [])),
       λ number other at. ⊎_elim
           (λ was. before.2 number other was)
-          (λ (last, same). subst (λ (k : ℕ). IsUnpassedSlotOf header (slot_in header.size bytes k) other) (sym (last ∙ before.1))
+          (λ (last, same).
+          subst (λ (k : ℕ). IsUnpassedSlotOf header (slot_in header.size bytes k) other) (sym (last ∙ before.1))
           (record { read = slot.0; read_is = slot.1; slot_is = sym same }))
           (get_pushed before.0 (unpassed header.taken.0 slot.0) number other at),
     )
@@ -77,7 +97,11 @@ some_region bytes small whole =
     let slots = some_slots header bytes small known limit (header.pages + 1) in
     let found = some_by_fill slots.0 in
     let damaged : List Damaged = damaged_in header.size slots.0 found.0 in (
-      record { header = header; parcels = recovered header.taken.0 damaged (kept_behind None found.0); damaged = damaged },
+      record {
+        header = header;
+        parcels = recovered header.taken.0 damaged (kept_behind None found.0);
+        damaged = damaged;
+      },
       record {
         whole = whole;
         header_is = refl;

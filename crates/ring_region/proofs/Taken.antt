@@ -10,24 +10,37 @@ use Rattle.ring_region.specs.Order.{end_of}
 use Rattle.ring_region.specs.Agreement.{IsPartOf, AreTaken}
 
 -- what pieces leave is no longer than the whole
-rest_within : (records : List Record) (pieces : List Piece) (rest : List Record) → IsPartition records pieces rest → length rest ≤ length records
+rest_within : (records : List Record) (pieces : List Piece) (rest : List Record) → IsPartition records pieces rest
+    → length rest ≤ length records
 rest_within records [] rest is = let same = ap (length {A = Record}) is in omega arith
 rest_within records (p ∷ pieces) rest (lost, behind, count, whole, others) =
     let under = rest_within behind pieces rest others in
-    omega (arith, under, ap (length {A = Record}) whole, length-append lost (p.records ++ behind), length-append p.records behind)
+    omega (
+      arith,
+      under,
+      ap (length {A = Record}) whole,
+      length-append lost (p.records ++ behind),
+      length-append p.records behind,
+    )
 
-module _ (records : ℕ → List Record) (pieces : ℕ → List Piece) (rest : ℕ → List Record) (before : List Parcel) (cpu taken : ℕ)
-    (partition : (c : ℕ) → IsPartition (records c) (pieces c) (rest c)) (genuine : AreGenuine before pieces) (left : taken + length (rest cpu) ≡ length (records cpu)) where
+module _ (records : ℕ → List Record) (pieces : ℕ → List Piece) (rest : ℕ → List Record) (before : List Parcel)
+    (cpu taken : ℕ)
+    (partition : (c : ℕ) → IsPartition (records c) (pieces c) (rest c)) (genuine : AreGenuine before pieces)
+    (left : taken + length (rest cpu) ≡ length (records cpu)) where
   part : (k : ℕ) (parcel : Parcel) → slice_get before k ≡ Some parcel → IsPartOf (records parcel.cpu) parcel
   part k parcel at =
       let g = genuine k parcel at in λ index r there.
-      own_records (records parcel.cpu) (pieces parcel.cpu) (rest parcel.cpu) g.index (record { skipped = parcel.missed; records = parcel.records }) parcel.first index r
+      own_records (records parcel.cpu) (pieces parcel.cpu) (rest parcel.cpu) g.index
+      (record { skipped = parcel.missed; records = parcel.records }) parcel.first index r
       (partition parcel.cpu) g.piece_is g.first_is there
 
-  end : (k : ℕ) (parcel : Parcel) → slice_get before k ≡ Some parcel → end_of parcel + length (rest parcel.cpu) ≤ length (records parcel.cpu)
+  end : (k : ℕ) (parcel : Parcel) → slice_get before k ≡ Some parcel
+      → end_of parcel + length (rest parcel.cpu) ≤ length (records parcel.cpu)
   end k parcel at =
       let g = genuine k parcel at in
-      let s = count_is_first (records parcel.cpu) (pieces parcel.cpu) (rest parcel.cpu) g.index (record { skipped = parcel.missed; records = parcel.records }) parcel.first
+      let s =
+      count_is_first (records parcel.cpu) (pieces parcel.cpu) (rest parcel.cpu) g.index
+      (record { skipped = parcel.missed; records = parcel.records }) parcel.first
       (partition parcel.cpu) g.piece_is g.first_is in
       let under = rest_within s.behind _ (rest parcel.cpu) s.others in
       omega (

@@ -1,5 +1,6 @@
 -- What is recovered agrees with what was taken before.
-use Rattle.std.proofs.Common.{◌≡◌, ◌∙◌, ℕ, ◌+◌, ◌≤◌, ◌<◌, ◌⊎◌, inl, inr, ⊎_elim, List, ◌++◌, Some, sym, ap, subst, arith}
+use Rattle.std.proofs.Common.{◌≡◌, ◌∙◌, ℕ, ◌+◌, ◌≤◌, ◌<◌, ◌⊎◌, inl, inr, ⊎_elim, List, ◌++◌, Some, sym, ap, subst}
+use Rattle.std.proofs.Common.{arith}
 use Rattle.std.proofs.lemmas.Option.{slice_get_within}
 use Rattle.std.specs.List.{slice_get}
 use Rattle.trace_model.specs.Record.{Record}
@@ -11,24 +12,28 @@ use Rattle.ring_region.specs.Agreement.{IsPartOf, IsAmong, AreTaken, AreLeft}
 use Rattle.ring_region.proofs.Gaps.{IsGap}
 
 -- one list has it, or the other
-has_in_either : (before behind : List Parcel) (cpu n : ℕ) (r : Record) → Has (before ++ behind) cpu n r → Has before cpu n r ⊎ Has behind cpu n r
+has_in_either : (before behind : List Parcel) (cpu n : ℕ) (r : Record) → Has (before ++ behind) cpu n r
+    → Has before cpu n r ⊎ Has behind cpu n r
 has_in_either before behind cpu n r has = ⊎_elim
     (λ (k, at). inl (record { index = k; parcel = has.parcel; at = at; pair = has.pair }))
     (λ (k, at). inr (record { index = k; parcel = has.parcel; at = at; pair = has.pair }))
     (get_in_either before behind has.index has.parcel has.at)
 
-misses_in_either : (before behind : List Parcel) (cpu n : ℕ) → Misses (before ++ behind) cpu n → Misses before cpu n ⊎ Misses behind cpu n
+misses_in_either : (before behind : List Parcel) (cpu n : ℕ) → Misses (before ++ behind) cpu n
+    → Misses before cpu n ⊎ Misses behind cpu n
 misses_in_either before behind cpu n misses = ⊎_elim
     (λ (k, at). inl (record { index = k; parcel = misses.parcel; at = at; missing = misses.missing }))
     (λ (k, at). inr (record { index = k; parcel = misses.parcel; at = at; missing = misses.missing }))
     (get_in_either before behind misses.index misses.parcel misses.at)
 
 -- a record that a parcel has is the list's
-of_list : (records : List Record) (parcel : Parcel) (cpu n : ℕ) (r : Record) → IsPartOf records parcel → IsPairOf parcel cpu n r → slice_get records n ≡ Some r
+of_list : (records : List Record) (parcel : Parcel) (cpu n : ℕ) (r : Record) → IsPartOf records parcel
+    → IsPairOf parcel cpu n r → slice_get records n ≡ Some r
 of_list records parcel cpu n r part pair = ap (slice_get records) pair.number_is ∙ part pair.index r pair.record_is
 
 -- what a parcel has, those have that it is among
-among_has : (parcels : List Parcel) (parcel : Parcel) (cpu n : ℕ) (r : Record) → IsAmong parcels parcel → IsPairOf parcel cpu n r → Has parcels cpu n r
+among_has : (parcels : List Parcel) (parcel : Parcel) (cpu n : ℕ) (r : Record) → IsAmong parcels parcel
+    → IsPairOf parcel cpu n r → Has parcels cpu n r
 among_has parcels parcel cpu n r among pair = record {
   index = among.index;
   parcel = among.other;
@@ -41,12 +46,15 @@ among_has parcels parcel cpu n r among pair = record {
   };
 }
 
-module _ (records : List Record) (cpu taken : ℕ) (before : List Parcel) (held : Recovered) (cpu_is : held.header.cpu.0 ≡ cpu) (taken_is : held.header.taken.0 ≡ taken)
+module _ (records : List Record) (cpu taken : ℕ) (before : List Parcel) (held : Recovered)
+    (cpu_is : held.header.cpu.0 ≡ cpu) (taken_is : held.header.taken.0 ≡ taken)
     (was : AreTaken records cpu taken before) (left : AreLeft records before held) (agree : Agree held.parcels)
     (of_cpu : (k : ℕ) (parcel : Parcel) → slice_get held.parcels k ≡ Some parcel → parcel.cpu ≡ cpu)
-    (gaps : (k : ℕ) (parcel : Parcel) (n : ℕ) → slice_get held.parcels k ≡ Some parcel → parcel.first ≤ n + parcel.missed → n < parcel.first → IsGap taken held.damaged held.parcels n) where
+    (gaps : (k : ℕ) (parcel : Parcel) (n : ℕ) → slice_get held.parcels k ≡ Some parcel
+    → parcel.first ≤ n + parcel.missed → n < parcel.first → IsGap taken held.damaged held.parcels n) where
   listed_before : (n : ℕ) (r : Record) → Has before cpu n r → slice_get records n ≡ Some r
-  listed_before n r has = of_list records has.parcel cpu n r (was.parts has.index has.parcel has.at (sym has.pair.cpu_is)) has.pair
+  listed_before n r has =
+      of_list records has.parcel cpu n r (was.parts has.index has.parcel has.at (sym has.pair.cpu_is)) has.pair
 
   listed_here : (c n : ℕ) (r : Record) → Has held.parcels c n r → slice_get records n ≡ Some r
   listed_here c n r has = of_list records has.parcel c n r (left.parts has.index has.parcel has.at) has.pair

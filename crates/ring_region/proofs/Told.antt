@@ -1,7 +1,8 @@
 -- What the call answers of a region, from what it says of its bytes.
 use Rattle.std.proofs.Common.{◌≡◌, ℕ, List, Result, Ok, Err, IfOk, IfErr, MatchResult, ⊎_elim, refl, arith}
 use Rattle.ring_region.specs.declared.faults.RegionFault.{RegionFault}
-use Rattle.ring_region.specs.declared.faults.RegionFault.TheVariants.{TooShort, NotARegion, BadVersion, BadPages, BadSize, BadCpu, BadEnd, NoMemory}
+use Rattle.ring_region.specs.declared.faults.RegionFault.TheVariants.{TooShort, NotARegion, BadVersion, BadPages}
+use Rattle.ring_region.specs.declared.faults.RegionFault.TheVariants.{BadSize, BadCpu, BadEnd, NoMemory}
 use Rattle.ring_region.specs.declared.regions.Region.{Region}
 use Rattle.ring_region.specs.Headers.{IsWhole, IsRegionFault}
 use Rattle.ring_region.specs.Regions.{Recovered, IsRegion}
@@ -29,7 +30,8 @@ only_memory bytes BadCpu is (size, past) = let known = is.stated.cpu.known in ab
 only_memory bytes BadEnd is (cpu, past) = let fits = is.stated.one_or_none in absurd (omega (arith, past, fits))
 only_memory bytes NoMemory is bad = refl
 
-pub region_reported : (bytes : List ℕ) (result : Result Region RegionFault) (held : Recovered) → IfOk result (λ region. IsRegion bytes (region_seen region)) → IfErr result (λ fault. IsRegionFault bytes fault)
+pub region_reported : (bytes : List ℕ) (result : Result Region RegionFault) (held : Recovered)
+    → IfOk result (λ region. IsRegion bytes (region_seen region)) → IfErr result (λ fault. IsRegionFault bytes fault)
     → IsRegion bytes held → MatchResult result (λ region. region_seen region ≡ held) (λ fault. fault ≡ NoMemory)
 region_reported bytes (Ok region) held is fault also = one_region bytes (region_seen region) held is also
 region_reported bytes (Err refused) held is fault also = only_memory bytes refused also.whole fault

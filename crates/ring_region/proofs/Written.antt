@@ -1,5 +1,6 @@
 -- A slot that agrees with a page's slot up to its commit is that page.
-use Rattle.std.proofs.Common.{◌≡◌, ◌∙◌, ℕ, ◌+◌, ◌^◌, ◌≤◌, ◌<◌, false, List, [], ◌++◌, length, take, drop, refl, sym, ap, subst, arith, length-append, append-nil}
+use Rattle.std.proofs.Common.{◌≡◌, ◌∙◌, ℕ, ◌+◌, ◌^◌, ◌≤◌, ◌<◌, false, List, [], ◌++◌, length, take, drop, refl, sym, ap}
+use Rattle.std.proofs.Common.{subst, arith, length-append, append-nil}
 use Rattle.std.proofs.lemmas.List.{length-take, drop-drop}
 use Rattle.trace_model.specs.Image.{le64, from_le64, Commit, commit_word, none, DecodesImage}
 use Rattle.trace_model.specs.ParcelBytes.{HasNumbers, DecodesParcel}
@@ -51,7 +52,8 @@ module _ (cpu : ℕ) (page : Contents) (known : cpu < MAX_CPUS) (is : IsPage pag
     behind = [];
     parts = record {
       header = record {
-        whole = (λ i. le64 page.time ++ (le64 (sym (plain_word (length page.bytes)) i) ++ sym (append-nil page.bytes) i));
+        whole =
+            (λ i. le64 page.time ++ (le64 (sym (plain_word (length page.bytes)) i) ++ sym (append-nil page.bytes) i));
         time_fits = is.in_time;
         size_fits = omega (arith, limit);
         ignored_fits = omega arith;
@@ -67,24 +69,37 @@ module _ (cpu : ℕ) (page : Contents) (known : cpu < MAX_CPUS) (is : IsPage pag
   decodes : DecodesParcel (slot_of_page cpu page) (unmissed cpu page)
   decodes = record {
     reported = none;
-    image = record { image = image_of_page page; numbers = numbers; cpu_known = known; time = page.time; size = length page.bytes; reads = decodes_image };
+    image =
+        record {
+          image = image_of_page page;
+          numbers = numbers;
+          cpu_known = known;
+          time = page.time;
+          size = length page.bytes;
+          reads = decodes_image;
+        };
     sound = record { cpu_known = known; numbers_fit = numbers_fit; missed_fit = omega arith };
     agrees = refl;
   }
 
   commit_number : number_in (slot_of_page cpu page) 40 ≡ length page.bytes
   commit_number =
-      let image : drop 32 (slot_of_page cpu page) ≡ image_of_page page = sym (HasNumbers-are (slot_of_page cpu page) cpu page.fill page.first 0 (image_of_page page) numbers).image_is in
+      let image : drop 32 (slot_of_page cpu page) ≡ image_of_page page =
+      sym
+      (HasNumbers-are (slot_of_page cpu page) cpu page.fill page.first 0
+      (image_of_page page) numbers).image_is in
       ap from_le64 (sym (drop-drop 8 32 (slot_of_page cpu page)))
       ∙ ap (λ (b : List ℕ). from_le64 (drop 8 b)) image
       ∙ ap from_le64 (drop-le64 page.time (le64 (length page.bytes) ++ page.bytes))
       ∙ from_le64-le64 (length page.bytes) page.bytes (omega (arith, limit))
 
-  pub page_slot : (slot : List ℕ) → 0 < length page.bytes → take (48 + length page.bytes) slot ≡ slot_of_page cpu page → IsSlotOf cpu slot (intact (unmissed cpu page))
+  pub page_slot : (slot : List ℕ) → 0 < length page.bytes → take (48 + length page.bytes) slot ≡ slot_of_page cpu page
+      → IsSlotOf cpu slot (intact (unmissed cpu page))
   page_slot slot some same =
       let n : ℕ = 48 + length page.bytes in
       let are = HasNumbers-are (slot_of_page cpu page) cpu page.fill page.first 0 (image_of_page page) numbers in
-      let number = λ (at : ℕ) (low : at + 8 ≤ n). sym (number-take slot n at low) ∙ ap (λ (b : List ℕ). number_in b at) same in
+      let number =
+      λ (at : ℕ) (low : at + 8 ≤ n). sym (number-take slot n at low) ∙ ap (λ (b : List ℕ). number_in b at) same in
       let commit : commit_in slot ≡ length page.bytes = number 40 (omega arith) ∙ commit_number in
       let committed : committed_in slot ≡ slot_of_page cpu page = ap (λ (k : ℕ). take (48 + k) slot) commit ∙ same in (
         record {
@@ -100,7 +115,8 @@ module _ (cpu : ℕ) (page : Contents) (known : cpu < MAX_CPUS) (is : IsPage pag
         subst (λ (b : List ℕ). DecodesParcel b (unmissed cpu page)) (sym committed) decodes,
       )
 
-pub size_within : (cpu : ℕ) (page : Contents) (slot : List ℕ) → length slot ≤ 48 + MAX_SIZE → take (48 + length page.bytes) slot ≡ slot_of_page cpu page → length page.bytes ≤ MAX_SIZE
+pub size_within : (cpu : ℕ) (page : Contents) (slot : List ℕ) → length slot ≤ 48 + MAX_SIZE
+    → take (48 + length page.bytes) slot ≡ slot_of_page cpu page → length page.bytes ≤ MAX_SIZE
 size_within cpu page slot limit same = omega (
   arith,
   limit,

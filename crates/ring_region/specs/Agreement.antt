@@ -41,14 +41,14 @@ pub record AreTaken (records : List Record) (cpu taken : ℕ) (before : List Par
 -- So it is in a ring's region, whenever its process is killed. A slot up to its commit has records of one fill that
 -- were committed, from the fill's first number on: commit is set to 0 before the slot's page is begun anew, and then
 -- stands for whole records alone. The page that was taken last stays in the reader's slot until the next take, which
--- sets that slot's commit to 0 as it gives the slot back to the ring. A page that was overwritten stays in its slot until
--- the next fill is begun there, while the reader may take a later page, before which its numbers are missing.
+-- sets that slot's commit to 0 as it gives the slot back to the ring. A page that was overwritten stays in its slot
+-- until the next fill is begun there, while the reader may take a later page, before which its numbers are missing.
 --
 -- The number that the region states is stored after each take, as the end of the page that was taken. So a page that
 -- was overwritten before that one, or taken before it, ends below that number, and is left out of what is held, or it
 -- isn't in a slot any more. The one that ends at that number is the one that was taken last, and is among `before`. All
--- others are of later fills than that one, and begin at or above the number. A page that was taken, and isn't counted in
--- that number yet, is one of these, and `before` is without it.
+-- others are of later fills than that one, and begin at or above the number. A page that was taken, and isn't counted
+-- in that number yet, is one of these, and `before` is without it.
 pub record AreLeft (records : List Record) (before : List Parcel) (held : Recovered) : Type 0 where
   pub parts : (k : ℕ) (parcel : Parcel)
       → slice_get held.parcels k ≡ Some parcel

@@ -1,11 +1,13 @@
 -- What the calls answer, in the words of the definitions.
-use Rattle.std.specs.Prelude.{◌≡◌, ℕ, ◌+◌, ◌<◌, ◌≤◌, ⊤, List, [], ◌∷◌, ◌++◌, length, map, Option, Some, None, Result, Ok, IsErr}
+use Rattle.std.specs.Prelude.{◌≡◌, ℕ, ◌+◌, ◌<◌, ◌≤◌, ⊤, List, [], ◌∷◌, ◌++◌, length, map, Option, Some, None, Result}
+use Rattle.std.specs.Prelude.{Ok, IsErr}
 use Rattle.std.specs.List.{slice_get, insert}
 use Rattle.trace_model.specs.Parcel.{Parcel}
 use Rattle.trace_model.specs.declared.numbers.NoMemory.{NoMemory}
 use Rattle.page_image.specs.Contents.{Contents}
 use Rattle.page_image.specs.declared.image.ImageFault.{ImageFault}
-use Rattle.page_image.specs.declared.image.ImageFault.TheVariants.{TooShort, BadSize, BadCount, Word as ImageWord, NoMemory as ImageMemory}
+use Rattle.page_image.specs.declared.image.ImageFault.TheVariants.{TooShort, BadSize, BadCount, Word as ImageWord}
+use Rattle.page_image.specs.declared.image.ImageFault.TheVariants.{NoMemory as ImageMemory}
 use Rattle.page_numbers.specs.Parcels.{parcel_of_page, as_parcel, as_parcels}
 use Rattle.parcel_streams.specs.Pieces.{Packed, mark_piece}
 use Rattle.parcel_streams.specs.declared.piece.Mark.TheVariants.{End}
@@ -17,7 +19,8 @@ use Rattle.ring_region.specs.declared.faults.SlotCause.TheVariants.{Word as Word
 use Rattle.ring_region.specs.declared.slots.Slot.{Slot as SlotAnswer}
 use Rattle.ring_region.specs.declared.slots.Slot.TheVariants.{Blank, Page, Damaged}
 use Rattle.ring_region.specs.declared.slots.Reading.{Reading}
-use Rattle.ring_region.specs.declared.slots.Reading.TheVariants.{Blank as BlankRead, Page as PageRead, Damaged as DamagedRead}
+use Rattle.ring_region.specs.declared.slots.Reading.TheVariants.{Blank as BlankRead, Page as PageRead}
+use Rattle.ring_region.specs.declared.slots.Reading.TheVariants.{Damaged as DamagedRead}
 use Rattle.ring_region.specs.declared.found.Found.{Found as FoundAnswer}
 use Rattle.ring_region.specs.declared.scans.Scan.{Scan}
 use Rattle.ring_region.specs.declared.regions.Region.{Region}

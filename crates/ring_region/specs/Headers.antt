@@ -1,12 +1,14 @@
 -- The header of a region, and where its slots are. All of it is this project's own, stated in docs/FORMATS.md,
 -- "Regions".
-use Rattle.std.specs.Prelude.{◌≡◌, ◌≢◌, ℕ, ◌+◌, ◌-◌, ◌*◌, ◌/◌, ◌%◌, ◌<◌, ◌≤◌, ◌⊎◌, ◌==◌, List, [], ◌∷◌, length, take, drop, Option, Some, None}
+use Rattle.std.specs.Prelude.{◌≡◌, ◌≢◌, ℕ, ◌+◌, ◌-◌, ◌*◌, ◌/◌, ◌%◌, ◌<◌, ◌≤◌, ◌⊎◌, ◌==◌, List, [], ◌∷◌, length, take}
+use Rattle.std.specs.Prelude.{drop, Option, Some, None}
 use Rattle.trace_model.specs.Image.{from_le64}
 use Rattle.trace_model.specs.declared.limits.TheConstants.{MAX_CPUS, MIN_PAGES, MAX_PAGES, MIN_SIZE, MAX_SIZE}
 use Rattle.ring_region.specs.declared.limits.TheConstants.{START, HEAD, ALIGN}
 use Rattle.ring_region.specs.declared.headers.Header.{Header}
 use Rattle.ring_region.specs.declared.faults.RegionFault.{RegionFault}
-use Rattle.ring_region.specs.declared.faults.RegionFault.TheVariants.{TooShort, NotARegion, BadVersion, BadPages, BadSize, BadCpu, BadEnd, NoMemory}
+use Rattle.ring_region.specs.declared.faults.RegionFault.TheVariants.{TooShort, NotARegion, BadVersion, BadPages}
+use Rattle.ring_region.specs.declared.faults.RegionFault.TheVariants.{BadSize, BadCpu, BadEnd, NoMemory}
 
 -- ---- where the slots are
 

@@ -10,7 +10,8 @@ use Rattle.record_words.specs.declared.next.WordFault.TheVariants.{Cut, BadLengt
 use Rattle.page_image.specs.Contents.{Contents}
 use Rattle.ring_region.specs.declared.limits.TheConstants.{HEAD}
 use Rattle.ring_region.specs.declared.faults.SlotCause.{SlotCause}
-use Rattle.ring_region.specs.declared.faults.SlotCause.TheVariants.{OtherCpu, Missed, BadCommit, Word, NumberOverflow, SameFill, Overlap}
+use Rattle.ring_region.specs.declared.faults.SlotCause.TheVariants.{OtherCpu, Missed, BadCommit, Word, NumberOverflow}
+use Rattle.ring_region.specs.declared.faults.SlotCause.TheVariants.{SameFill, Overlap}
 use Rattle.ring_region.specs.Headers.{number_in}
 
 -- A slot has nothing committed, or it is a page, as a parcel of which nothing is missing, or it is damaged.

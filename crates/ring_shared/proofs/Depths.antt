@@ -12,11 +12,16 @@ depth_is v w =
     sym (as_many v.frames.stack.frames v.frames.phase v.frames.below w.frames_are.below_are)
     ∙ ap (length {A = Frame}) (sym w.frames_are.frames_are ∙ ap (λ (p : Writing). p.frames) w.part_is)
 
-same_top : (frames : List Frame) (frame other : Frame) (below others : List Frame) → frames ≡ frame ∷ below → frames ≡ other ∷ others → frame ≡ other
+same_top : (frames : List Frame) (frame other : Frame) (below others : List Frame) → frames ≡ frame ∷ below
+    → frames ≡ other ∷ others → frame ≡ other
 same_top frames frame other below others one two = let both : frame ∷ below ≡ other ∷ others = sym one ∙ two in cc
 
-pub reserving_top : (frames : List Frame) (frame other : Frame) (below others : List Frame) → frames ≡ frame ∷ below → IsReserving frame.kind frame.state → frames ≡ other ∷ others → IsReserving other.kind other.state
-reserving_top frames frame other below others one is two = subst (λ (f : Frame). IsReserving f.kind f.state) (same_top frames frame other below others one two) is
+pub reserving_top : (frames : List Frame) (frame other : Frame) (below others : List Frame) → frames ≡ frame ∷ below
+    → IsReserving frame.kind frame.state → frames ≡ other ∷ others → IsReserving other.kind other.state
+reserving_top frames frame other below others one is two =
+    subst (λ (f : Frame). IsReserving f.kind f.state) (same_top frames frame other below others one two) is
 
-pub leaving_top : (frames : List Frame) (frame other : Frame) (below others : List Frame) → frames ≡ frame ∷ below → IsLeaving frame.kind frame.state → frames ≡ other ∷ others → IsLeaving other.kind other.state
-leaving_top frames frame other below others one is two = subst (λ (f : Frame). IsLeaving f.kind f.state) (same_top frames frame other below others one two) is
+pub leaving_top : (frames : List Frame) (frame other : Frame) (below others : List Frame) → frames ≡ frame ∷ below
+    → IsLeaving frame.kind frame.state → frames ≡ other ∷ others → IsLeaving other.kind other.state
+leaving_top frames frame other below others one is two =
+    subst (λ (f : Frame). IsLeaving f.kind f.state) (same_top frames frame other below others one two) is

@@ -13,19 +13,26 @@ use Rattle.ring_shared.proofs.TakeSteps.{Stays}
 
 -- the reader as the model has it
 abbrev pub AreFields : ring.Reader → TakeState → Type 0
-AreFields reader at = (reader.phase ≡ reader_phase_of at.phase) × (reader.hint ≡ at.hint) × (reader.seen ≡ at.seen) × (reader.expected ≡ at.expected)
+AreFields reader at =
+    (reader.phase ≡ reader_phase_of at.phase) × (reader.hint ≡ at.hint) × (reader.seen ≡ at.seen)
+    × (reader.expected ≡ at.expected)
 
 module _ (w v : ReaderValue) (same : w ≡ v) (is : IsReader v) where
   pub fields : AreFields v.part.reader w.at
-  fields = subst (λ (x : ReaderValue). AreFields v.part.reader x.at) (sym same) (is.phase_is, is.hint_is, is.seen_is, is.expected_is)
+  fields =
+      subst (λ (x : ReaderValue). AreFields v.part.reader x.at) (sym same)
+      (is.phase_is, is.hint_is, is.seen_is, is.expected_is)
 
   -- the fields are the reader's part again, after a step that takes nothing or a wish
-  pub shown_as : (shape : Shape) (table : TableId) (after : Reading) (reader : ring.Reader) (at : TakeState) (wish : ℕ) → shape ≡ w.shape → Stays v.shape (record v.part { wish = wish }) after reader
+  pub shown_as : (shape : Shape) (table : TableId) (after : Reading) (reader : ring.Reader) (at : TakeState) (wish : ℕ)
+      → shape ≡ w.shape → Stays v.shape (record v.part { wish = wish }) after reader
       → AreFields reader at → KeepsSpare at.phase after.keeps_spare → SawPage at.phase
-      → ((done : ℕ) → w.empty_at ≡ Some done → KnowsNoneUnread (record w { shape = shape; table = table; part = after; at = at }) done)
+      → ((done : ℕ) → w.empty_at ≡ Some done
+      → KnowsNoneUnread (record w { shape = shape; table = table; part = after; at = at }) done)
       → IsReader (record w { shape = shape; table = table; part = after; at = at })
   shown_as shape table after reader at wish shape_is s (phase, hint, seen, expected) keeps saw empty = record {
-    part = subst (λ (x : Shape). IsReaderPart x after) (sym (shape_is ∙ ap (λ (x : ReaderValue). x.shape) same)) s.known;
+    part =
+        subst (λ (x : Shape). IsReaderPart x after) (sym (shape_is ∙ ap (λ (x : ReaderValue). x.shape) same)) s.known;
     order_is = s.order_is ∙ (is.order_is ∙ ap (λ (x : ReaderValue). x.order) (sym same));
     spare_is = s.spare_is ∙ (is.spare_is ∙ ap (λ (x : ReaderValue). x.spare) (sym same));
     phase_is = ap (λ (x : ring.Reader). x.phase) s.reader_is ∙ phase;
@@ -39,12 +46,17 @@ module _ (w v : ReaderValue) (same : w ≡ v) (is : IsReader v) where
 
   -- no take has answered that it found nothing
   pub not_empty : v.empty_at ≡ None → (done : ℕ) → w.empty_at ≡ Some done → ⊥
-  not_empty again done e = let none : w.empty_at ≡ None = ap (λ (x : ReaderValue). x.empty_at) same ∙ again in let both = sym none ∙ e in absurd (cc)
+  not_empty again done e = let none : w.empty_at ≡ None = ap (λ (x : ReaderValue). x.empty_at) same ∙ again in
+      let both = sym none ∙ e in
+      absurd (cc)
 
-  pub shown : (shape : Shape) (table : TableId) (after : Reading) (reader : ring.Reader) (at : TakeState) → v.empty_at ≡ None → shape ≡ w.shape → Stays v.shape v.part after reader
+  pub shown : (shape : Shape) (table : TableId) (after : Reading) (reader : ring.Reader) (at : TakeState)
+      → v.empty_at ≡ None → shape ≡ w.shape → Stays v.shape v.part after reader
       → AreFields reader at → KeepsSpare at.phase after.keeps_spare → SawPage at.phase
       → IsReader (record w { shape = shape; table = table; part = after; at = at })
-  shown shape table after reader at again shape_is s fields keeps saw = shown_as shape table after reader at v.part.wish shape_is s fields keeps saw (λ done e. absurd (not_empty again done e))
+  shown shape table after reader at again shape_is s fields keeps saw =
+      shown_as shape table after reader at v.part.wish shape_is s fields keeps saw
+      (λ done e. absurd (not_empty again done e))
 
 -- the order has as many pages as the ring
 pub positions : (v : ReaderValue) → IsReader v → length v.order ≡ v.shape.pages

@@ -16,7 +16,8 @@ use Rattle.ring_shared.specs.Takes.{IsReaderPart}
 pub counted_pages : (n : ℕ) (order : List ℕ) → length order ≡ n → AreFirstPages order → counted 0 n ≡ order
 counted_pages n order pages each = ext_get_or 0 (counted 0 n) order (counted_length 0 n ∙ sym pages) (λ i low.
     let count = counted_length 0 n in
-    counted_at 0 n i (omega arith) ∙ (let e : 0 + i ≡ i = omega arith in e) ∙ sym (each i (get_or order i 0) (slice_get-get_or order i 0 (omega arith))))
+    counted_at 0 n i (omega arith) ∙ (let e : 0 + i ≡ i = omega arith in e)
+    ∙ sym (each i (get_or order i 0) (slice_get-get_or order i 0 (omega arith))))
 
 -- it is that of a state that steps reach
 pub first_part : (shape : Shape) (part : Reading) → IsShape shape → part ≡ first_reading shape → IsReaderPart shape part
@@ -25,10 +26,19 @@ first_part shape part is same =
     let (c, s, one) = new_ring_is_one shape.pages shape.start (omega arith) in
     subst (IsReaderPart shape) (sym same) record {
       core = c;
-      reached = record { from = c; exchanges = []; may_start = record { some_pages = is.limits.some_pages; numbers_left = omega arith }; is_new = s; run = refl };
+      reached =
+          record {
+            from = c;
+            exchanges = [];
+            may_start = record { some_pages = is.limits.some_pages; numbers_left = omega arith };
+            is_new = s;
+            run = refl;
+          };
       is = record {
         order_is = ext_get_or 0 (counted 0 shape.pages) c.order (counted_length 0 shape.pages ∙ sym s.pages)
-            (λ i low. let count = counted_length 0 shape.pages in counted_at 0 shape.pages i (omega arith) ∙ ((let e : 0 + i ≡ i = omega arith in e) ∙ sym (s.order i (omega arith))));
+            (λ i low. let count = counted_length 0 shape.pages in
+            counted_at 0 shape.pages i (omega arith)
+            ∙ ((let e : 0 + i ≡ i = omega arith in e) ∙ sym (s.order i (omega arith))));
         spare_is = sym s.spare;
         spare_link_is = sym s.spare_link;
         reader_is = sym s.reader;

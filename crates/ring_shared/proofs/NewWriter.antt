@@ -7,7 +7,9 @@ use Rattle.ring_steps.proofs.Starts.{first_state}
 use Rattle.ring_shared.specs.Value.{WriterValue}
 use Rattle.ring_shared.specs.Calls.{AreWriterFields}
 
-pub new_writer : (v : WriterValue) → IsShape v.shape → v.part ≡ first_writing v.shape → AreNew v.shape.pages v.shape.size v.shape.start v.frames → v.pages ≡ (v.shape.start % v.shape.pages) ∷ [] → AreWriterFields v
+pub new_writer : (v : WriterValue) → IsShape v.shape → v.part ≡ first_writing v.shape
+    → AreNew v.shape.pages v.shape.size v.shape.start v.frames → v.pages ≡ (v.shape.start % v.shape.pages) ∷ []
+    → AreWriterFields v
 new_writer v is part frames pages = let (c, s, reached, first) = first_state v.shape is in record {
   core = c;
   reached = reached;

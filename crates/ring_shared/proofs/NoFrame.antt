@@ -18,7 +18,9 @@ use Rattle.ring_shared.proofs.Targets.{frames_of}
 -- it touches no word, and changes no frame
 pub refuses_step : (v : FramesValue) → v.stack.frames ≡ [] → MakesPrivate v model.steps (Refused NoFrame) v
 refuses_step v none n size start c reached are =
-    let bare : c.frames ≡ [] = are.frames_are ∙ ap (λ (fs : List Frame). frames_in_phases fs (v.phase ∷ v.below)) none in record {
+    let bare : c.frames ≡ [] =
+    are.frames_are ∙ ap (λ (fs : List Frame). frames_in_phases fs (v.phase ∷ v.below)) none in
+    record {
       answer = model.refused no_frame;
       after = c;
       step = step_by (cases.frame_lacks refl bare refl refl);
@@ -29,4 +31,5 @@ refuses_step v none n size start c reached are =
 
 -- the writer's part has none either
 pub none_in_part : (v : WriterValue) → AreWriterFields v → v.frames.stack.frames ≡ [] → v.part.frames ≡ []
-none_in_part v w none = frames_of v w ∙ ap (λ (fs : List Frame). frames_in_phases fs (v.frames.phase ∷ v.frames.below)) none
+none_in_part v w none =
+    frames_of v w ∙ ap (λ (fs : List Frame). frames_in_phases fs (v.frames.phase ∷ v.frames.below)) none

@@ -20,9 +20,18 @@ use Rattle.ring_shared.specs.Takes.{TakesNothing, IsMovingFound, IsTake, ReadsSo
 use Rattle.ring_shared.proofs.TakeSteps.{Stays, passed_below_hint}
 
 pub nothing_yet : (part : Reading) → TakesNothing part part
-nothing_yet part = record { taken_is = refl; observed_is = refl; expected_is = refl; wish_is = refl; hint_le = omega arith; seen_le = omega arith }
+nothing_yet part =
+    record {
+      taken_is = refl;
+      observed_is = refl;
+      expected_is = refl;
+      wish_is = refl;
+      hint_le = omega arith;
+      seen_le = omega arith;
+    }
 
-pub nothing_more : (before mid after : Reading) → TakesNothing before mid → TakesNothing mid after → TakesNothing before after
+pub nothing_more : (before mid after : Reading) → TakesNothing before mid → TakesNothing mid after
+    → TakesNothing before after
 nothing_more before mid after a b =
     let hint = a.hint_le in let seen = a.seen_le in let hint_on = b.hint_le in let seen_on = b.seen_le in record {
       taken_is = b.taken_is ∙ a.taken_is;
@@ -34,7 +43,8 @@ nothing_more before mid after a b =
     }
 
 -- what is answered after steps that took nothing is the answer of them all
-pub answered : (shape : Shape) (before mid after : Reading) (body had : List ℕ) (took : Take) → TakesNothing before mid → length had ≡ length body → IsTake shape mid had took after → IsTake shape before body took after
+pub answered : (shape : Shape) (before mid after : Reading) (body had : List ℕ) (took : Take) → TakesNothing before mid
+    → length had ≡ length body → IsTake shape mid had took after → IsTake shape before body took after
 answered shape before mid after body had (Page page missed) a same t =
     let hint = a.hint_le in let low = t.hint_le in let seen = a.seen_le in let no_less = t.seen_le in record {
       taken = t.taken;
@@ -54,18 +64,39 @@ answered shape before mid after body had (Page page missed) a same t =
       partition = t.partition;
     }
 answered shape before mid after body had (Empty done back) a same (given, t) =
-    let seen = a.seen_le in let low = t.seen_le in
-    (given ∙ same, record { nothing = nothing_more before mid after a t.nothing; seen_le = omega arith; hint_is = t.hint_is; seen_is = t.seen_is; known = t.known; all = t.all; passed = t.passed })
+    let seen = a.seen_le in let low = t.seen_le in (
+      given ∙ same,
+      record {
+        nothing = nothing_more before mid after a t.nothing;
+        seen_le = omega arith;
+        hint_is = t.hint_is;
+        seen_is = t.seen_is;
+        known = t.known;
+        all = t.all;
+        passed = t.passed;
+      },
+    )
 answered shape before mid after body had (Moving fill back) a same (given, t) =
-    let hint = a.hint_le in let low = t.hint_le in
-    (given ∙ same, record { nothing = nothing_more before mid after a t.nothing; hint_le = omega arith; hint_is = t.hint_is; passed = t.passed })
+    let hint = a.hint_le in let low = t.hint_le in (
+      given ∙ same,
+      record {
+        nothing = nothing_more before mid after a t.nothing;
+        hint_le = omega arith;
+        hint_is = t.hint_is;
+        passed = t.passed;
+      },
+    )
 
 -- a step that is answered by going on is one that the model answers so
-pub goes_on : (shape own : Shape) (before after : Reading) (back : List ℕ) → own ≡ shape → IsAnswered own before (Looking back) after → ReadsSo shape before model.reading after
-goes_on shape own before after back same a = subst (λ (s : Shape). ReadsSo s before model.reading after) same (subst (λ (reported : model.Answer). ReadsSo own before reported after) a.reports a.step)
+pub goes_on : (shape own : Shape) (before after : Reading) (back : List ℕ) → own ≡ shape
+    → IsAnswered own before (Looking back) after → ReadsSo shape before model.reading after
+goes_on shape own before after back same a =
+    subst (λ (s : Shape). ReadsSo s before model.reading after) same
+    (subst (λ (reported : model.Answer). ReadsSo own before reported after) a.reports a.step)
 
 -- a take that took too many steps
-pub given_up : (shape : Shape) (before after : Reading) (fill : ℕ) → TakesNothing before after → after.reader.hint ≡ fill → IsMovingFound shape before fill after
+pub given_up : (shape : Shape) (before after : Reading) (fill : ℕ) → TakesNothing before after
+    → after.reader.hint ≡ fill → IsMovingFound shape before fill after
 given_up shape before after fill a is = let hint = a.hint_le in record {
   nothing = a;
   hint_le = omega arith;
@@ -74,9 +105,14 @@ given_up shape before after fill a is = let hint = a.hint_le in record {
 }
 
 -- a wish changes only the wish
-pub wish_stays : (shape : Shape) (before after : Reading) (sees : ring.Core → Type 0) (answer : model.Answer) → IsReaderStep shape before sees model.wishes answer after → Stays shape (record before { wish = after.wish }) after before.reader
+pub wish_stays : (shape : Shape) (before after : Reading) (sees : ring.Core → Type 0) (answer : model.Answer)
+    → IsReaderStep shape before sees model.wishes answer after
+    → Stays shape (record before { wish = after.wish }) after before.reader
 wish_stays shape before after sees answer r =
-    let is = (steps_are_determined shape.pages shape.size r.core model.wishes answer (model.wished_for r.core.reader.seen) r.next (model.with_wish r.core) r.step (step_by (cases.store_wish_step refl refl refl))).1 in record {
+    let is =
+    (steps_are_determined shape.pages shape.size r.core model.wishes answer (model.wished_for r.core.reader.seen)
+    r.next (model.with_wish r.core) r.step (step_by (cases.store_wish_step refl refl refl))).1 in
+    record {
       known = record {
         core = r.next;
         reached = reached_on shape.pages shape.size shape.start r.core model.wishes answer r.next r.reached r.step;
@@ -87,6 +123,9 @@ wish_stays shape before after sees answer r =
       spare_is = r.after_is.spare_is ∙ (ap (λ (d : ring.Core). d.spare) is ∙ sym r.before_is.spare_is);
       wish_is = refl;
       observed_is = r.after_is.observed_is
-          ∙ (ap (λ (d : ring.Core). let observed : List Record = take d.reader.expected (map as_record (reserved_records d.history)) in observed) is ∙ sym r.before_is.observed_is);
+          ∙ (ap
+          (λ (d : ring.Core). let observed : List Record =
+          take d.reader.expected (map as_record (reserved_records d.history)) in
+          observed) is ∙ sym r.before_is.observed_is);
       reader_is = r.after_is.reader_is ∙ (ap (λ (d : ring.Core). d.reader) is ∙ sym r.before_is.reader_is);
     }

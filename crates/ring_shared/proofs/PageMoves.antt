@@ -22,13 +22,15 @@ use Rattle.ring_shared.proofs.Called.{writer_seen, top_seen}
 use Rattle.ring_shared.proofs.Standing.{FramesIn, kept_now, frames_in, top_in, made}
 
 -- a frame that begins again keeps the writer's pages
-begun_pages : (kind : Purpose) (state : Progress) (c : Core) (frame : Frame) (below : List Frame) → (model.after_begin kind state c frame below).open_pages ≡ c.open_pages
+begun_pages : (kind : Purpose) (state : Progress) (c : Core) (frame : Frame) (below : List Frame)
+    → (model.after_begin kind state c frame below).open_pages ≡ c.open_pages
 begun_pages (for_record moment len) waiting c frame below = refl
 begun_pages for_close waiting c frame below = refl
 begun_pages kind (reserved number) c frame below = refl
 begun_pages kind left c frame below = refl
 
-module _ (v new : WriterValue) (w : AreWriterFields v) (some : v.frames.stack.frames ≢ []) (shape_is : new.shape ≡ v.shape) (table_is : new.table ≡ v.table) (sees : Core → Type 0) where
+module _ (v new : WriterValue) (w : AreWriterFields v) (some : v.frames.stack.frames ≢ [])
+    (shape_is : new.shape ≡ v.shape) (table_is : new.table ≡ v.table) (sees : Core → Type 0) where
   module _ (answer : model.Answer) (s : IsWriterStep v.shape v.part sees answer new.part) where
     pages_before : s.core.open_pages ≡ v.pages
     pages_before = ap (λ (p : Writing). p.open_pages) s.before_is ∙ w.pages_are
@@ -46,16 +48,26 @@ module _ (v new : WriterValue) (w : AreWriterFields v) (some : v.frames.stack.fr
   opens_fill noted page result at now opens pages_is s =
       let answer = begun_answer v.part.frames in
       let t = top_in v w s.core s.before_is some in
-      let begun : begun_answer v.part.frames ≡ model.begin_answer t.frame.kind t.frame.state t.below = ap begun_answer (ap (λ (p : Writing). p.frames) (sym s.before_is) ∙ t.is_top) in
+      let begun : begun_answer v.part.frames ≡ model.begin_answer t.frame.kind t.frame.state t.below =
+      ap begun_answer (ap (λ (p : Writing). p.frames) (sym s.before_is) ∙ t.is_top) in
       let here : noted ≡ s.core.opened = now ∙ ap (λ (p : Writing). p.opened) (sym s.before_is) in
-      let step = top_stepped v.shape.pages v.shape.size s.core t.frame t.below (opening noted page) answer s.next t.is_top (t.phase_is ∙ at) s.step in
-      let after_is : s.next ≡ model.after_begin t.frame.kind t.frame.state (model.with_new_tail s.core page) t.frame t.below = opened t.frame t.below here step in
-      let (reports, are) = opens v.shape.pages v.shape.size v.shape.start page s.core t.frame t.below (frames_in v w s.core s.before_is) t.is_top in
-      made v w new sees answer result shape_is table_is s (subst (IsAnswerOf v.shape.size result) (sym begun) reports) (subst (FramesIn v.shape new.frames) (sym after_is) are)
-      (ap (λ (c : Core). c.open_pages) after_is ∙ begun_pages t.frame.kind t.frame.state (model.with_new_tail s.core page) t.frame t.below
+      let step =
+      top_stepped v.shape.pages v.shape.size s.core t.frame t.below (opening noted page) answer s.next t.is_top
+      (t.phase_is ∙ at) s.step in
+      let after_is : s.next
+      ≡ model.after_begin t.frame.kind t.frame.state (model.with_new_tail s.core page) t.frame t.below =
+      opened t.frame t.below here step in
+      let (reports, are) =
+      opens v.shape.pages v.shape.size v.shape.start page s.core t.frame t.below (frames_in v w s.core s.before_is)
+      t.is_top in
+      made v w new sees answer result shape_is table_is s (subst (IsAnswerOf v.shape.size result) (sym begun) reports)
+      (subst (FramesIn v.shape new.frames) (sym after_is) are)
+      (ap (λ (c : Core). c.open_pages) after_is
+      ∙ begun_pages t.frame.kind t.frame.state (model.with_new_tail s.core page) t.frame t.below
       ∙ ap (λ (pages : List ℕ). pages ++ page ∷ []) (pages_before answer s) ∙ sym pages_is)
     where
-      opened : {c after : Core} {answer : model.Answer} (frame : Frame) (below : List Frame) → noted ≡ c.opened → cases.OpenFillStep v.shape.pages c frame below noted page answer after
+      opened : {c after : Core} {answer : model.Answer} (frame : Frame) (below : List Frame) → noted ≡ c.opened
+          → cases.OpenFillStep v.shape.pages c frame below noted page answer after
           → after ≡ model.after_begin frame.kind frame.state (model.with_new_tail c page) frame below
       opened frame below here (cases.open_late late) = absurd (late.passed here)
       opened frame below here (cases.opens x a is) = is
@@ -70,8 +82,11 @@ module _ (v new : WriterValue) (w : AreWriterFields v) (some : v.frames.stack.fr
   unfolding IsWriter
   closes_fill page releases pages_is s =
       let r = releases v.shape.pages v.shape.size v.shape.start s.core s.reached (frames_in v w s.core s.before_is) in
-      let (same, after_is) = steps_are_determined v.shape.pages v.shape.size s.core model.steps model.going model.going s.next (released_in s.core r.frame) s.step r.step in
-      made v w new sees model.going Going shape_is table_is s refl (subst (FramesIn v.shape new.frames) (sym after_is) r.are)
+      let (same, after_is) =
+      steps_are_determined v.shape.pages v.shape.size s.core model.steps model.going model.going s.next
+      (released_in s.core r.frame) s.step r.step in
+      made v w new sees model.going Going shape_is table_is s refl
+      (subst (FramesIn v.shape new.frames) (sym after_is) r.are)
       (ap (λ (c : Core). c.open_pages) after_is ∙ ap (drop 1) (pages_before model.going s) ∙ sym pages_is)
 
   -- ---- the reader's wish
@@ -84,13 +99,19 @@ module _ (v new : WriterValue) (w : AreWriterFields v) (some : v.frames.stack.fr
       → MakesSome v model.steps result new
   unfolding IsWriter
   looks_for_wish wish result answer looks pages_is s is_wish =
-      let l = looks v.shape.pages v.shape.size v.shape.start s.core s.reached (frames_in v w s.core s.before_is) (is_wish s.seen) in
-      let (same, after_is) = steps_are_determined v.shape.pages v.shape.size s.core model.steps answer l.answer s.next (with_frames_and_history s.core l.frames l.history) s.step l.step in
-      made v w new sees answer result shape_is table_is s (subst (IsAnswerOf v.shape.size result) (sym same) l.reports) (subst (FramesIn v.shape new.frames) (sym after_is) l.are)
+      let l =
+      looks v.shape.pages v.shape.size v.shape.start s.core s.reached (frames_in v w s.core s.before_is)
+      (is_wish s.seen) in
+      let (same, after_is) =
+      steps_are_determined v.shape.pages v.shape.size s.core model.steps answer l.answer s.next
+      (with_frames_and_history s.core l.frames l.history) s.step l.step in
+      made v w new sees answer result shape_is table_is s (subst (IsAnswerOf v.shape.size result) (sym same) l.reports)
+      (subst (FramesIn v.shape new.frames) (sym after_is) l.are)
       (ap (λ (c : Core). c.open_pages) after_is ∙ (pages_before answer s ∙ sym pages_is))
 
 -- the page that is let go holds what the fill holds
-pub is_written : (v : WriterValue) (w : AreWriterFields v) (page : Contents) (new : FramesValue) → Releases v.frames page new
+pub is_written : (v : WriterValue) (w : AreWriterFields v) (page : Contents) (new : FramesValue)
+    → Releases v.frames page new
     → IsWrittenPage v.shape.size v.part.done (fill_of v.part.history v.shape.start v.part.done) page
 is_written v w page new releases =
     let c = w.core in let k = kept_now v w in
@@ -100,7 +121,9 @@ is_written v w page new releases =
     (subst (λ (h : PageRecords). IsWrittenPage v.shape.size c.done h page) (k.contents.each c.done low high) r.written)
 
 -- a call of a writer whose view is that one, which looks for the wish
-pub looks_called : {v x new : WriterValue} (view_is : v ≡ x) → AreWriterFields x → x.frames.stack.frames ≢ [] → new.shape ≡ v.shape → new.table ≡ v.table → (sees : Core → Type 0) (wish : ℕ) (result : Answer) (answer : model.Answer)
+pub looks_called : {v x new : WriterValue} (view_is : v ≡ x) → AreWriterFields x → x.frames.stack.frames ≢ []
+    → new.shape ≡ v.shape → new.table ≡ v.table
+    → (sees : Core → Type 0) (wish : ℕ) (result : Answer) (answer : model.Answer)
     → LooksForWish v.frames wish result new.frames
     → new.pages ≡ v.pages
     → (s : IsWriterStep v.shape v.part sees answer new.part)
@@ -108,4 +131,5 @@ pub looks_called : {v x new : WriterValue} (view_is : v ≡ x) → AreWriterFiel
     → MakesSome x model.steps result new
 looks_called {v = v} {new = new} view_is w some shape_is table_is sees wish result answer looks pages_is s is_wish =
     subst (λ (y : WriterValue). MakesSome y model.steps result new) view_is
-    (looks_for_wish v new (writer_seen view_is w) (top_seen view_is some) shape_is table_is sees wish result answer looks pages_is s is_wish)
+    (looks_for_wish v new (writer_seen view_is w) (top_seen view_is some) shape_is table_is sees wish result answer
+    looks pages_is s is_wish)

@@ -9,4 +9,5 @@ use Rattle.ring_steps.specs.Notes.{part_after}
 -- its frame is pushed, reserves, and ends with this payload
 abbrev pub part_after_write : Shape → Writing → ℕ → List ℕ → Writing
 part_after_write shape w moment payload =
-    part_after shape (part_after shape (part_after shape w (pushes moment (length payload))) steps) (ends (padded payload))
+    part_after shape (part_after shape (part_after shape w (pushes moment (length payload))) steps)
+    (ends (padded payload))

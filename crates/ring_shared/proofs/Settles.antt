@@ -1,5 +1,6 @@
 -- The two ends of a ring at rest, joined.
-use Rattle.std.proofs.Common.{◌≡◌, ◌⊎◌, ℕ, ◌+◌, ◌-◌, ◌<◌, ◌≤◌, ◌==◌, List, [], ◌∷◌, ◌++◌, length, map, get_or, Option, Some, refl, sym, ap, ◌∙◌, subst, arith, append-nil, inl, inr, ⊎_elim}
+use Rattle.std.proofs.Common.{◌≡◌, ◌⊎◌, ℕ, ◌+◌, ◌-◌, ◌<◌, ◌≤◌, ◌==◌, List, [], ◌∷◌, ◌++◌, length, map, get_or, Option}
+use Rattle.std.proofs.Common.{Some, refl, sym, ap, ◌∙◌, subst, arith, append-nil, inl, inr, ⊎_elim}
 use Rattle.std.proofs.lemmas.Bool.{cases_Bool, cond-true, cond-false, eqb-true}
 use Rattle.trace_model.specs.Record.{Record}
 use Rattle.trace_model.specs.History.{HistoryEvent, as_record, committed_records}
@@ -27,29 +28,37 @@ use Rattle.ring_shared.specs.TailLaws.{TailsAreTheRest}
 use Rattle.ring_shared.specs.Settling.{piece_unread, unread_page, WasTaken, IsOneRun, IsSettled}
 
 -- what is left as one piece more, before which nothing is skipped
-rest_as_piece : (records : List Record) (pieces : List Piece) (rest : List Record) → IsPartition records pieces rest → IsPartition records (pieces ++ record { skipped = 0; records = rest } ∷ []) []
+rest_as_piece : (records : List Record) (pieces : List Piece) (rest : List Record) → IsPartition records pieces rest
+    → IsPartition records (pieces ++ record { skipped = 0; records = rest } ∷ []) []
 rest_as_piece records [] rest is = ([], [], refl, is ∙ sym (append-nil rest), refl)
-rest_as_piece records (p ∷ pieces) rest (lost, behind, skips, cut, more) = (lost, behind, skips, cut, rest_as_piece behind pieces rest more)
+rest_as_piece records (p ∷ pieces) rest (lost, behind, skips, cut, more) =
+    (lost, behind, skips, cut, rest_as_piece behind pieces rest more)
 
 none_long : (l : List Record) → length l ≡ 0 → l ≡ []
 none_long [] e = refl
 none_long (r ∷ l) e = absurd (omega arith)
 
 -- the tail's records as the unread page, or none
-with_unread : (records : List Record) (pieces : List Piece) (settled : Settled) → IsPartition records pieces (records_of_page settled.tail) → settled.tail.count ≡ length (records_of_page settled.tail)
+with_unread : (records : List Record) (pieces : List Piece) (settled : Settled)
+    → IsPartition records pieces (records_of_page settled.tail)
+    → settled.tail.count ≡ length (records_of_page settled.tail)
     → IsPartition records (pieces ++ piece_unread (unread_page settled)) []
 with_unread records pieces settled is counted = elim (cases_Bool (settled.tail.count == 0)) [
   | inl none ↦
       let empty = none_long (records_of_page settled.tail) (sym counted ∙ eqb-true settled.tail.count 0 none) in
-      subst (λ (o : Option Contents). IsPartition records (pieces ++ piece_unread o) []) (sym (cond-true (settled.tail.count == 0) _ _ none))
-      (subst (λ (ps : List Piece). IsPartition records ps []) (sym (append-nil pieces)) (subst (IsPartition records pieces) empty is))
+      subst (λ (o : Option Contents). IsPartition records (pieces ++ piece_unread o) [])
+      (sym (cond-true (settled.tail.count == 0) _ _ none))
+      (subst (λ (ps : List Piece). IsPartition records ps []) (sym (append-nil pieces))
+      (subst (IsPartition records pieces) empty is))
   | inr some ↦
-      subst (λ (o : Option Contents). IsPartition records (pieces ++ piece_unread o) []) (sym (cond-false (settled.tail.count == 0) _ _ some))
+      subst (λ (o : Option Contents). IsPartition records (pieces ++ piece_unread o) [])
+      (sym (cond-false (settled.tail.count == 0) _ _ some))
       (rest_as_piece records pieces (records_of_page settled.tail) is)
 ]
 
 -- what both ends made is one run
-pub one_run : (shape : Shape) (writing : Writing) (part : Reading) → AreParts shape writing part → IsOneRun shape writing part
+pub one_run : (shape : Shape) (writing : Writing) (part : Reading) → AreParts shape writing part
+    → IsOneRun shape writing part
 one_run shape writing part p = record {
   from = p.reached.from;
   exchanges = p.reached.exchanges;
@@ -62,7 +71,8 @@ one_run shape writing part p = record {
   reading_is = p.reading_is;
 }
 
-module _ (shape : Shape) (writing : Writing) (part : Reading) (page : Contents) (p : AreParts shape writing part) (at_rest : writing.frames ≡ []) (hint : part.reader.hint ≡ writing.done)
+module _ (shape : Shape) (writing : Writing) (part : Reading) (page : Contents) (p : AreParts shape writing part)
+    (at_rest : writing.frames ≡ []) (hint : part.reader.hint ≡ writing.done)
     (tail : IsWrittenPage shape.size writing.done (fill_of writing.history shape.start writing.done) page) where
   kept : IsRingKept shape.pages shape.size shape.start p.core
   kept = reached_kept shape.pages shape.size shape.start p.core p.reached
@@ -90,34 +100,46 @@ module _ (shape : Shape) (writing : Writing) (part : Reading) (page : Contents) 
       let head = all_read in
       let done = done_is in
       let count = ap (λ (h : List HistoryEvent). length (fills_of h)) history_is in
-      ap (λ (i : ℕ). map as_record (get_or (fills_of writing.history) i [])) (let e : length (fills_of writing.history) - 1 ≡ writing.done - shape.start = omega arith in e)
+      ap (λ (i : ℕ). map as_record (get_or (fills_of writing.history) i []))
+      (let e : length (fills_of writing.history) - 1 ≡ writing.done - shape.start = omega arith in e)
       ∙ sym tail.records_are
 
   pub left : IsPartition (committed_records writing.history) (pieces_of part.reader.taken) (records_of_page page)
   left =
       let whole = tail_is_the_rest shape.pages shape.size shape.start p.core kept none_stand all_read in
       subst (IsPartition (committed_records writing.history) (pieces_of part.reader.taken)) tail_records
-      (subst (λ (h : List HistoryEvent). IsPartition (committed_records h) (pieces_of part.reader.taken) (map as_record (tail_of h))) history_is
-      (subst (λ (r : Reader). IsPartition (committed_records p.core.history) (pieces_of r.taken) (map as_record (tail_of p.core.history))) (sym p.reading_is.reader_is) whole))
+      (subst
+      (λ (h : List HistoryEvent).
+      IsPartition (committed_records h) (pieces_of part.reader.taken) (map as_record (tail_of h))) history_is
+      (subst
+      (λ (r : Reader).
+      IsPartition (committed_records p.core.history) (pieces_of r.taken) (map as_record (tail_of p.core.history)))
+      (sym p.reading_is.reader_is) whole))
 
   pub passed : (f : ℕ) → shape.start ≤ f → f < writing.done → WasTaken part f ⊎ (f + shape.pages < writing.opened)
   passed f low high =
       let ring = reached_ring shape.pages shape.size shape.start p.core p.reached in
       let head = all_read in let done = done_is in
       let opened = ap (λ (w : Writing). w.opened) p.writing_is in
-      ⊎_elim (λ (t : IsTaken p.core f). inl (subst (λ (r : Reader). WasTaken (record part { reader = r }) f) (sym p.reading_is.reader_is) t))
+      ⊎_elim (λ (t : IsTaken p.core f).
+      inl (subst (λ (r : Reader). WasTaken (record part { reader = r }) f) (sym p.reading_is.reader_is) t))
       (λ (lost : f + shape.pages < p.core.opened). inr (omega arith))
       (ring.lost_at_rest f low (omega arith) none_stand)
 
   pub fills : AreFillsOf shape.start writing.history part.reader.taken
   fills =
       subst (λ (h : List HistoryEvent). AreFillsOf shape.start h part.reader.taken) history_is
-      (subst (λ (r : Reader). AreFillsOf shape.start p.core.history r.taken) (sym p.reading_is.reader_is) kept.partition.fills)
+      (subst (λ (r : Reader). AreFillsOf shape.start p.core.history r.taken) (sym p.reading_is.reader_is)
+      kept.partition.fills)
 
-pub settles : (shape : Shape) (writing : Writing) (part : Reading) (settled : Settled) → AreParts shape writing part → writing.frames ≡ [] → part.reader.hint ≡ writing.done
-    → IsWrittenPage shape.size writing.done (fill_of writing.history shape.start writing.done) settled.tail → IsSettled shape writing part settled
+pub settles : (shape : Shape) (writing : Writing) (part : Reading) (settled : Settled) → AreParts shape writing part
+    → writing.frames ≡ [] → part.reader.hint ≡ writing.done
+    → IsWrittenPage shape.size writing.done (fill_of writing.history shape.start writing.done) settled.tail
+    → IsSettled shape writing part settled
 settles shape writing part settled p at_rest hint tail = record {
-  partition = with_unread (committed_records writing.history) (pieces_of part.reader.taken) settled (left shape writing part settled.tail p at_rest hint tail) tail.page_reads.counted;
+  partition =
+      with_unread (committed_records writing.history) (pieces_of part.reader.taken) settled
+      (left shape writing part settled.tail p at_rest hint tail) tail.page_reads.counted;
   tail = tail;
   passed = passed shape writing part settled.tail p at_rest hint tail;
   fills = fills shape writing part settled.tail p at_rest hint tail;
@@ -127,7 +149,8 @@ settles shape writing part settled p at_rest hint tail = record {
 
 -- what is left is the tail of a writer at rest
 pub tails_are_the_rest : TailsAreTheRest
-tails_are_the_rest shape writing part page p at_rest hint tail = left shape writing part page p at_rest hint tail.written
+tails_are_the_rest shape writing part page p at_rest hint tail =
+    left shape writing part page p at_rest hint tail.written
 
 -- ---- by the fields of both ends
 
@@ -135,22 +158,38 @@ tails_are_the_rest shape writing part page p at_rest hint tail = left shape writ
 pub done_there : (w : WriterValue) → AreWriterFields w → w.part.done ≡ w.frames.stack.done
 done_there w writer = sym (ap (λ (p : Writing). p.done) writer.part_is) ∙ writer.frames_are.done_is
 
-module _ (w : WriterValue) (r : ReaderValue) (tail : Contents) (seats : SettledSeats) (writer : AreWriterFields w) (reader : IsReader r) (at_rest : w.part.frames ≡ []) (found : r.empty_at ≡ Some w.part.done) where
-  tail_there : ((start : ℕ) (history : List HistoryEvent) → IsStack start history w.frames.stack → IsWrittenPage w.frames.stack.size w.frames.stack.done (fill_of history start w.frames.stack.done) tail)
+module _ (w : WriterValue) (r : ReaderValue) (tail : Contents) (seats : SettledSeats) (writer : AreWriterFields w)
+    (reader : IsReader r) (at_rest : w.part.frames ≡ []) (found : r.empty_at ≡ Some w.part.done) where
+  tail_there : ((start : ℕ) (history : List HistoryEvent) → IsStack start history w.frames.stack
+      → IsWrittenPage w.frames.stack.size w.frames.stack.done (fill_of history start w.frames.stack.done)
+      tail)
       → IsWrittenPage w.shape.size w.part.done (fill_of w.part.history w.shape.start w.part.done) tail
   tail_there written =
       let page = written w.shape.start writer.core.history writer.frames_are.stack_is in
-      subst (λ (h : List HistoryEvent). IsWrittenPage w.shape.size w.part.done (fill_of h w.shape.start w.part.done) tail) (ap (λ (p : Writing). p.history) writer.part_is)
-      (subst (λ (done : ℕ). IsWrittenPage w.shape.size done (fill_of writer.core.history w.shape.start done) tail) (sym (done_there w writer))
-      (subst (λ (size : ℕ). IsWrittenPage size w.frames.stack.done (fill_of writer.core.history w.shape.start w.frames.stack.done) tail) writer.frames_are.size_is page))
+      subst
+      (λ (h : List HistoryEvent). IsWrittenPage w.shape.size w.part.done (fill_of h w.shape.start w.part.done) tail)
+      (ap (λ (p : Writing). p.history) writer.part_is)
+      (subst (λ (done : ℕ). IsWrittenPage w.shape.size done (fill_of writer.core.history w.shape.start done) tail)
+      (sym (done_there w writer))
+      (subst
+      (λ (size : ℕ).
+      IsWrittenPage size w.frames.stack.done (fill_of writer.core.history w.shape.start w.frames.stack.done) tail)
+      writer.frames_are.size_is page))
 
   -- what is known of the seats and the frames, of which both ends are shown
   pub ends_settle : (shown_w : WriterValue) (shown_r : ReaderValue) → shown_w ≡ w → shown_r ≡ r
       → AreParts shown_w.shape shown_w.part shown_r.part
-      → ((start : ℕ) (history : List HistoryEvent) → IsStack start history shown_w.frames.stack → IsWrittenPage shown_w.frames.stack.size shown_w.frames.stack.done (fill_of history start shown_w.frames.stack.done) tail)
+      → ((start : ℕ) (history : List HistoryEvent) → IsStack start history shown_w.frames.stack
+      → IsWrittenPage shown_w.frames.stack.size shown_w.frames.stack.done
+      (fill_of history start shown_w.frames.stack.done) tail)
       → IsSettled w.shape w.part r.part record { tail = tail; seats = seats }
   ends_settle shown_w shown_r w_is r_is parts written =
       settles w.shape w.part r.part record { tail = tail; seats = seats }
-      (subst (λ (v : ReaderValue). AreParts w.shape w.part v.part) r_is (subst (λ (v : WriterValue). AreParts v.shape v.part shown_r.part) w_is parts))
+      (subst (λ (v : ReaderValue). AreParts w.shape w.part v.part) r_is
+      (subst (λ (v : WriterValue). AreParts v.shape v.part shown_r.part) w_is parts))
       at_rest (reader.empty w.part.done found).hint_is
-      (tail_there (subst (λ (v : WriterValue). (start : ℕ) (history : List HistoryEvent) → IsStack start history v.frames.stack → IsWrittenPage v.frames.stack.size v.frames.stack.done (fill_of history start v.frames.stack.done) tail) w_is written))
+      (tail_there (subst
+      (λ (v : WriterValue).
+      (start : ℕ) (history : List HistoryEvent) → IsStack start history v.frames.stack
+      → IsWrittenPage v.frames.stack.size v.frames.stack.done
+      (fill_of history start v.frames.stack.done) tail) w_is written))

@@ -23,10 +23,12 @@ use Rattle.ring_shared.specs.Calls.{IsWriter, AreWriterFields, MakesSome}
 abbrev pub FramesIn : Shape → FramesValue → Core → Type 0
 FramesIn shape frames c = AreFrames shape.pages shape.size shape.start frames c
 
-pub frames_like : {made others : List WriterMade} (shape : Shape) (frames : FramesValue) (c other : Core) → FramesIn shape frames c → writing_of others other ≡ writing_of made c → FramesIn shape frames other
+pub frames_like : {made others : List WriterMade} (shape : Shape) (frames : FramesValue) (c other : Core)
+    → FramesIn shape frames c → writing_of others other ≡ writing_of made c → FramesIn shape frames other
 frames_like shape frames c other are same =
     same_frames shape.pages shape.size shape.start frames c other are
-    (ap (λ (w : Writing). w.frames) same) (ap (λ (w : Writing). w.history) same) (ap (λ (w : Writing). w.done) same) (ap (λ (w : Writing). w.opened) same)
+    (ap (λ (w : Writing). w.frames) same) (ap (λ (w : Writing). w.history) same) (ap (λ (w : Writing). w.done) same)
+    (ap (λ (w : Writing). w.opened) same)
 
 module _ (v : WriterValue) (w : AreWriterFields v) where
   pub kept_now : IsRingKept v.shape.pages v.shape.size v.shape.start w.core
@@ -36,14 +38,17 @@ module _ (v : WriterValue) (w : AreWriterFields v) where
   pub frames_in : {made : List WriterMade} (c : Core) → writing_of made c ≡ v.part → FramesIn v.shape v.frames c
   frames_in c is = frames_like v.shape v.frames w.core c w.frames_are (is ∙ sym w.part_is)
 
-  pub top_in : {made : List WriterMade} (c : Core) → writing_of made c ≡ v.part → v.frames.stack.frames ≢ [] → IsTopped v.frames c
+  pub top_in : {made : List WriterMade} (c : Core) → writing_of made c ≡ v.part → v.frames.stack.frames ≢ []
+      → IsTopped v.frames c
   top_in c is some = topped v.shape.pages v.shape.size v.shape.start v.frames c (frames_in c is) some
 
   -- the phase of the frame on top is that of the model's
-  pub phase_shown : (phase : Phase) → v.frames.stack.frames ≢ [] → phase_of v.frames.phase ≡ phase → IsTopIn v.part.frames phase
+  pub phase_shown : (phase : Phase) → v.frames.stack.frames ≢ [] → phase_of v.frames.phase ≡ phase
+      → IsTopIn v.part.frames phase
   phase_shown phase some at =
       let t = top_in w.core w.part_is some in
-      subst (λ (fs : List Frame). IsTopIn fs phase) (sym t.is_top ∙ ap (λ (p : Writing). p.frames) w.part_is) (t.phase_is ∙ at)
+      subst (λ (fs : List Frame). IsTopIn fs phase) (sym t.is_top ∙ ap (λ (p : Writing). p.frames) w.part_is)
+      (t.phase_is ∙ at)
 
   -- the writer's fields after a step
   pub made : (new : WriterValue) (sees : Core → Type 0) (answer : model.Answer) (result : Answer)
@@ -58,12 +63,29 @@ module _ (v : WriterValue) (w : AreWriterFields v) where
   made new sees answer result shape_is table_is s reports are pages = record {
     shape_is = shape_is;
     table_is = table_is;
-    call = record { core = s.core; next = s.next; answer = answer; is_own = refl; reached = s.reached; before_is = s.before_is; step = s.step; after_is = s.after_is; reports = reports };
+    call =
+        record {
+          core = s.core;
+          next = s.next;
+          answer = answer;
+          is_own = refl;
+          reached = s.reached;
+          before_is = s.before_is;
+          step = s.step;
+          after_is = s.after_is;
+          reports = reports;
+        };
     writer = record {
       core = s.next;
-      reached = reached_as v.shape new.shape s.next (sym shape_is) (reached_on v.shape.pages v.shape.size v.shape.start s.core model.steps answer s.next s.reached s.step);
-      part_is = part_as v.shape new.shape s.next (sym shape_is) (reached_on v.shape.pages v.shape.size v.shape.start s.core model.steps answer s.next s.reached s.step) new.part
-          (part_then v.shape.pages v.shape.size v.shape.start s.core model.steps answer s.next s.reached s.step v.part new.part refl s.before_is s.after_is);
+      reached =
+          reached_as v.shape new.shape s.next (sym shape_is)
+          (reached_on v.shape.pages v.shape.size v.shape.start s.core model.steps answer s.next s.reached s.step);
+      part_is =
+          part_as v.shape new.shape s.next (sym shape_is)
+          (reached_on v.shape.pages v.shape.size v.shape.start s.core model.steps answer s.next s.reached s.step)
+          new.part
+          (part_then v.shape.pages v.shape.size v.shape.start s.core model.steps answer s.next s.reached s.step v.part
+          new.part refl s.before_is s.after_is);
       frames_are = subst (λ (shape : Shape). FramesIn shape new.frames s.next) (sym shape_is) are;
       pages_are = sym (ap (λ (p : Writing). p.open_pages) s.after_is) ∙ pages;
     };

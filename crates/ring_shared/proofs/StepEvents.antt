@@ -1,13 +1,19 @@
 -- What one step of a frame appends to the history, as it goes on, leaves, or has left.
-use Rattle.std.proofs.Common.{◌≡◌, ◌≢◌, ℕ, ◌⊎◌, List, [], ◌∷◌, ◌++◌, length, fold, None, refl, sym, ap, ◌∙◌, subst, inl, inr, arith, append_assoc, append-nil}
-use Rattle.trace_model.specs.History.{HistoryEvent, push, push_close, open_fill, reserve, leave, wished, PushedFrame, close_frame, WriterState, after_event, writer_after}
-use Rattle.trace_model.specs.Frames.{Purpose, for_record, for_close, Progress, waiting, reserved, left, Phase, Frame, pushed_onto, pushed_frames}
+use Rattle.std.proofs.Common.{◌≡◌, ◌≢◌, ℕ, ◌⊎◌, List, [], ◌∷◌, ◌++◌, length, fold, None, refl, sym, ap, ◌∙◌, subst, inl}
+use Rattle.std.proofs.Common.{inr, arith, append_assoc, append-nil}
+use Rattle.trace_model.specs.History.{HistoryEvent, push, push_close, open_fill, reserve, leave, wished, PushedFrame}
+use Rattle.trace_model.specs.History.{close_frame, WriterState, after_event, writer_after}
+use Rattle.trace_model.specs.Frames.{Purpose, for_record, for_close, Progress, waiting, reserved, left, Phase, Frame}
+use Rattle.trace_model.specs.Frames.{pushed_onto, pushed_frames}
 use Rattle.trace_model.specs.Frames as frames_model
 use Rattle.trace_model.specs.Ring.{Core}
 use Rattle.trace_model.specs.Steps as model
 use Rattle.trace_model.proofs.histories.HistoryPrefixes.{writer-append}
-use Rattle.ring_model.specs.Appended.{IsRefusedPage, record_reserved, record_refused, record_opens, record_goes_on, close_refused, close_opens, close_leaves, close_goes_on, left_opens, left_grants, left_stays, FrameAppends, TopAppends}
-use Rattle.ring_model.specs.FrameOutcomes.{IsReserving, IsLeaving, Reserving, reserves_on, has_reserved, is_refused, Leaving, leaves_on, is_gone}
+use Rattle.ring_model.specs.Appended.{IsRefusedPage, record_reserved, record_refused, record_opens, record_goes_on}
+use Rattle.ring_model.specs.Appended.{close_refused, close_opens, close_leaves, close_goes_on, left_opens, left_grants}
+use Rattle.ring_model.specs.Appended.{left_stays, FrameAppends, TopAppends}
+use Rattle.ring_model.specs.FrameOutcomes.{IsReserving, IsLeaving, Reserving, reserves_on, has_reserved, is_refused}
+use Rattle.ring_model.specs.FrameOutcomes.{Leaving, leaves_on, is_gone}
 use Rattle.ring_model.proofs.partition.RingsKept.{reached_kept, reached_further}
 use Rattle.nested_writer.specs.declared.fault.WriteFault.{WriteFault}
 use Rattle.ring_frames.specs.declared.answer.Answer.{Answer}
@@ -27,7 +33,8 @@ use Rattle.ring_shared.proofs.Finishes.{frames_after, reserving_step, leaving_st
 abbrev pub has_events : WriterState → List HistoryEvent → WriterState
 has_events w events = fold (λ v a. after_event v.stack v.records a) w events
 
-pub fills_then : (w : WriterState) (fills others : List HistoryEvent) → AreFills fills → has_events w (fills ++ others) ≡ has_events w others
+pub fills_then : (w : WriterState) (fills others : List HistoryEvent) → AreFills fills
+    → has_events w (fills ++ others) ≡ has_events w others
 fills_then w [] others are = refl
 fills_then w (push moment len ∷ fills) others are = absurd are
 fills_then w (push_close ∷ fills) others are = absurd are
@@ -57,7 +64,8 @@ fills_joined (reserve ∷ fills) more are and = absurd are
 fills_joined (leave payload ∷ fills) more are and = absurd are
 fills_joined (wished ∷ fills) more are and = absurd are
 
-pub reader_joined : (events more : List HistoryEvent) → AreForReader events → AreForReader more → AreForReader (events ++ more)
+pub reader_joined : (events more : List HistoryEvent) → AreForReader events → AreForReader more
+    → AreForReader (events ++ more)
 reader_joined [] more are and = and
 reader_joined (push moment len ∷ events) more are and = absurd are
 reader_joined (push_close ∷ events) more are and = absurd are
@@ -67,13 +75,16 @@ reader_joined (leave payload ∷ events) more are and = absurd are
 reader_joined (wished ∷ events) more are and = reader_joined events more are and
 
 -- one list of events after another
-pub history_then : (history between after one two : List HistoryEvent) → between ≡ history ++ one → after ≡ between ++ two → after ≡ history ++ (one ++ two)
-history_then history between after one two is more = more ∙ ap (λ (h : List HistoryEvent). h ++ two) is ∙ append_assoc history one two
+pub history_then : (history between after one two : List HistoryEvent) → between ≡ history ++ one
+    → after ≡ between ++ two → after ≡ history ++ (one ++ two)
+history_then history between after one two is more =
+    more ∙ ap (λ (h : List HistoryEvent). h ++ two) is ∙ append_assoc history one two
 
 -- ---- frames
 
 -- a frame that leaves has left, or is a close frame that waits
-pub how_leaving : (kind : Purpose) (state : Progress) → IsLeaving kind state → (state ≡ left) ⊎ ((kind ≡ for_close) × (state ≡ waiting))
+pub how_leaving : (kind : Purpose) (state : Progress) → IsLeaving kind state
+    → (state ≡ left) ⊎ ((kind ≡ for_close) × (state ≡ waiting))
 how_leaving (for_record moment len) waiting is = absurd is
 how_leaving for_close waiting is = inr (refl, refl)
 how_leaving (for_record moment len) (reserved number) is = absurd is
@@ -94,11 +105,14 @@ not_longer : (f : PushedFrame) (stack : List PushedFrame) → stack ≡ f ∷ st
 not_longer f stack e = let same = ap (length {A = PushedFrame}) e in omega arith
 
 -- a frame that has left is none of the pushed ones
-left_pushed : (kind : Purpose) (state : Progress) (stack : List PushedFrame) → state ≡ left → pushed_onto kind state stack ≡ stack
+left_pushed : (kind : Purpose) (state : Progress) (stack : List PushedFrame) → state ≡ left
+    → pushed_onto kind state stack ≡ stack
 left_pushed kind state stack e = ap (λ (s : Progress). pushed_onto kind s stack) e
 
-close_pushed : (kind : Purpose) (state : Progress) (stack : List PushedFrame) → kind ≡ for_close → state ≡ waiting → pushed_onto kind state stack ≡ close_frame ∷ stack
-close_pushed kind state stack k s = ap (λ (x : Progress). pushed_onto kind x stack) s ∙ ap (λ (x : Purpose). pushed_onto x waiting stack) k
+close_pushed : (kind : Purpose) (state : Progress) (stack : List PushedFrame) → kind ≡ for_close → state ≡ waiting
+    → pushed_onto kind state stack ≡ close_frame ∷ stack
+close_pushed kind state stack k s =
+    ap (λ (x : Progress). pushed_onto kind x stack) s ∙ ap (λ (x : Purpose). pushed_onto x waiting stack) k
 
 -- ---- one step
 
@@ -107,16 +121,19 @@ page_not_going answer reported (inl a) = cc
 page_not_going answer reported (inr a) = cc
 
 module _ (n : ℕ) (c : Core) (below : List Frame) (answer : model.Answer) (events : List HistoryEvent) where
-  record_going : (kind : Purpose) (state : Progress) (phase : Phase) → IsReserving kind state → answer ≡ model.going → FrameAppends n c kind state phase below answer events → AreFills events
+  record_going : (kind : Purpose) (state : Progress) (phase : Phase) → IsReserving kind state → answer ≡ model.going
+      → FrameAppends n c kind state phase below answer events → AreFills events
   record_going (for_record moment len) waiting phase is reported (record_reserved a e) = absurd (cc)
-  record_going (for_record moment len) waiting phase is reported (record_refused a e) = absurd (page_not_going answer reported a)
+  record_going (for_record moment len) waiting phase is reported (record_refused a e) =
+      absurd (page_not_going answer reported a)
   record_going (for_record moment len) waiting phase is reported (record_opens fill a e) = subst AreFills (sym e) tt
   record_going (for_record moment len) waiting phase is reported (record_goes_on none a e) = subst AreFills (sym e) tt
   record_going for_close waiting phase is reported appends = absurd is
   record_going kind (reserved number) phase is reported appends = absurd is
   record_going kind left phase is reported appends = absurd is
 
-  left_acts : (kind : Purpose) (state : Progress) (phase : Phase) → state ≡ left → FrameAppends n c kind state phase below answer events → AreForReader events
+  left_acts : (kind : Purpose) (state : Progress) (phase : Phase) → state ≡ left
+      → FrameAppends n c kind state phase below answer events → AreForReader events
   left_acts (for_record moment len) waiting phase s appends = absurd (cc)
   left_acts for_close waiting phase s appends = absurd (cc)
   left_acts kind (reserved number) phase s appends = absurd (cc)
@@ -124,7 +141,9 @@ module _ (n : ℕ) (c : Core) (below : List Frame) (answer : model.Answer) (even
   left_acts kind left phase s (left_grants wish a e) = subst AreForReader (sym e) tt
   left_acts kind left phase s (left_stays none denied a e) = subst AreForReader (sym e) tt
 
-  close_acts : (kind : Purpose) (state : Progress) (phase : Phase) → kind ≡ for_close → state ≡ waiting → FrameAppends n c kind state phase below answer events → (events ≡ []) ⊎ ((fills : List HistoryEvent) × AreFills fills × (events ≡ fills ++ leave None ∷ []))
+  close_acts : (kind : Purpose) (state : Progress) (phase : Phase) → kind ≡ for_close → state ≡ waiting
+      → FrameAppends n c kind state phase below answer events
+      → (events ≡ []) ⊎ ((fills : List HistoryEvent) × AreFills fills × (events ≡ fills ++ leave None ∷ []))
   close_acts (for_record moment len) state phase k s appends = absurd (cc)
   close_acts for_close waiting phase k s (close_refused a e) = inr ([], tt, e)
   close_acts for_close waiting phase k s (close_opens fill a e) = inr (open_fill ∷ [], tt, e)
@@ -152,12 +171,16 @@ pub data CloseStep (below : List Frame) (before : Writing) (result : Answer) (af
       → LeftOrGone below result after.frames
       → CloseStep below before result after
 
-module _ (shape : Shape) (before after : Writing) (result : Answer) (frame : Frame) (below : List Frame) (top : before.frames ≡ frame ∷ below) (call : IsCall shape before model.steps result after) where
+module _ (shape : Shape) (before after : Writing) (result : Answer) (frame : Frame) (below : List Frame)
+    (top : before.frames ≡ frame ∷ below) (call : IsCall shape before model.steps result after) where
   reported : IsAppended shape before model.steps result after
   reported = calls_append shape before model.steps result after call
 
-  appends : FrameAppends shape.pages reported.core frame.kind frame.state frame.phase below reported.answer reported.history_events
-  appends = subst (λ (fs : List Frame). TopAppends shape.pages reported.core fs reported.answer reported.history_events) (ap (λ (w : Writing). w.frames) reported.before_is ∙ top) reported.appends
+  appends : FrameAppends shape.pages reported.core frame.kind frame.state frame.phase below reported.answer
+      reported.history_events
+  appends =
+      subst (λ (fs : List Frame). TopAppends shape.pages reported.core fs reported.answer reported.history_events)
+      (ap (λ (w : Writing). w.frames) reported.before_is ∙ top) reported.appends
 
   stack_before : (writer_after before.history).stack ≡ pushed_onto frame.kind frame.state (pushed_frames below)
   stack_before =
@@ -169,45 +192,70 @@ module _ (shape : Shape) (before after : Writing) (result : Answer) (frame : Fra
   stack_after : (writer_after after.history).stack ≡ pushed_frames after.frames
   stack_after =
       ap (λ (w : Writing). (writer_after w.history).stack) (sym call.after_is)
-      ∙ (reached_kept shape.pages shape.size shape.start call.next (reached_further shape.pages shape.size shape.start call.core model.steps call.answer call.next call.reached call.step)).history.stack
+      ∙ (reached_kept shape.pages shape.size shape.start call.next
+      (reached_further shape.pages shape.size shape.start call.core model.steps call.answer call.next call.reached
+      call.step)).history.stack
       ∙ ap (λ (w : Writing). pushed_frames w.frames) call.after_is
 
-  stack_moved : (writer_after after.history).stack ≡ (has_events (writer_after before.history) reported.history_events).stack
-  stack_moved = ap (λ (h : List HistoryEvent). (writer_after h).stack) reported.history_is ∙ ap (λ (w : WriterState). w.stack) (writer-append record { stack = []; records = [] } before.history reported.history_events)
+  stack_moved : (writer_after after.history).stack
+      ≡ (has_events (writer_after before.history) reported.history_events).stack
+  stack_moved =
+      ap (λ (h : List HistoryEvent). (writer_after h).stack) reported.history_is
+      ∙ ap (λ (w : WriterState). w.stack)
+      (writer-append record { stack = []; records = [] } before.history reported.history_events)
 
   -- a record frame that goes on begins fills at most
-  pub going_fills : IsReserving frame.kind frame.state → result ≡ Going → (fills : List HistoryEvent) × AreFills fills × (after.history ≡ before.history ++ fills)
+  pub going_fills : IsReserving frame.kind frame.state → result ≡ Going
+      → (fills : List HistoryEvent) × AreFills fills × (after.history ≡ before.history ++ fills)
   going_fills is going = (
     reported.history_events,
-    record_going shape.pages reported.core below reported.answer reported.history_events frame.kind frame.state frame.phase is
+    record_going shape.pages reported.core below reported.answer reported.history_events frame.kind frame.state
+        frame.phase is
         (subst (λ (x : Answer). IsAnswerOf shape.size x reported.answer) going reported.reports) appends,
     reported.history_is,
   )
 
-  gone_not_going : (call.answer ≡ model.gone) ⊎ ((why : frames_model.WriteFault) × (call.answer ≡ model.refused why)) → call.answer ≡ model.going → ⊥
+  gone_not_going : (call.answer ≡ model.gone) ⊎ ((why : frames_model.WriteFault) × (call.answer ≡ model.refused why))
+      → call.answer ≡ model.going → ⊥
   gone_not_going (inl a) reported = let both : model.gone ≡ model.going = sym a ∙ reported in cc
   gone_not_going (inr (why, a)) reported = let both : model.refused why ≡ model.going = sym a ∙ reported in cc
 
   -- the frames after it, if the pushed ones are those below
-  popped : pushed_frames after.frames ≡ pushed_frames below → Leaving below call.answer call.next.frames → LeftOrGone below result after.frames
+  popped : pushed_frames after.frames ≡ pushed_frames below → Leaving below call.answer call.next.frames
+      → LeftOrGone below result after.frames
   popped same (leaves_on next a at leaves) = still (how_leaving next.kind next.state leaves)
     where
       above : after.frames ≡ next ∷ below
       above = frames_after shape before after result call (next ∷ below) at
 
-      still : (next.state ≡ left) ⊎ ((next.kind ≡ for_close) × (next.state ≡ waiting)) → LeftOrGone below result after.frames
+      still : (next.state ≡ left) ⊎ ((next.kind ≡ for_close) × (next.state ≡ waiting))
+          → LeftOrGone below result after.frames
       still (inl s) = has_left next above s
-      still (inr (k, s)) = absurd (not_longer close_frame (pushed_frames below) (sym same ∙ ap pushed_frames above ∙ close_pushed next.kind next.state (pushed_frames below) k s))
-  popped same (is_gone a at) = has_gone (λ e. gone_not_going a (subst (λ (x : Answer). IsAnswerOf shape.size x call.answer) e call.reports)) (frames_after shape before after result call below at)
+      still (inr (k, s)) =
+          absurd (not_longer close_frame (pushed_frames below)
+          (sym same ∙ ap pushed_frames above ∙ close_pushed next.kind next.state (pushed_frames below) k s))
+  popped same (is_gone a at) =
+      has_gone (λ e. gone_not_going a (subst (λ (x : Answer). IsAnswerOf shape.size x call.answer) e call.reports))
+      (frames_after shape before after result call below at)
 
   -- a frame that has left acts for the reader
-  pub left_step : frame.state ≡ left → (events : List HistoryEvent) × AreForReader events × (after.history ≡ before.history ++ events) × LeftOrGone below result after.frames
+  pub left_step : frame.state ≡ left
+      → (events : List HistoryEvent) × AreForReader events × (after.history ≡ before.history ++ events)
+      × LeftOrGone below result after.frames
   left_step s =
-      let are : AreForReader reported.history_events = left_acts shape.pages reported.core below reported.answer reported.history_events frame.kind frame.state frame.phase s appends in
+      let are : AreForReader reported.history_events =
+      left_acts shape.pages reported.core below reported.answer reported.history_events frame.kind frame.state
+      frame.phase s appends in
       let same : pushed_frames after.frames ≡ pushed_frames below =
-      sym stack_after ∙ stack_moved ∙ ap (λ (w : WriterState). w.stack) (reader_keeps (writer_after before.history) reported.history_events are)
-      ∙ stack_before ∙ left_pushed frame.kind frame.state (pushed_frames below) s in
-      (reported.history_events, are, reported.history_is, popped same (leaving_step shape before after result call frame below top (left_leaves frame.kind frame.state s)))
+      sym stack_after ∙ stack_moved
+      ∙ ap (λ (w : WriterState). w.stack) (reader_keeps (writer_after before.history) reported.history_events are)
+      ∙ stack_before ∙ left_pushed frame.kind frame.state (pushed_frames below) s in (
+        reported.history_events,
+        are,
+        reported.history_is,
+        popped same
+            (leaving_step shape before after result call frame below top (left_leaves frame.kind frame.state s)),
+      )
     where
       left_leaves : (kind : Purpose) (state : Progress) → state ≡ left → IsLeaving kind state
       left_leaves (for_record moment len) state e = subst (IsLeaving (for_record moment len)) (sym e) tt
@@ -215,7 +263,9 @@ module _ (shape : Shape) (before after : Writing) (result : Answer) (frame : Fra
 
   -- a close frame waits on, or leaves
   pub close_step : frame.kind ≡ for_close → frame.state ≡ waiting → CloseStep below before result after
-  close_step k s = by (close_acts shape.pages reported.core below reported.answer reported.history_events frame.kind frame.state frame.phase k s appends)
+  close_step k s =
+      by (close_acts shape.pages reported.core below reported.answer reported.history_events frame.kind frame.state
+      frame.phase k s appends)
     where
       stood : (writer_after before.history).stack ≡ close_frame ∷ pushed_frames below
       stood = stack_before ∙ close_pushed frame.kind frame.state (pushed_frames below) k s
@@ -224,48 +274,73 @@ module _ (shape : Shape) (before after : Writing) (result : Answer) (frame : Fra
       leaving = leaving_step shape before after result call frame below top
           (subst (IsLeaving frame.kind) (sym s) (subst (λ (x : Purpose). IsLeaving x waiting) (sym k) tt))
 
-      on : after.history ≡ before.history → pushed_frames after.frames ≡ close_frame ∷ pushed_frames below → Leaving below call.answer call.next.frames → CloseStep below before result after
+      on : after.history ≡ before.history → pushed_frames after.frames ≡ close_frame ∷ pushed_frames below
+          → Leaving below call.answer call.next.frames → CloseStep below before result after
       on h same (leaves_on next a at leaves) = still (how_leaving next.kind next.state leaves)
         where
           above : after.frames ≡ next ∷ below
           above = frames_after shape before after result call (next ∷ below) at
 
-          still : (next.state ≡ left) ⊎ ((next.kind ≡ for_close) × (next.state ≡ waiting)) → CloseStep below before result after
-          still (inl t) = absurd (not_longer close_frame (pushed_frames below) (sym (left_pushed next.kind next.state (pushed_frames below) t) ∙ sym (ap pushed_frames above) ∙ same))
+          still : (next.state ≡ left) ⊎ ((next.kind ≡ for_close) × (next.state ≡ waiting))
+              → CloseStep below before result after
+          still (inl t) =
+              absurd (not_longer close_frame (pushed_frames below)
+              (sym (left_pushed next.kind next.state (pushed_frames below) t) ∙ sym (ap pushed_frames above)
+              ∙ same))
           still (inr (nk, ns)) = waits_on next above nk ns h
       on h same (is_gone a at) =
-          absurd (not_longer close_frame (pushed_frames below) (sym (ap pushed_frames (frames_after shape before after result call below at)) ∙ same))
+          absurd (not_longer close_frame (pushed_frames below)
+          (sym (ap pushed_frames (frames_after shape before after result call below at)) ∙ same))
 
-      popping : (w : WriterState) (fills : List HistoryEvent) → AreFills fills → w.stack ≡ close_frame ∷ pushed_frames below → (has_events w (fills ++ leave None ∷ [])).stack ≡ pushed_frames below
+      popping : (w : WriterState) (fills : List HistoryEvent) → AreFills fills
+          → w.stack ≡ close_frame ∷ pushed_frames below
+          → (has_events w (fills ++ leave None ∷ [])).stack ≡ pushed_frames below
       popping w fills are e =
           ap (λ (v : WriterState). v.stack) (fills_then w fills (leave None ∷ []) are)
           ∙ ap (λ (stack : List PushedFrame). (after_event stack w.records (leave None)).stack) e
 
-      by : (reported.history_events ≡ []) ⊎ ((fills : List HistoryEvent) × AreFills fills × (reported.history_events ≡ fills ++ leave None ∷ [])) → CloseStep below before result after
+      by : (reported.history_events ≡ [])
+          ⊎ ((fills : List HistoryEvent) × AreFills fills × (reported.history_events ≡ fills ++ leave None ∷ []))
+          → CloseStep below before result after
       by (inl none) =
-          on (reported.history_is ∙ ap (λ (events : List HistoryEvent). before.history ++ events) none ∙ append-nil before.history)
-          (sym stack_after ∙ stack_moved ∙ ap (λ (events : List HistoryEvent). (has_events (writer_after before.history) events).stack) none ∙ stood) leaving
+          on (reported.history_is ∙ ap (λ (events : List HistoryEvent). before.history ++ events) none
+          ∙ append-nil before.history)
+          (sym stack_after ∙ stack_moved
+          ∙ ap (λ (events : List HistoryEvent). (has_events (writer_after before.history) events).stack) none ∙ stood)
+          leaving
       by (inr (fills, are, is)) =
           closes fills are (reported.history_is ∙ ap (λ (events : List HistoryEvent). before.history ++ events) is)
-          (popped (sym stack_after ∙ stack_moved ∙ ap (λ (events : List HistoryEvent). (has_events (writer_after before.history) events).stack) is ∙ popping (writer_after before.history) fills are stood) leaving)
+          (popped
+          (sym stack_after ∙ stack_moved
+          ∙ ap (λ (events : List HistoryEvent). (has_events (writer_after before.history) events).stack) is
+          ∙ popping (writer_after before.history) fills are stood) leaving)
 
-module _ (shape : Shape) (before after : Writing) (fault : WriteFault) (frame : Frame) (below : List Frame) (top : before.frames ≡ frame ∷ below) (call : IsCall shape before model.steps (Refused fault) after) where
+module _ (shape : Shape) (before after : Writing) (fault : WriteFault) (frame : Frame) (below : List Frame)
+    (top : before.frames ≡ frame ∷ below) (call : IsCall shape before model.steps (Refused fault) after) where
   refused_history : after.history ≡ before.history ++ leave None ∷ []
-  refused_history = refusals_append shape before model.steps fault after call ∙ ap (λ (fs : List Frame). before.history ++ events_of_refusal model.steps fs) top
+  refused_history =
+      refusals_append shape before model.steps fault after call
+      ∙ ap (λ (fs : List Frame). before.history ++ events_of_refusal model.steps fs) top
 
   refused_pops : frame.state ≡ waiting → pushed_frames after.frames ≡ pushed_frames below
   refused_pops s =
       sym (stack_after shape before after (Refused fault) frame below top call)
       ∙ ap (λ (h : List HistoryEvent). (writer_after h).stack) refused_history
-      ∙ ap (λ (w : WriterState). w.stack) (writer-append record { stack = []; records = [] } before.history (leave None ∷ []))
+      ∙ ap (λ (w : WriterState). w.stack)
+      (writer-append record { stack = []; records = [] } before.history (leave None ∷ []))
       ∙ ap (λ (stack : List PushedFrame). (after_event stack (writer_after before.history).records (leave None)).stack)
-      (stack_before shape before after (Refused fault) frame below top call ∙ ap (λ (x : Progress). pushed_onto frame.kind x (pushed_frames below)) s)
+      (stack_before shape before after (Refused fault) frame below top call
+      ∙ ap (λ (x : Progress). pushed_onto frame.kind x (pushed_frames below)) s)
 
   -- a record frame that is refused has left, or is gone
   pub refused_step : IsReserving frame.kind frame.state → LeftOrGone below (Refused fault) after.frames
   refused_step is = by (reserving_step shape before after (Refused fault) call frame below top is)
     where
       by : Reserving frame below call.answer call.next.frames → LeftOrGone below (Refused fault) after.frames
-      by (reserves_on next a at kind state) = absurd (let both : model.refused (refusal_of fault) ≡ model.going = sym call.reports ∙ a in cc)
-      by (has_reserved next number a at kind state) = absurd (let both : model.refused (refusal_of fault) ≡ model.reserved_as number = sym call.reports ∙ a in cc)
-      by (is_refused why a leaving) = popped shape before after (Refused fault) frame below top call (refused_pops (reserving_waits frame.kind frame.state is)) leaving
+      by (reserves_on next a at kind state) =
+          absurd (let both : model.refused (refusal_of fault) ≡ model.going = sym call.reports ∙ a in cc)
+      by (has_reserved next number a at kind state) =
+          absurd (let both : model.refused (refusal_of fault) ≡ model.reserved_as number = sym call.reports ∙ a in cc)
+      by (is_refused why a leaving) =
+          popped shape before after (Refused fault) frame below top call
+          (refused_pops (reserving_waits frame.kind frame.state is)) leaving

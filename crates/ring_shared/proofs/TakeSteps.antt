@@ -19,7 +19,8 @@ use Rattle.ring_steps.proofs.TakeSteps.{seen_as}
 use Rattle.ring_shared.specs.Takes.{IsReaderPart, ArePassedBelow, TakesNothing, IsEmptyFound, ReadsSo}
 
 -- each fill below the reader's hint is passed
-pub passed_below_hint : (shape : Shape) (part : Reading) (fill : ℕ) → part.reader.hint ≡ fill → ArePassedBelow shape part fill
+pub passed_below_hint : (shape : Shape) (part : Reading) (fill : ℕ) → part.reader.hint ≡ fill
+    → ArePassedBelow shape part fill
 passed_below_hint shape part fill same = λ core reached is.
     let kept = reached_kept shape.pages shape.size shape.start core reached in
     let hint = ap (λ (x : Reader). x.hint) is.reader_is in let low = kept.links.hint_le in
@@ -37,9 +38,12 @@ pub record Stays (shape : Shape) (before after : Reading) (reader : Reader) : Ty
 
 -- a reader that knows no less, and took no more
 pub nothing : (shape : Shape) (before after : Reading) (reader : Reader) → Stays shape before after reader
-    → reader.taken ≡ before.reader.taken → reader.expected ≡ before.reader.expected → before.reader.hint ≤ reader.hint → before.reader.seen ≤ reader.seen → TakesNothing before after
+    → reader.taken ≡ before.reader.taken → reader.expected ≡ before.reader.expected → before.reader.hint ≤ reader.hint
+    → before.reader.seen ≤ reader.seen → TakesNothing before after
 nothing shape before after reader s taken expected hint seen =
-    let at_hint = ap (λ (x : Reader). x.hint) s.reader_is in let at_seen = ap (λ (x : Reader). x.seen) s.reader_is in record {
+    let at_hint = ap (λ (x : Reader). x.hint) s.reader_is in
+    let at_seen = ap (λ (x : Reader). x.seen) s.reader_is in
+    record {
       taken_is = ap (λ (x : Reader). x.taken) s.reader_is ∙ taken;
       observed_is = s.observed_is;
       expected_is = ap (λ (x : Reader). x.expected) s.reader_is ∙ expected;
@@ -48,7 +52,8 @@ nothing shape before after reader s taken expected hint seen =
       seen_le = omega arith;
     }
 
-module _ (shape : Shape) (before after : Reading) (sees : Core → Type 0) (answer : model.Answer) (r : IsReaderStep shape before sees model.reads answer after) where
+module _ (shape : Shape) (before after : Reading) (sees : Core → Type 0) (answer : model.Answer)
+    (r : IsReaderStep shape before sees model.reads answer after) where
   pub known_after : IsReaderPart shape after
   known_after = record {
     core = r.next;
@@ -61,7 +66,9 @@ module _ (shape : Shape) (before after : Reading) (sees : Core → Type 0) (answ
   pub so : ReadsSo shape before answer after
   so = seen_as shape before sees (λ core. ⊤) model.reads answer answer after r tt refl
 
-  pub stays : (reader : Reader) (link : Link) (keeps : Bool) (made : List ReaderMade) → after ≡ record before { spare_link = link; reader = reader; keeps_spare = keeps; made = made } → Stays shape before after reader
+  pub stays : (reader : Reader) (link : Link) (keeps : Bool) (made : List ReaderMade)
+      → after ≡ record before { spare_link = link; reader = reader; keeps_spare = keeps; made = made }
+      → Stays shape before after reader
   stays reader link keeps made is = record {
     known = known_after;
     order_is = ap (λ (part : Reading). part.order) is;
@@ -72,17 +79,25 @@ module _ (shape : Shape) (before after : Reading) (sees : Core → Type 0) (answ
   }
 
 -- after a load of a link
-pub loaded : (shape : Shape) (before : Reading) (link : Link) (reported : model.Answer) (phase : ReaderPhase) (hint : ℕ) (after : Reading) → LinkLoaded shape before link reported phase hint after
+pub loaded : (shape : Shape) (before : Reading) (link : Link) (reported : model.Answer) (phase : ReaderPhase) (hint : ℕ)
+    (after : Reading) → LinkLoaded shape before link reported phase hint after
     → Stays shape before after (record before.reader { phase = phase; hint = hint })
-loaded shape before link reported phase hint after h = stays shape before after _ reported h.step (record before.reader { phase = phase; hint = hint }) before.spare_link false _ h.after_is
+loaded shape before link reported phase hint after h =
+    stays shape before after _ reported h.step (record before.reader { phase = phase; hint = hint }) before.spare_link
+    false _ h.after_is
 
 -- after a load of the number of closed fills
-pub counted : (shape : Shape) (before : Reading) (done : ℕ) (reported : model.Answer) (phase : ReaderPhase) (after : Reading) → DoneLoaded shape before done reported phase after
+pub counted : (shape : Shape) (before : Reading) (done : ℕ) (reported : model.Answer) (phase : ReaderPhase)
+    (after : Reading) → DoneLoaded shape before done reported phase after
     → Stays shape before after (record before.reader { phase = phase; seen = done })
-counted shape before done reported phase after h = stays shape before after _ reported h.step (record before.reader { phase = phase; seen = done }) before.spare_link before.keeps_spare _ h.after_is
+counted shape before done reported phase after h =
+    stays shape before after _ reported h.step (record before.reader { phase = phase; seen = done }) before.spare_link
+    before.keeps_spare _ h.after_is
 
 -- no closed fill is unread
-pub none_found : (shape : Shape) (before : Reading) (done : ℕ) (reported : model.Answer) (after : Reading) → DoneLoaded shape before done reported loading_head after → before.reader.hint ≡ done → IsEmptyFound shape before done after
+pub none_found : (shape : Shape) (before : Reading) (done : ℕ) (reported : model.Answer) (after : Reading)
+    → DoneLoaded shape before done reported loading_head after → before.reader.hint ≡ done
+    → IsEmptyFound shape before done after
 unfolding known_after
 none_found shape before done reported after h hint =
     let s = counted shape before done reported loading_head after h in
@@ -90,7 +105,9 @@ none_found shape before done reported after h hint =
     let left = reader_leaves_writer shape.pages shape.size r.core model.reads reported r.next tt (cases_of r.step) in
     let low = h.seen_le in
     let hint_done = ap (λ (x : Reader). x.hint) s.reader_is ∙ hint in record {
-      nothing = nothing shape before after (record before.reader { phase = loading_head; seen = done }) s refl refl (omega arith) low;
+      nothing =
+          nothing shape before after (record before.reader { phase = loading_head; seen = done }) s refl refl
+          (omega arith) low;
       seen_le = low;
       hint_is = hint_done;
       seen_is = ap (λ (x : Reader). x.seen) s.reader_is;

@@ -1,6 +1,7 @@
 -- The frame on top, by its phase or its state, and what its step answers.
 use Rattle.std.proofs.Common.{◌≡◌, ◌≢◌, ℕ, List, [], ◌∷◌, length, sym, ap, ◌∙◌, subst, inl, inr, arith}
-use Rattle.trace_model.specs.Frames.{Purpose, for_record, for_close, Progress, waiting, reserved, left, Phase as ModelPhase, idle, releasing, Frame, no_frame}
+use Rattle.trace_model.specs.Frames.{Purpose, for_record, for_close, Progress, waiting, reserved, left}
+use Rattle.trace_model.specs.Frames.{Phase as ModelPhase, idle, releasing, Frame, no_frame}
 use Rattle.trace_model.specs.Ring.{Core}
 use Rattle.trace_model.specs.Steps as model
 use Rattle.trace_model.proofs.steps.StepCases as cases
@@ -38,7 +39,8 @@ has_left : (kind : Purpose) → IsLeaving kind left
 has_left (for_record moment len) = tt
 has_left for_close = tt
 
-release_answers : (c : Core) (frame : Frame) (below : List Frame) (answer : model.Answer) (after : Core) → ReleaseFillStep c frame below answer after → answer ≡ model.going
+release_answers : (c : Core) (frame : Frame) (below : List Frame) (answer : model.Answer) (after : Core)
+    → ReleaseFillStep c frame below answer after → answer ≡ model.going
 release_answers c frame below answer after (releases alone more a is) = a
 release_answers c frame below answer after (releases_last alone last a is) = a
 
@@ -58,33 +60,44 @@ module _ (v : WriterValue) (w : AreWriterFields v) where
         frame = t.frame;
         below = t.below;
         top = ap (λ (p : Writing). p.frames) (sym w.part_is) ∙ t.is_top;
-        is = subst (IsLeaving t.frame.kind) (sym (wishing_left t.frame.kind t.frame.state t.frame.phase (t.phase_is ∙ ap phase_of at) agree.0)) (has_left t.frame.kind);
+        is =
+            subst (IsLeaving t.frame.kind)
+            (sym (wishing_left t.frame.kind t.frame.state t.frame.phase (t.phase_is ∙ ap phase_of at) agree.0))
+            (has_left t.frame.kind);
       }
 
   -- one that closes a fill goes on
-  pub release_goes : (result : Answer) (after : Writing) → v.frames.stack.frames ≢ [] → phase_of v.frames.phase ≡ releasing → IsCall v.shape v.part model.steps result after → result ≡ Going
+  pub release_goes : (result : Answer) (after : Writing) → v.frames.stack.frames ≢ []
+      → phase_of v.frames.phase ≡ releasing → IsCall v.shape v.part model.steps result after → result ≡ Going
   release_goes result after some at call =
       let t = top_in v w call.core call.before_is some in
       is_going v.shape.size result call.answer call.reports
       (release_answers call.core t.frame t.below call.answer call.next
-      (top_stepped v.shape.pages v.shape.size call.core t.frame t.below releasing call.answer call.next t.is_top (t.phase_is ∙ at) call.step))
+      (top_stepped v.shape.pages v.shape.size call.core t.frame t.below releasing call.answer call.next t.is_top
+      (t.phase_is ∙ at) call.step))
 
 -- ---- by its state
 
-reserved_rests : (kind : Purpose) (state : Progress) (phase : ModelPhase) (number : ℕ) → state ≡ reserved number → MayBeIn kind state phase → phase ≡ idle
+reserved_rests : (kind : Purpose) (state : Progress) (phase : ModelPhase) (number : ℕ) → state ≡ reserved number
+    → MayBeIn kind state phase → phase ≡ idle
 reserved_rests kind waiting phase number is may = absurd (cc)
 reserved_rests kind (reserved other) phase number is may = may.1
 reserved_rests kind left phase number is may = absurd (cc)
 
-module _ (shape : Shape) (before : Writing) (result : Answer) (after : Writing) (call : IsCall shape before model.steps result after) where
+module _ (shape : Shape) (before : Writing) (result : Answer) (after : Writing)
+    (call : IsCall shape before model.steps result after) where
   -- one that has reserved answers its number again
-  pub reserved_answers : (frame : Frame) (below : List Frame) (number : ℕ) → before.frames ≡ frame ∷ below → frame.state ≡ reserved number → HasNumber below result after.frames
+  pub reserved_answers : (frame : Frame) (below : List Frame) (number : ℕ) → before.frames ≡ frame ∷ below
+      → frame.state ≡ reserved number → HasNumber below result after.frames
   reserved_answers frame below number top is =
       let at : call.core.frames ≡ frame ∷ below = ap (λ (p : Writing). p.frames) call.before_is ∙ top in
       let kept = reached_kept shape.pages shape.size shape.start call.core call.reached in
       let agree = top_agrees call.core frame below at kept.stack in
-      let (answer_is, same) = subst (λ (s : Progress). cases.IdleStep shape.pages shape.size call.core frame below s call.answer call.next) is
-      (top_stepped shape.pages shape.size call.core frame below idle call.answer call.next at (reserved_rests frame.kind frame.state frame.phase number is agree.0) call.step) in
+      let (answer_is, same) =
+      subst (λ (s : Progress). cases.IdleStep shape.pages shape.size call.core frame below s call.answer call.next)
+      is
+      (top_stepped shape.pages shape.size call.core frame below idle call.answer call.next at
+      (reserved_rests frame.kind frame.state frame.phase number is agree.0) call.step) in
       let (reported, reports, reported_is) = is_number shape.size result call.answer number call.reports answer_is in
       record {
         next = frame;
@@ -101,9 +114,16 @@ module _ (shape : Shape) (before : Writing) (result : Answer) (after : Writing) 
       (no_top_step (ap (λ (p : Writing). p.frames) call.before_is ∙ none) call.step).0
 
 -- one that makes a single step answers its record's number, or is refused
-step_in : (shape : Shape) (before : Writing) (result : Answer) (after : Writing) (frames : List stack.Frame) (phase : Phase) (below : List Phase) → before.frames ≡ frames_in_phases frames (phase ∷ below) → IsTarget (top_of frames) target.Step → IsCall shape before model.steps result after → ReportsTop result after.frames
+step_in : (shape : Shape) (before : Writing) (result : Answer) (after : Writing) (frames : List stack.Frame)
+    (phase : Phase) (below : List Phase) → before.frames ≡ frames_in_phases frames (phase ∷ below)
+    → IsTarget (top_of frames) target.Step → IsCall shape before model.steps result after
+    → ReportsTop result after.frames
 step_in shape before result after [] phase below same is call = inr (none_refused shape before result after call same)
-step_in shape before result after (f ∷ frames) phase below same (number, is) call = inl (_, reserved_answers shape before result after call _ _ number same is)
+step_in shape before result after (f ∷ frames) phase below same (number, is) call =
+    inl (_, reserved_answers shape before result after call _ _ number same is)
 
-pub step_reports : (v : WriterValue) (w : AreWriterFields v) (result : Answer) (after : Writing) → IsTarget (top_of v.frames.stack.frames) target.Step → IsCall v.shape v.part model.steps result after → ReportsTop result after.frames
-step_reports v w result after is call = step_in v.shape v.part result after v.frames.stack.frames v.frames.phase v.frames.below (frames_of v w) is call
+pub step_reports : (v : WriterValue) (w : AreWriterFields v) (result : Answer) (after : Writing)
+    → IsTarget (top_of v.frames.stack.frames) target.Step → IsCall v.shape v.part model.steps result after
+    → ReportsTop result after.frames
+step_reports v w result after is call =
+    step_in v.shape v.part result after v.frames.stack.frames v.frames.phase v.frames.below (frames_of v w) is call

@@ -10,7 +10,8 @@ use Rattle.nested_writer.specs.declared.frame.Slot.{Slot}
 use Rattle.nested_writer.specs.Stack.{Stack, kind_of, state_of}
 use Rattle.nested_writer.specs.Calls.{LacksSlot, IsTopSlot}
 use Rattle.ring_frames.specs.declared.answer.Answer.{Answer}
-use Rattle.ring_frames.specs.declared.answer.Answer.TheVariants.{Pushed, Going, Reserved, Ended, Gone, Refused, Looking, Empty, Moving, Taken, Wished}
+use Rattle.ring_frames.specs.declared.answer.Answer.TheVariants.{Pushed, Going, Reserved, Ended, Gone, Refused, Looking}
+use Rattle.ring_frames.specs.declared.answer.Answer.TheVariants.{Empty, Moving, Taken, Wished}
 use Rattle.ring_frames.specs.declared.phase.StepAnswer.{StepAnswer}
 use Rattle.ring_frames.specs.declared.phase.StepAnswer.TheVariants as step_answer
 use Rattle.ring_frames.specs.Answers.{bytes_in}

@@ -1,6 +1,7 @@
 -- What the writer knows of the counts before its steps on links, and what such a step shows after it.
 use Rattle.std.specs.Prelude.{slice_index_or, true, ◌==◌, ◌↔◌}
-use Rattle.std.proofs.Common.{◌≡◌, ℕ, ◌+◌, ◌-◌, ◌<◌, ◌≤◌, List, ◌++◌, length, Some, refl, sym, ap, ◌∙◌, subst, eq-eqb, arith}
+use Rattle.std.proofs.Common.{◌≡◌, ℕ, ◌+◌, ◌-◌, ◌<◌, ◌≤◌, List, ◌++◌, length, Some, refl, sym, ap, ◌∙◌, subst, eq-eqb}
+use Rattle.std.proofs.Common.{arith}
 use Rattle.std.proofs.lemmas.Bool.{eqb-true}
 use Rattle.std.proofs.Math.Logic.{∥∥₁_elim}
 use Rattle.std.proofs.Props.{props}
@@ -39,22 +40,30 @@ record StateNow (shape : Shape) (now : Writing) : Type 0 where
   kept : IsRingKept shape.pages shape.size shape.start core
   is : writing_of made core ≡ now
 
-state_now : (shape : Shape) (before now : Writing) → IsWriterReached shape before → Leads shape before now → StateNow shape now
+state_now : (shape : Shape) (before now : Writing) → IsWriterReached shape before → Leads shape before now
+    → StateNow shape now
 state_now shape before now known leads =
     let (exchanges, aside, run, now_is) = leads known.core known.reached known.is in record {
       core = aside;
       made = before.made ++ privately_made shape.pages shape.size known.core exchanges aside run;
-      kept = reached_kept shape.pages shape.size shape.start aside (private_reached shape.pages shape.size shape.start known.core aside exchanges known.reached run);
+      kept =
+          reached_kept shape.pages shape.size shape.start aside
+          (private_reached shape.pages shape.size shape.start known.core aside exchanges known.reached run);
       is = now_is;
     }
 
-module _ (shape : Shape) (before now : Writing) (known : ∥ IsWriterReached shape before ∥₁) (leads : Leads shape before now) where
+module _ (shape : Shape) (before now : Writing) (known : ∥ IsWriterReached shape before ∥₁)
+    (leads : Leads shape before now) where
   tail_of_state : StateNow shape now → (tail_in now < shape.pages + 1) × (now.opened < LINK_FILLS)
   tail_of_state st =
       let c = st.core in let k = st.kept in
-      let count = k.open_pages.count in let behind = k.links.done_lt in let some = k.links.some_pages in let fits = k.links.fits in
+      let count = k.open_pages.count in
+      let behind = k.links.done_lt in
+      let some = k.links.some_pages in
+      let fits = k.links.fits in
       let at = k.open_pages.each (length c.open_pages - 1) (omega arith) in
-      let below = page_below shape.pages c.order c.spare (c.done + (length c.open_pages - 1)) (omega arith) k.links.apart in
+      let below =
+      page_below shape.pages c.order c.spare (c.done + (length c.open_pages - 1)) (omega arith) k.links.apart in
       let tail_is : tail_in now ≡ slice_index_or c.open_pages (length c.open_pages - 1) 0 = ap tail_in (sym st.is) in
       let opened_is : now.opened ≡ c.opened = ap (λ (w : Writing). w.opened) (sym st.is) in (omega arith, omega arith)
 
@@ -62,8 +71,10 @@ module _ (shape : Shape) (before now : Writing) (known : ∥ IsWriterReached sha
   tail_bounds = ∥∥₁_elim known (Prim.hlevel props) (λ w. tail_of_state (state_now shape before now w leads))
 
   -- a page that a frame passed, and the fill that it noted
-  passed_of_state : (phase : Phase) (noted page : ℕ) → IsTopIn now.frames phase → passed_spot phase ≡ Some (spot noted page) → noted_fill phase ≡ Some noted → StateNow shape now
-      → (page < shape.pages + 1) × (noted + shape.pages < LINK_FILLS) × (slice_index_or now.open_pages (noted - 1 - now.done) 0 < shape.pages + 1) × (1 ≤ shape.pages)
+  passed_of_state : (phase : Phase) (noted page : ℕ) → IsTopIn now.frames phase
+      → passed_spot phase ≡ Some (spot noted page) → noted_fill phase ≡ Some noted → StateNow shape now
+      → (page < shape.pages + 1) × (noted + shape.pages < LINK_FILLS)
+      × (slice_index_or now.open_pages (noted - 1 - now.done) 0 < shape.pages + 1) × (1 ≤ shape.pages)
   passed_of_state phase noted page on spot_is noted_is st =
       let c = st.core in let k = st.kept in
       let some = k.links.some_pages in let count = k.open_pages.count in
@@ -73,30 +84,48 @@ module _ (shape : Shape) (before now : Writing) (known : ∥ IsWriterReached sha
       let (low, high, room, numbers) = facts.noted noted (ap noted_fill top.phase_is ∙ noted_is) in
       let below = page_below shape.pages c.order c.spare noted (omega arith) k.links.apart in
       let at = k.open_pages.each (noted - 1 - c.done) (omega arith) in
-      let front_below = page_below shape.pages c.order c.spare (c.done + (noted - 1 - c.done)) (omega arith) k.links.apart in
-      let front_is : slice_index_or now.open_pages (noted - 1 - now.done) 0 ≡ slice_index_or c.open_pages (noted - 1 - c.done) 0 = ap (λ (w : Writing). slice_index_or w.open_pages (noted - 1 - w.done) 0) (sym st.is) in
+      let front_below =
+      page_below shape.pages c.order c.spare (c.done + (noted - 1 - c.done)) (omega arith) k.links.apart in
+      let front_is : slice_index_or now.open_pages (noted - 1 - now.done) 0
+      ≡ slice_index_or c.open_pages (noted - 1 - c.done) 0 =
+      ap (λ (w : Writing). slice_index_or w.open_pages (noted - 1 - w.done) 0) (sym st.is) in
       (omega arith, numbers, omega arith, omega arith)
 
-  pub passed_bounds : (phase : Phase) (noted page : ℕ) → IsTopIn now.frames phase → passed_spot phase ≡ Some (spot noted page) → noted_fill phase ≡ Some noted
-      → (page < shape.pages + 1) × (noted + shape.pages < LINK_FILLS) × (slice_index_or now.open_pages (noted - 1 - now.done) 0 < shape.pages + 1) × (1 ≤ shape.pages)
-  passed_bounds phase noted page on spot_is noted_is = ∥∥₁_elim known (Prim.hlevel props) (λ w. passed_of_state phase noted page on spot_is noted_is (state_now shape before now w leads))
+  pub passed_bounds : (phase : Phase) (noted page : ℕ) → IsTopIn now.frames phase
+      → passed_spot phase ≡ Some (spot noted page) → noted_fill phase ≡ Some noted
+      → (page < shape.pages + 1) × (noted + shape.pages < LINK_FILLS)
+      × (slice_index_or now.open_pages (noted - 1 - now.done) 0 < shape.pages + 1) × (1 ≤ shape.pages)
+  passed_bounds phase noted page on spot_is noted_is =
+      ∥∥₁_elim known (Prim.hlevel props)
+      (λ w. passed_of_state phase noted page on spot_is noted_is (state_now shape before now w leads))
 
-  pub after_lost_fits : (page next after_lost : ℕ) → MarksNext shape.pages now page next after_lost → after_lost < LINK_FILLS
+  pub after_lost_fits : (page next after_lost : ℕ) → MarksNext shape.pages now page next after_lost
+      → after_lost < LINK_FILLS
   after_lost_fits page next after_lost due =
-      let (low, numbers, front, some) = passed_bounds (marking (role_on_top now.frames) (noted_on_top now.frames) page next) (noted_on_top now.frames) page due.phase refl refl in let sum = due.after_lost_is in omega arith
+      let (low, numbers, front, some) =
+      passed_bounds (marking (role_on_top now.frames) (noted_on_top now.frames) page next) (noted_on_top now.frames)
+      page due.phase refl refl in
+      let sum = due.after_lost_is in
+      omega arith
 
   -- a frame that clears noted a fill whose position had one before
   lost_of_state : (page noted : ℕ) → IsTopIn now.frames (clearing noted page) → StateNow shape now → shape.pages ≤ noted
   lost_of_state page noted on st =
       let c = st.core in
-      let top = top_of c.frames (clearing noted page) (subst (λ (w : Writing). IsTopIn w.frames (clearing noted page)) (sym st.is) on) in
-      let (lost, sum, below, closed, there) = (top_kept shape.pages c top.frame top.below st.kept.links top.is).moves noted (ap owned_update top.phase_is) in omega arith
+      let top =
+      top_of c.frames (clearing noted page)
+      (subst (λ (w : Writing). IsTopIn w.frames (clearing noted page)) (sym st.is) on) in
+      let (lost, sum, below, closed, there) =
+      (top_kept shape.pages c top.frame top.below st.kept.links top.is).moves noted
+      (ap owned_update top.phase_is) in
+      omega arith
 
   pub lost_bounds : (page noted : ℕ) → IsTopIn now.frames (clearing noted page) → shape.pages ≤ noted
-  lost_bounds page noted on = ∥∥₁_elim known (Prim.hlevel props) (λ w. lost_of_state page noted on (state_now shape before now w leads))
+  lost_bounds page noted on =
+      ∥∥₁_elim known (Prim.hlevel props) (λ w. lost_of_state page noted on (state_now shape before now w leads))
 
--- The numbers of a frame that clears its UPDATE have room in a word: its page, the fill that it noted, and the one before
--- at that position; and the front page has a word.
+-- The numbers of a frame that clears its UPDATE have room in a word: its page, the fill that it noted, and the one
+-- before at that position; and the front page has a word.
 pub record ClearFits (shape : Shape) (page noted front : ℕ) : Type 0 where
   pub round : shape.pages ≤ noted
   pub page_fits : page < LINK_PAGES
@@ -104,12 +133,17 @@ pub record ClearFits (shape : Shape) (page noted front : ℕ) : Type 0 where
   pub lost_fits : noted - shape.pages < LINK_FILLS
   pub front_fits : front < shape.pages + 1
 
-pub clear_fits : (self : WriterSeat) (page noted front : ℕ) → Leads self.shape (writing self.seat.me.0) (writing_in self) → IsTopIn (writing_in self).frames (clearing noted page)
+pub clear_fits : (self : WriterSeat) (page noted front : ℕ)
+    → Leads self.shape (writing self.seat.me.0) (writing_in self)
+    → IsTopIn (writing_in self).frames (clearing noted page)
     → front ≡ slice_index_or (writing_in self).open_pages (noted - 1 - (writing_in self).done) 0
     → ClearFits self.shape page noted front
 clear_fits self page noted front leads on front_is =
-    let round : self.shape.pages ≤ noted = lost_bounds self.shape (writing self.seat.me.0) (writing_in self) self.reached leads page noted on in
-    let (low, numbers, front_low, some) = passed_bounds self.shape (writing self.seat.me.0) (writing_in self) self.reached leads (clearing noted page) noted page on refl refl in
+    let round : self.shape.pages ≤ noted =
+    lost_bounds self.shape (writing self.seat.me.0) (writing_in self) self.reached leads page noted on in
+    let (low, numbers, front_low, some) =
+    passed_bounds self.shape (writing self.seat.me.0) (writing_in self) self.reached leads (clearing noted page)
+    noted page on refl refl in
     let few = self.table.pages_fit in record {
       round = round;
       page_fits = omega arith;
@@ -121,18 +155,26 @@ clear_fits self page noted front leads on front_is =
 -- ---- after the step
 
 -- a frame that clears finds its UPDATE
-update_there : (n : ℕ) (c : Core) (frame : Frame) (below : List Frame) (noted page lost : ℕ) (answer : Answer) (after : Core) → lost + n ≡ noted → ClearUpdateStep n c frame below noted page answer after
+update_there : (n : ℕ) (c : Core) (frame : Frame) (below : List Frame) (noted page lost : ℕ) (answer : Answer)
+    (after : Core) → lost + n ≡ noted → ClearUpdateStep n c frame below noted page answer after
     → link_into n c.links noted ≡ update_link page lost
-update_there n c frame below noted page lost answer after sum (clears u u_sum at a after_is) = let same : u ≡ lost = omega arith in at ∙ ap (update_link page) same
+update_there n c frame below noted page lost answer after sum (clears u u_sum at a after_is) =
+    let same : u ≡ lost =
+    omega arith in
+    at ∙ ap (update_link page) same
 
-pub cleared_update : (shape : Shape) (now : Writing) (page noted lost : ℕ) (sees : Core → Type 0) (answer : Answer) (after : Writing) → IsTopIn now.frames (clearing noted page) → lost + shape.pages ≡ noted
+pub cleared_update : (shape : Shape) (now : Writing) (page noted lost : ℕ) (sees : Core → Type 0) (answer : Answer)
+    (after : Writing) → IsTopIn now.frames (clearing noted page) → lost + shape.pages ≡ noted
     → (s : IsWriterStep shape now sees answer after)
     → link_into shape.pages s.core.links noted ≡ update_link page lost
 cleared_update shape now page noted lost sees answer after on sum s =
     let c = s.core in
-    let top = top_of c.frames (clearing noted page) (subst (λ (w : Writing). IsTopIn w.frames (clearing noted page)) (sym s.before_is) on) in
+    let top =
+    top_of c.frames (clearing noted page)
+    (subst (λ (w : Writing). IsTopIn w.frames (clearing noted page)) (sym s.before_is) on) in
     update_there shape.pages c top.frame top.below noted page lost answer s.next sum
-    (top_stepped shape.pages shape.size c top.frame top.below (clearing noted page) answer s.next top.is top.phase_is s.step)
+    (top_stepped shape.pages shape.size c top.frame top.below (clearing noted page) answer s.next top.is top.phase_is
+    s.step)
 
 pub seen_as : (shape : Shape) (before : Writing) (sees other : Core → Type 0) (answer : Answer) (after : Writing)
     → ((core : Core) → IsReached shape.pages shape.size shape.start core → sees core → other core)
@@ -148,10 +190,14 @@ seen_as shape before sees other answer after turn s = record {
   after_is = s.after_is;
 }
 
-module _ (shape : Shape) (few : shape.pages ≤ MAX_PAGES) (fill found : ℕ) (l : Link) (fits : FitsWord l) (core : Core) (reached : IsReached shape.pages shape.size shape.start core) (seen : word_of (link_into shape.pages core.links fill) ≡ found) where
+module _ (shape : Shape) (few : shape.pages ≤ MAX_PAGES) (fill found : ℕ) (l : Link) (fits : FitsWord l) (core : Core)
+    (reached : IsReached shape.pages shape.size shape.start core)
+    (seen : word_of (link_into shape.pages core.links fill) ≡ found) where
   -- the link is the one whose word was found
   pub link_seen : word_of l ≡ found → link_into shape.pages core.links fill ≡ l
-  link_seen same = word_reports (link_into shape.pages core.links fill) l (link_fits shape.pages shape.size shape.start core fill few reached) fits (seen ∙ sym same)
+  link_seen same =
+      word_reports (link_into shape.pages core.links fill) l
+      (link_fits shape.pages shape.size shape.start core fill few reached) fits (seen ∙ sym same)
 
   -- an exchange was done if and only if it was there
   pub done_seen : (from : ℕ) → from ≡ word_of l → ((found == from) ≡ true) ↔ (link_into shape.pages core.links fill ≡ l)

@@ -1,5 +1,6 @@
 -- What the reader hears with a fill that it takes.
-use Rattle.std.proofs.Common.{◌≡◌, ℕ, suc, ◌+◌, ◌-◌, ◌<◌, ◌≤◌, List, [], ◌∷◌, ◌++◌, length, get_or, take, map, sym, ap, ◌∙◌, arith, length-append, length-take-le, append_assoc}
+use Rattle.std.proofs.Common.{◌≡◌, ℕ, suc, ◌+◌, ◌-◌, ◌<◌, ◌≤◌, List, [], ◌∷◌, ◌++◌, length, get_or, take, map, sym, ap}
+use Rattle.std.proofs.Common.{◌∙◌, arith, length-append, length-take-le, append_assoc}
 use Rattle.std.proofs.lemmas.List.{map-append, length-map}
 use Rattle.trace_model.specs.Record.{Record}
 use Rattle.trace_model.specs.History.{HistoryEvent, Reservation, reserved_records, as_record}
@@ -19,7 +20,8 @@ pub observed_with : (start : ℕ) (h : List HistoryEvent) (f expected : ℕ) (he
     → (lost : List Record)
     × (length lost ≡ held.first - expected)
     × (held.first + length held.records ≤ length (reserved_records h))
-    × (first_records (held.first + length held.records) h ≡ first_records expected h ++ (lost ++ map as_record held.records))
+    × (first_records (held.first + length held.records) h
+    ≡ first_records expected h ++ (lost ++ map as_record held.records))
 observed_with start h f expected held low r le is =
     let xs : List Reservation = reserved_records h in
     let rs : List Record = map as_record xs in
@@ -32,7 +34,9 @@ observed_with start h f expected held low r le is =
     let within : next ≤ length xs = first_below 0 (opens_of h) (length xs) (suc (f - start)) low r in
     let short : first ≤ length xs = first_below 0 (opens_of h) (length xs) (f - start) (omega arith) r in
     let len : held.first + length held.records ≡ next =
-    let a = ap (length {A = Reservation}) up in let b = length-take-le next xs within in let d = length-take-le first xs short in
+    let a = ap (length {A = Reservation}) up in
+    let b = length-take-le next xs within in
+    let d = length-take-le first xs short in
     let e = length-append (take first xs) fill in let g = ap (length {A = Reservation}) records_is in omega arith in
     let (lost, size, split) = take_split expected first rs le (let same = length-map xs as_record in omega arith) in (
       lost,

@@ -5,7 +5,8 @@ use Rattle.trace_model.specs.Ring.{Core}
 use Rattle.ring_steps.specs.Shown.{page_word, page_before, AreWords}
 
 -- a count is stored
-pub with_opened : (n : ℕ) (c : Core) (words : List ℕ) (opened : ℕ) → AreWords n c words → AreWords n (record c { opened = opened }) (set words 0 opened)
+pub with_opened : (n : ℕ) (c : Core) (words : List ℕ) (opened : ℕ) → AreWords n c words
+    → AreWords n (record c { opened = opened }) (set words 0 opened)
 with_opened n c words opened a = let count = a.count in record {
   count = length-set words 0 opened ∙ a.count;
   opened = get_or-set_same words 0 opened 0 (omega arith);
@@ -15,7 +16,8 @@ with_opened n c words opened a = let count = a.count in record {
   spare = get_or-set_other words 0 (page_word c.spare) opened 0 (λ e. omega arith) ∙ a.spare;
 }
 
-pub with_done : (n : ℕ) (c : Core) (words : List ℕ) (done : ℕ) → AreWords n c words → AreWords n (record c { done = done }) (set words 1 done)
+pub with_done : (n : ℕ) (c : Core) (words : List ℕ) (done : ℕ) → AreWords n c words
+    → AreWords n (record c { done = done }) (set words 1 done)
 with_done n c words done a = let count = a.count in record {
   count = length-set words 1 done ∙ a.count;
   opened = get_or-set_other words 1 0 done 0 (λ e. omega arith) ∙ a.opened;
@@ -25,7 +27,8 @@ with_done n c words done a = let count = a.count in record {
   spare = get_or-set_other words 1 (page_word c.spare) done 0 (λ e. omega arith) ∙ a.spare;
 }
 
-pub with_wish : (n : ℕ) (c : Core) (words : List ℕ) (wish : ℕ) → AreWords n c words → AreWords n (record c { wish = wish }) (set words 2 wish)
+pub with_wish : (n : ℕ) (c : Core) (words : List ℕ) (wish : ℕ) → AreWords n c words
+    → AreWords n (record c { wish = wish }) (set words 2 wish)
 with_wish n c words wish a = let count = a.count in record {
   count = length-set words 2 wish ∙ a.count;
   opened = get_or-set_other words 2 0 wish 0 (λ e. omega arith) ∙ a.opened;

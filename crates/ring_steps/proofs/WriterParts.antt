@@ -15,11 +15,14 @@ use Rattle.ring_steps.proofs.Made.{reached_on, part_then}
 use Rattle.ring_steps.proofs.Private.{private_open_pages, private_reached}
 
 -- the writer's part after a step is one that steps reach
-pub step_reached : (shape : Shape) (before : Writing) (sees : Core → Type 0) (answer : Answer) (after : Writing) → IsWriterStep shape before sees answer after → IsWriterReached shape after
+pub step_reached : (shape : Shape) (before : Writing) (sees : Core → Type 0) (answer : Answer) (after : Writing)
+    → IsWriterStep shape before sees answer after → IsWriterReached shape after
 step_reached shape before sees answer after s = record {
   core = s.next;
   reached = reached_on shape.pages shape.size shape.start s.core steps answer s.next s.reached s.step;
-  is = part_then shape.pages shape.size shape.start s.core steps answer s.next s.reached s.step before after refl s.before_is s.after_is;
+  is =
+      part_then shape.pages shape.size shape.start s.core steps answer s.next s.reached s.step before after refl
+      s.before_is s.after_is;
 }
 
 -- what is known of the writer's part before its private steps, and after them
@@ -30,10 +33,13 @@ IsWithin before now =
     × (now.done < LINK_FILLS)
     × (now.opened ≤ LINK_FILLS)
 
-reached_within : (shape : Shape) (before now : Writing) → IsWriterReached shape before → Leads shape before now → IsWithin before now
+reached_within : (shape : Shape) (before now : Writing) → IsWriterReached shape before → Leads shape before now
+    → IsWithin before now
 reached_within shape before now known leads =
     let (exchanges, aside, run, now_is) = leads known.core known.reached known.is in
-    let k = reached_kept shape.pages shape.size shape.start aside (private_reached shape.pages shape.size shape.start known.core aside exchanges known.reached run) in
+    let k =
+    reached_kept shape.pages shape.size shape.start aside
+    (private_reached shape.pages shape.size shape.start known.core aside exchanges known.reached run) in
     let same = private_open_pages shape.pages shape.size known.core aside exchanges run in
     let pages_are : aside.open_pages ≡ before.open_pages = same ∙ ap (λ (w : Writing). w.open_pages) known.is in
     let wide : length aside.open_pages ≡ length before.open_pages = ap (length {A = ℕ}) pages_are in
@@ -46,5 +52,7 @@ reached_within shape before now known leads =
       omega arith,
     )
 
-pub now_within : (shape : Shape) (before now : Writing) → ∥ IsWriterReached shape before ∥₁ → Leads shape before now → IsWithin before now
-now_within shape before now known leads = ∥∥₁_elim known (Prim.hlevel props) (λ w. reached_within shape before now w leads)
+pub now_within : (shape : Shape) (before now : Writing) → ∥ IsWriterReached shape before ∥₁ → Leads shape before now
+    → IsWithin before now
+now_within shape before now known leads =
+    ∥∥₁_elim known (Prim.hlevel props) (λ w. reached_within shape before now w leads)

@@ -10,7 +10,8 @@ use Rattle.ring_model.specs.Seats.{IsOfReader, PrivateRun}
 use Rattle.page_image.specs.Contents.{Contents}
 use Rattle.ring_steps.specs.declared.rule.Shape.{Shape}
 use Rattle.ring_steps.specs.Made.{writer_made_of, reader_made_of, privately_made}
-use Rattle.ring_steps.specs.Views.{Writing, writing_of, writing_after, Reading, reading_made, SeatView, writes, reads, writing, passed, reading}
+use Rattle.ring_steps.specs.Views.{Writing, writing_of, writing_after, Reading, reading_made, SeatView, writes, reads}
+use Rattle.ring_steps.specs.Views.{writing, passed, reading}
 use Rattle.ring_steps.specs.Shown.{IsReading}
 
 -- what a seat has: its view, and the slots that are out with it

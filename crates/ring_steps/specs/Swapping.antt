@@ -1,9 +1,11 @@
 -- What the reader's swap shows.
-use Rattle.std.specs.Prelude.{◌≡◌, ◌≢◌, ⊤, ℕ, ◌+◌, ◌-◌, ◌*◌, ◌%◌, ◌≤◌, true, List, [], ◌∷◌, ◌++◌, length, Some, slice_set}
+use Rattle.std.specs.Prelude.{◌≡◌, ◌≢◌, ⊤, ℕ, ◌+◌, ◌-◌, ◌*◌, ◌%◌, ◌≤◌, true, List, [], ◌∷◌, ◌++◌, length, Some}
+use Rattle.std.specs.Prelude.{slice_set}
 use Rattle.trace_model.specs.declared.limits.TheConstants.{LINK_FILLS}
 use Rattle.trace_model.specs.Record.{Record}
 use Rattle.trace_model.specs.Links.{word_of, header_link}
-use Rattle.trace_model.specs.Ring.{ReaderPhase, loading_head, loading_done, storing_spare_link, swapping, TakenFill, link_into}
+use Rattle.trace_model.specs.Ring.{ReaderPhase, loading_head, loading_done, storing_spare_link, swapping, TakenFill}
+use Rattle.trace_model.specs.Ring.{link_into}
 use Rattle.trace_model.specs.Steps as model
 use Rattle.ring_model.specs.KeptLinks.{Spot, spot}
 use Rattle.page_image.specs.Contents.{Contents, records_of_page}

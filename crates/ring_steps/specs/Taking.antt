@@ -1,7 +1,8 @@
 -- What the steps of the reader's take show.
 use Rattle.std.specs.Prelude.{◌≡◌, ⊤, ℕ, ◌≤◌, Bool, true, false}
 use Rattle.trace_model.specs.Links.{Link, word_of, FitsWord}
-use Rattle.trace_model.specs.Ring.{ReaderPhase, loading_head, loading_done, storing_spare_link, swapping, Core, link_into}
+use Rattle.trace_model.specs.Ring.{ReaderPhase, loading_head, loading_done, storing_spare_link, swapping, Core}
+use Rattle.trace_model.specs.Ring.{link_into}
 use Rattle.trace_model.specs.Steps as model
 use Rattle.ring_steps.specs.declared.rule.Shape.{Shape}
 use Rattle.ring_steps.specs.Views.{Reading, reading_after, reads, reading}

@@ -58,7 +58,8 @@ one_audited taken kept number shown other a b =
 
 -- the text of collectors from this number on
 abbrev text_of_all : ℕ → List AuditedShown → List ℕ
-text_of_all number shown = flat_map (λ (pair : ℕ × AuditedShown). printed_audited pair.0 pair.1) (enumerate_from number shown)
+text_of_all number shown =
+    flat_map (λ (pair : ℕ × AuditedShown). printed_audited pair.0 pair.1) (enumerate_from number shown)
 
 one_text_of_all : (taken : List Parcel) (number : ℕ) (collectors : List (List Parcel)) (shown other : List AuditedShown)
     → AllZip (IsAuditedPrintOf taken) collectors shown → AllZip (IsAuditedPrintOf taken) collectors other

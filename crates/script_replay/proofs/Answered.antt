@@ -16,10 +16,13 @@ use Rattle.log_text.specs.declared.line.LogLine.{LogLine}
 use Rattle.script_replay.specs.declared.replaying.ReplayState.{ReplayState}
 use Rattle.script_replay.specs.Replay.{IsStateAfter, IsReplay, AreExact, AreAlike, Join, IsHeadline}
 
-pub is_replay : (script : Script) (state : ReplayState) → (part_way : IsStateAfter script script.commands state) → IsReplay script state.collectors.items state.reports.log.items part_way.world
-is_replay script state part_way = record { world = part_way.behind; log_is = part_way.log_is; collectors_are = part_way.collectors_are }
+pub is_replay : (script : Script) (state : ReplayState) → (part_way : IsStateAfter script script.commands state)
+    → IsReplay script state.collectors.items state.reports.log.items part_way.world
+is_replay script state part_way =
+    record { world = part_way.behind; log_is = part_way.log_is; collectors_are = part_way.collectors_are }
 
-module _ (script : Script) (collectors : List (List Parcel)) (log : List LogLine) (w : World) (limits : IsWithinLimits script) (r : IsReplay script collectors log w) where
+module _ (script : Script) (collectors : List (List Parcel)) (log : List LogLine) (w : World)
+    (limits : IsWithinLimits script) (r : IsReplay script collectors log w) where
   genuine : IsGenuineWorld script w
   genuine = world_genuine script script.commands w limits r.world
 
@@ -28,8 +31,16 @@ module _ (script : Script) (collectors : List (List Parcel)) (log : List LogLine
       let same = (r.collectors_are.each collector kept delivered at there).same in
       let e = g.exact collector cpu delivered lane there lane_at in
       record {
-        has = λ number one. (λ here. (e.has number one).0 (same.below.has cpu number one here), λ stands. same.above.has cpu number one ((e.has number one).1 stands));
-        misses = λ number. (λ here. (e.misses number).0 (same.below.misses cpu number here), λ lost. same.above.misses cpu number ((e.misses number).1 lost));
+        has =
+            λ number one. (
+              λ here. (e.has number one).0 (same.below.has cpu number one here),
+              λ stands. same.above.has cpu number one ((e.has number one).1 stands),
+            );
+        misses =
+            λ number. (
+              λ here. (e.misses number).0 (same.below.misses cpu number here),
+              λ lost. same.above.misses cpu number ((e.misses number).1 lost),
+            );
       }
 
   alike : AreAlike collectors w
@@ -39,17 +50,22 @@ module _ (script : Script) (collectors : List (List Parcel)) (log : List LogLine
       (same_back others others_delivered (r.collectors_are.each other others others_delivered at' there').same))
 
   -- what a collector keeps was taken
-  was_taken : (collector : ℕ) (kept : List Parcel) (parcel : Parcel) → slice_get collectors collector ≡ Some kept → Contains kept parcel → Contains w.taken parcel
+  was_taken : (collector : ℕ) (kept : List Parcel) (parcel : Parcel) → slice_get collectors collector ≡ Some kept
+      → Contains kept parcel → Contains w.taken parcel
   was_taken collector kept parcel at has =
       let low = slice_get_within collectors collector kept at in
       let count = r.collectors_are.count in
-      let there : slice_get w.delivered collector ≡ Some (get_or w.delivered collector []) = slice_get-get_or w.delivered collector [] (omega arith) in
-      genuine.delivered collector (get_or w.delivered collector []) parcel there ((r.collectors_are.each collector kept (get_or w.delivered collector []) at there).among parcel has)
+      let there : slice_get w.delivered collector ≡ Some (get_or w.delivered collector []) =
+      slice_get-get_or w.delivered collector [] (omega arith) in
+      genuine.delivered collector (get_or w.delivered collector []) parcel there
+      ((r.collectors_are.each collector kept (get_or w.delivered collector []) at there).among parcel has)
 
   join : Join collectors
   join = λ one other kept others at at'. joined_least kept others
       (taken_agree script w (kept ++ others) genuine
-      (λ parcel has. ⊎_elim (λ here. was_taken one kept parcel at here) (λ there. was_taken other others parcel at' there) (Contains-append_cases kept others parcel has)))
+      (λ parcel has.
+      ⊎_elim (λ here. was_taken one kept parcel at here) (λ there. was_taken other others parcel at' there)
+      (Contains-append_cases kept others parcel has)))
 
   pub headline : IsHeadline script collectors log
   headline = record { world = w; replay = r; genuine = genuine; exact = exact genuine; alike = alike; join = join }

@@ -1,5 +1,6 @@
 -- The frame on top makes one step more, and steps until it is gone: the exchanges, and what is logged of them.
-use Rattle.std.proofs.Common.{◌≡◌, ◌≢◌, ℕ, zero, suc, ◌+◌, ◌-◌, ◌<◌, ◌≤◌, ◌⊎◌, ⊎_elim, inl, inr, List, [], ◌∷◌, ◌++◌, length, drop, get_or, map, reverse, refl, sym, Bor, ap, ◌∙◌, subst, arith, length-append}
+use Rattle.std.proofs.Common.{◌≡◌, ◌≢◌, ℕ, zero, suc, ◌+◌, ◌-◌, ◌<◌, ◌≤◌, ◌⊎◌, ⊎_elim, inl, inr, List, [], ◌∷◌, ◌++◌}
+use Rattle.std.proofs.Common.{length, drop, get_or, map, reverse, refl, sym, Bor, ap, ◌∙◌, subst, arith, length-append}
 use mathlib.Core.Logic.{dite}
 use native.Mathlib.Decide.{dec_le}
 use Rattle.trace_model.specs.declared.limits.TheConstants.{MAX_PAGES}
@@ -11,7 +12,8 @@ use Rattle.trace_model.proofs.steps.StepSound.{cases_of}
 use Rattle.text_model.specs.Script.{step_frame, finish_frame}
 use Rattle.ring_model.specs.Reached.{IsReached}
 use Rattle.ring_model.specs.Ranks.{frame_limit}
-use Rattle.world_model.specs.Lanes.{Lane, lane_behind, event_in, event_on_top, FitFrames, FrameRun, IsGone, StepsFrame, lacks_to_step, steps_on, FinishesFrame, lacks_to_finish, finishes, LineRun}
+use Rattle.world_model.specs.Lanes.{Lane, lane_behind, event_in, event_on_top, FitFrames, FrameRun, IsGone, StepsFrame}
+use Rattle.world_model.specs.Lanes.{lacks_to_step, steps_on, FinishesFrame, lacks_to_finish, finishes, LineRun}
 use Rattle.world_model.proofs.FramesMove.{Moves, stays, changes, pops, step_moves}
 use Rattle.world_model.proofs.LanePayloads.{pushes_none}
 use Rattle.world_model.proofs.LineEnds.{frame_runs_short}

@@ -1,5 +1,6 @@
 -- What the frame on top is asked for: a step, or the end of its record with the payload that was put into its slot.
-use Rattle.std.proofs.Common.{◌≡◌, ℕ, ◌+◌, ◌-◌, ◌≤◌, List, [], ◌∷◌, ◌++◌, length, replicate, get_or, map, reverse, Some, refl, sym, ap, ◌∙◌, subst, arith}
+use Rattle.std.proofs.Common.{◌≡◌, ℕ, ◌+◌, ◌-◌, ◌≤◌, List, [], ◌∷◌, ◌++◌, length, replicate, get_or, map, reverse, Some}
+use Rattle.std.proofs.Common.{refl, sym, ap, ◌∙◌, subst, arith}
 use Rattle.std.proofs.lemmas.List.{length-map, length-reverse, get_or-map, get_or-reverse}
 use Rattle.trace_model.specs.Words.{slot_len, padded}
 use Rattle.trace_model.specs.Frames.{Purpose, for_record, for_close, reserved, Frame}
@@ -186,7 +187,8 @@ asked_end old slot payload part answer new top fits stays long written front par
     (top_is_slot old.core.stack old.core.stack.frames slot part top)
     (stays n size start lane.core part is.is_core (fills ∙ sym long)) in
     let bytes : top_bytes (with_slot old.core.stack slot part) (with_slot old.core.stack slot part).frames
-    ≡ padded h.payload = ap (top_bytes (with_slot old.core.stack slot part)) (slot_keeps old.core.stack slot part).frames_is
+    ≡ padded h.payload =
+    ap (top_bytes (with_slot old.core.stack slot part)) (slot_keeps old.core.stack slot part).frames_is
     ∙ written part fills ∙ whole ∙ ap padded (sym same) in
     subst (λ (e : model.Event). IsStep n size start lane.core e answer new) (ap ends bytes ∙ sym h.event_is)
     (makes n size start lane.core core)

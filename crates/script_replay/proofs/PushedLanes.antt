@@ -4,11 +4,14 @@ use Rattle.trace_model.specs.Frames.{WriteFault, Frame}
 use Rattle.trace_model.specs.Ring.{Core}
 use Rattle.trace_model.specs.Steps as model
 use Rattle.trace_model.specs.Steps.{pushes, pushes_close, pushed, refused, Step, Exchange}
-use Rattle.trace_model.proofs.steps.StepCases.{StepCases, push_step, push_refused, close_step, close_refused, frame_step, frame_lacks, end_step, end_lacks, end_early, read_step, store_wish_step}
+use Rattle.trace_model.proofs.steps.StepCases.{StepCases, push_step, push_refused, close_step, close_refused}
+use Rattle.trace_model.proofs.steps.StepCases.{frame_step, frame_lacks, end_step, end_lacks, end_early, read_step}
+use Rattle.trace_model.proofs.steps.StepCases.{store_wish_step}
 use Rattle.trace_model.proofs.steps.StepSound.{cases_of}
 use Rattle.text_model.specs.Script.{begin_frame, finish_frame}
 use Rattle.ring_model.specs.Seats.{IsOfReader}
-use Rattle.world_model.specs.Lanes.{Lane, payloads_with, lane_with, FitsKind, FitFrames, PushesFrame, FinishesPushed, WritesFrame, LineRun}
+use Rattle.world_model.specs.Lanes.{Lane, payloads_with, lane_with, FitsKind, FitFrames, PushesFrame, FinishesPushed}
+use Rattle.world_model.specs.Lanes.{WritesFrame, LineRun}
 use Rattle.world_model.specs.World.{parcel_of}
 use Rattle.ring_core.specs.declared.event.Event.{Event}
 use Rattle.ring_core.specs.declared.event.Event.TheVariants as event
@@ -37,7 +40,8 @@ pub data PushEnds (payload : List ℕ) (before : Core) (reported : model.Answer)
       → after.frames ≡ frame ∷ before.frames
       → FitsKind frame.kind payload
       → PushEnds payload before reported after
-  fails : (why : WriteFault) → reported ≡ refused why → after.frames ≡ before.frames → PushEnds payload before reported after
+  fails : (why : WriteFault) → reported ≡ refused why → after.frames ≡ before.frames
+      → PushEnds payload before reported after
 
 len_same : (moment len moment' len' : ℕ) → pushes moment len ≡ pushes moment' len' → len ≡ len'
 len_same moment len moment' len' e = cc

@@ -1,5 +1,6 @@
 -- What is reported of exchanges: of none, and of some after others.
-use Rattle.std.proofs.Common.{◌≡◌, ℕ, List, [], ◌∷◌, ◌++◌, Option, Some, None, refl, sym, ap, ◌∙◌, subst, append_assoc, append-nil}
+use Rattle.std.proofs.Common.{◌≡◌, ℕ, List, [], ◌∷◌, ◌++◌, Option, Some, None, refl, sym, ap, ◌∙◌, subst, append_assoc}
+use Rattle.std.proofs.Common.{append-nil}
 use Rattle.std.specs.Prelude.{IfSome}
 use Rattle.std.proofs.lemmas.Grind.{flat_map-append}
 use Rattle.trace_model.specs.Ring.{Core}
@@ -167,9 +168,11 @@ pub step_reported : (line cpu : ℕ) (asked : Asked) (answer : Answer) (ring : C
     → IsAnswerOf size answer reported
     → shown_log new.log.items ≡ shown_log old.log.items ++ logged line cpu reported)
     → IsReported line cpu asked answer ring old new
-step_reported line cpu asked answer ring old new told says n size start before after event reported knows step = record {
-  log = says size reported step.reports
-      ∙ ap (λ (l : List LogLine). shown_log old.log.items ++ l) (sym (append-nil (logged line cpu reported)));
-  steps = told_one line cpu asked answer ring n size start before after event reported step old.steps new.steps knows
-      told;
-}
+step_reported line cpu asked answer ring old new told says n size start before after event reported knows step =
+    record {
+      log = says size reported step.reports
+          ∙ ap (λ (l : List LogLine). shown_log old.log.items ++ l) (sym (append-nil (logged line cpu reported)));
+      steps =
+          told_one line cpu asked answer ring n size start before after event reported step old.steps new.steps knows
+          told;
+    }

@@ -1,5 +1,6 @@
 -- The text of a replay's steps, from one line to the next.
-use Rattle.std.proofs.Common.{rules, ◌≡◌, ◌≢◌, ℕ, ◌<◌, List, [], ◌∷◌, ◌++◌, Option, Some, None, refl, sym, ap, ◌∙◌, subst, append_assoc, append-nil}
+use Rattle.std.proofs.Common.{rules, ◌≡◌, ◌≢◌, ℕ, ◌<◌, List, [], ◌∷◌, ◌++◌, Option, Some, None, refl, sym, ap, ◌∙◌}
+use Rattle.std.proofs.Common.{subst, append_assoc, append-nil}
 use Rattle.std.specs.Prelude.{All, IfSome, IsSome, flat_map, slice_set}
 use Rattle.std.specs.List.{slice_get}
 use Rattle.std.proofs.lemmas.Option.{slice_get_within, get_or_from_slice_get}
@@ -11,13 +12,15 @@ use Rattle.trace_model.specs.Parcel.{Parcel}
 use Rattle.trace_model.proofs.collections.Elements.{some_is}
 use Rattle.text_model.specs.Log.{new_page, known_page, no_page, delivery_line}
 use Rattle.text_model.specs.Printing.{printed_log_line}
-use Rattle.text_model.specs.Script.{Command, begin_frame, step_frame, finish_frame, write, close, step_reader, take_page, wish, deliver, Script}
+use Rattle.text_model.specs.Script.{Command, begin_frame, step_frame, finish_frame, write, close, step_reader}
+use Rattle.text_model.specs.Script.{take_page, wish, deliver, Script}
 use Rattle.world_model.specs.Lanes.{Lane, IsNewLane}
 use Rattle.world_model.specs.World.{World, IsNewWorld, RunsLine, DeliversTaken, DeliversNothing}
 use Rattle.world_model.proofs.Lookups.{get_set_here, get_set_other}
 use Rattle.collector.specs.declared.added.Added.{Added}
 use Rattle.collector.specs.declared.added.Added.TheVariants.{New, Known}
-use Rattle.step_model.specs.RunTexts.{gain_text, gains_of, delivery_step_text, tells_page, tells_none, TellsRing, TellsLine, TellsAll, trace_line, new_rings_text}
+use Rattle.step_model.specs.RunTexts.{gain_text, gains_of, delivery_step_text, tells_page, tells_none, TellsRing}
+use Rattle.step_model.specs.RunTexts.{TellsLine, TellsAll, trace_line, new_rings_text}
 use Rattle.step_text.specs.Known.{StepTextValue, Knows}
 use Rattle.script_replay.specs.RingCommands.{IsOfRing, cpu_of}
 use Rattle.script_replay.specs.Collected.{delivery_of}
@@ -159,7 +162,8 @@ module _ (script : Script) (lines : List (ℕ × Command)) (line cpu : ℕ) (com
       told.text_is
       (lanes_known old new told.others told.knows so_far.knows)
 
-pub still_told : (n size line cpu : ℕ) (before after : Core) (exchanges : List Exchange) (old new : Option StepTextValue)
+pub still_told : (n size line cpu : ℕ) (before after : Core) (exchanges : List Exchange)
+    (old new : Option StepTextValue)
     → AreTold n size line cpu before exchanges after old new
     → IsSome old
     → IsSome new

@@ -1,14 +1,19 @@
 -- What a step of the reader makes of a lane as a value.
-use Rattle.std.proofs.Common.{◌≡◌, ◌≢◌, ℕ, zero, ◌-◌, Bool, true, false, List, [], ◌∷◌, ◌++◌, length, drop, map, Option, Some, None, refl, sym, ap, ◌∙◌, subst, arith, append-nil}
+use Rattle.std.proofs.Common.{◌≡◌, ◌≢◌, ℕ, zero, ◌-◌, Bool, true, false, List, [], ◌∷◌, ◌++◌, length, drop, map, Option}
+use Rattle.std.proofs.Common.{Some, None, refl, sym, ap, ◌∙◌, subst, arith, append-nil}
 use Rattle.std.specs.Prelude.{IfSome}
 use Rattle.std.proofs.lemmas.Bool.{false≢true}
 use Rattle.std.proofs.lemmas.List.{map-append}
 use Rattle.trace_model.specs.Ring.{Core}
 use Rattle.trace_model.specs.Parcel.{Parcel}
 use Rattle.trace_model.specs.Steps as model
-use Rattle.trace_model.specs.Steps.{Event, pushes, pushes_close, steps, ends, reads, wishes, reading, empty, moving, page_taken, Step, Exchange}
-use Rattle.trace_model.proofs.steps.StepCases.{StepCases, push_step, push_refused, close_step, close_refused, frame_step, frame_lacks, end_step, end_lacks, end_early, read_step, store_wish_step}
+use Rattle.trace_model.specs.Steps.{Event, reads, wishes, reading, empty, moving}
+use Rattle.trace_model.specs.Steps.{page_taken, Step, Exchange}
+use Rattle.trace_model.proofs.steps.StepCases.{StepCases, push_step, push_refused, close_step, close_refused}
+use Rattle.trace_model.proofs.steps.StepCases.{frame_step, frame_lacks, end_step, end_lacks, end_early, read_step}
+use Rattle.trace_model.proofs.steps.StepCases.{store_wish_step}
 use Rattle.trace_model.proofs.steps.StepSound.{cases_of}
+use Rattle.trace_model.proofs.steps.EventKinds.{IsWishes}
 use Rattle.ring_model.specs.Seats.{IsOfReader}
 use Rattle.ring_model.proofs.partition.RingsKept.{reached_kept}
 use Rattle.ring_model.proofs.seats.SeatSteps.{reader_leaves_writer}
@@ -20,7 +25,8 @@ use Rattle.world_model.proofs.TakenPages.{taken_by, run_takes, parcels_of_is}
 use Rattle.page_numbers.specs.Parcels as page
 use Rattle.page_numbers.specs.Parcels.{as_parcels, fitted_parcel}
 use Rattle.ring_frames.specs.declared.answer.Answer.{Answer}
-use Rattle.ring_frames.specs.declared.answer.Answer.TheVariants.{Pushed, Going, Reserved, Ended, Gone, Refused, Looking, Empty, Moving, Taken, Wished}
+use Rattle.ring_frames.specs.declared.answer.Answer.TheVariants.{Pushed, Going, Reserved, Ended, Gone, Refused, Looking}
+use Rattle.ring_frames.specs.declared.answer.Answer.TheVariants.{Empty, Moving, Taken, Wished}
 use Rattle.ring_core.specs.Value.{CoreValue}
 use Rattle.ring_core.specs.IsCore.{IsCore}
 use Rattle.ring_frames.specs.Answers.{IsAnswerOf}
@@ -72,32 +78,24 @@ module _ (n size start cpu : ℕ) (v : LaneValue) (lane : Lane) (is : IsLane n s
 
 -- ---- the wish
 
-abbrev IsWish : Event → Type 0
-IsWish (pushes moment len) = ⊥
-IsWish pushes_close = ⊥
-IsWish steps = ⊥
-IsWish (ends payload) = ⊥
-IsWish reads = ⊥
-IsWish wishes = Unit {0}
-
 brings_none : (n size cpu : ℕ) (c : Core) (event : Event) (answer : model.Answer) (after : Core)
-    → IsWish event
+    → IsWishes event
     → StepCases n size c event answer after
     → parcels_in cpu answer ≡ []
 brings_none n size cpu c event answer after wish (push_step moment len e few short early a is) =
-    absurd (subst IsWish e wish)
+    absurd (subst IsWishes e wish)
 brings_none n size cpu c event answer after wish (push_refused moment len why e refused a is) =
-    absurd (subst IsWish e wish)
-brings_none n size cpu c event answer after wish (close_step e few a is) = absurd (subst IsWish e wish)
-brings_none n size cpu c event answer after wish (close_refused e many a is) = absurd (subst IsWish e wish)
-brings_none n size cpu c event answer after wish (frame_step frame below e top step) = absurd (subst IsWish e wish)
-brings_none n size cpu c event answer after wish (frame_lacks e none a is) = absurd (subst IsWish e wish)
+    absurd (subst IsWishes e wish)
+brings_none n size cpu c event answer after wish (close_step e few a is) = absurd (subst IsWishes e wish)
+brings_none n size cpu c event answer after wish (close_refused e many a is) = absurd (subst IsWishes e wish)
+brings_none n size cpu c event answer after wish (frame_step frame below e top step) = absurd (subst IsWishes e wish)
+brings_none n size cpu c event answer after wish (frame_lacks e none a is) = absurd (subst IsWishes e wish)
 brings_none n size cpu c event answer after wish
-    (end_step payload frame below number moment len e top at kind slot a is) = absurd (subst IsWish e wish)
-brings_none n size cpu c event answer after wish (end_lacks payload e none a is) = absurd (subst IsWish e wish)
+    (end_step payload frame below number moment len e top at kind slot a is) = absurd (subst IsWishes e wish)
+brings_none n size cpu c event answer after wish (end_lacks payload e none a is) = absurd (subst IsWishes e wish)
 brings_none n size cpu c event answer after wish (end_early payload frame below e top none a is) =
-    absurd (subst IsWish e wish)
-brings_none n size cpu c event answer after wish (read_step e step) = absurd (subst IsWish e wish)
+    absurd (subst IsWishes e wish)
+brings_none n size cpu c event answer after wish (read_step e step) = absurd (subst IsWishes e wish)
 brings_none n size cpu c event answer after wish (store_wish_step e a is) = ap (parcels_in cpu) a
 
 pub wishes_of : (line cpu : ℕ) (v : LaneValue) (asked : Asked) (result : Answer) (new : LaneValue)
@@ -195,13 +193,16 @@ module _ (line cpu n size start : ℕ) (v : LaneValue) (lane : Lane) (is : IsLan
   keeps_reads (Refused fault) reports gives keeps = absurd gives
   keeps_reads (Looking back) reports gives (goes, is_new) =
       reads_to reading reports (λ e. refl) (λ e. absurd (false≢true (sym e ∙ goes)))
-      (record v { core = core; body = Some back }) is_new refl refl (ap length gives ∙ fits) (sym (append-nil (as_parcels v.taken)))
+      (record v { core = core; body = Some back }) is_new refl refl (ap length gives ∙ fits)
+      (sym (append-nil (as_parcels v.taken)))
   keeps_reads (Empty done back) reports gives (goes, is_new) =
       reads_to (empty done) reports (no_more (empty done) goes) (λ e same. let z : ⊥ = cc in z)
-      (record v { core = core; body = Some back }) is_new refl refl (ap length gives ∙ fits) (sym (append-nil (as_parcels v.taken)))
+      (record v { core = core; body = Some back }) is_new refl refl (ap length gives ∙ fits)
+      (sym (append-nil (as_parcels v.taken)))
   keeps_reads (Moving fill back) reports gives (goes, is_new) =
       reads_to (moving fill.0) reports (no_more (moving fill.0) goes) (λ e same. let z : ⊥ = cc in z)
-      (record v { core = core; body = Some back }) is_new refl refl (ap length gives ∙ fits) (sym (append-nil (as_parcels v.taken)))
+      (record v { core = core; body = Some back }) is_new refl refl (ap length gives ∙ fits)
+      (sym (append-nil (as_parcels v.taken)))
   keeps_reads (Taken contents missed) (t, reported_is, whole) gives (goes, (body, body_is, is_new)) =
       let kept = fitted_parcel cpu contents missed in
       let parcel_is : page.as_parcel kept ≡ parcel_of cpu t = (λ i. record {
@@ -213,7 +214,8 @@ module _ (line cpu n size start : ℕ) (v : LaneValue) (lane : Lane) (is : IsLan
       }) in
       reads_to (page_taken t) reported_is (no_more (page_taken t) goes) (λ e same. let z : ⊥ = cc in z)
       (record v { core = core; body = Some body; taken = v.taken ++ kept ∷ [] })
-      is_new refl refl (body_is ∙ whole.written.size_is) (map-append page.as_parcel v.taken (kept ∷ []) ∙ ap (λ (p : Parcel). as_parcels v.taken ++ p ∷ []) parcel_is)
+      is_new refl refl (body_is ∙ whole.written.size_is)
+      (map-append page.as_parcel v.taken (kept ∷ []) ∙ ap (λ (p : Parcel). as_parcels v.taken ++ p ∷ []) parcel_is)
   keeps_reads (Wished fill) reports gives keeps = absurd gives
 
 pub reads_once : (line cpu : ℕ) (v between new : LaneValue) (body : List ℕ) (asked : Asked) (result : Answer)

@@ -1,5 +1,6 @@
 -- The records of a page that was taken have numbers, and the missing numbers before it are below its first one.
-use Rattle.std.proofs.Common.{◌≡◌, ℕ, ◌+◌, ◌^◌, ◌<◌, ◌≤◌, List, [], ◌∷◌, ◌++◌, length, map, take, Some, sym, ap, ◌∙◌, subst, arith, length-append}
+use Rattle.std.proofs.Common.{◌≡◌, ℕ, ◌+◌, ◌^◌, ◌<◌, ◌≤◌, List, [], ◌∷◌, ◌++◌, length, map, take, Some, sym, ap, ◌∙◌}
+use Rattle.std.proofs.Common.{subst, arith, length-append}
 use Rattle.std.proofs.lemmas.List.{length-map, length-take, map-append}
 use Rattle.trace_model.specs.declared.limits.TheConstants.{MAX_SIZE, MAX_CPUS}
 use Rattle.trace_model.specs.Record.{Record}
@@ -17,7 +18,8 @@ use Rattle.ring_model.proofs.contents.RecordCounts.{numbers_fit}
 use Rattle.ring_model.proofs.partition.RingsKept.{ring_step}
 use Rattle.page_image.specs.Contents.{records_of_page}
 use Rattle.ring_frames.specs.declared.answer.Answer.{Answer}
-use Rattle.ring_frames.specs.declared.answer.Answer.TheVariants.{Pushed, Going, Reserved, Ended, Gone, Refused, Looking, Empty, Moving, Taken, Wished}
+use Rattle.ring_frames.specs.declared.answer.Answer.TheVariants.{Pushed, Going, Reserved, Ended, Gone, Refused, Looking}
+use Rattle.ring_frames.specs.declared.answer.Answer.TheVariants.{Empty, Moving, Taken, Wished}
 use Rattle.ring_frames.specs.Answers.{IsAnswerOf}
 use Rattle.ring_core.specs.Answers.{GivesBack}
 use Rattle.script_replay.specs.Takes.{MayKeep}
@@ -95,7 +97,8 @@ pub may_keep : (n size start cpu : ℕ) (c : Core) (event : Event) (body : List 
     → MayKeep cpu result
 may_keep n size start cpu c event body Pushed reported after kept large known step gives reports = absurd gives
 may_keep n size start cpu c event body Going reported after kept large known step gives reports = absurd gives
-may_keep n size start cpu c event body (Reserved number) reported after kept large known step gives reports = absurd gives
+may_keep n size start cpu c event body (Reserved number) reported after kept large known step gives reports =
+    absurd gives
 may_keep n size start cpu c event body (Ended ended) reported after kept large known step gives reports = absurd gives
 may_keep n size start cpu c event body Gone reported after kept large known step gives reports = absurd gives
 may_keep n size start cpu c event body (Refused fault) reported after kept large known step gives reports = absurd gives

@@ -1,6 +1,7 @@
 -- The commands of a script that ask anything of a CPU's ring: all but a delivery.
 use Rattle.std.specs.Prelude.{ℕ, ⊤}
-use Rattle.text_model.specs.Script.{Command, begin_frame, step_frame, finish_frame, write, close, step_reader, take_page, wish, deliver}
+use Rattle.text_model.specs.Script.{Command, begin_frame, step_frame, finish_frame, write, close, step_reader}
+use Rattle.text_model.specs.Script.{take_page, wish, deliver}
 
 abbrev pub IsOfRing : Command → Type 0
 IsOfRing (deliver collector cpu fill) = ⊥

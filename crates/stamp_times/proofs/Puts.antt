@@ -5,7 +5,8 @@ use borrow.Rule.Slice.PartMut.{put_mid}
 use Rattle.record_words.specs.Puts.{Puts}
 
 -- a write at the front of what is at an offset: that is behind the offset then
-pub put_at : (old part a : List ℕ) (at k : ℕ) → at ≤ length old → k ≡ length old - at → Puts (take k (drop at old)) part a
+pub put_at : (old part a : List ℕ) (at k : ℕ) → at ≤ length old → k ≡ length old - at
+    → Puts (take k (drop at old)) part a
     → drop at (put_mid at k old part) ≡ a ++ drop (at + length a) old
 put_at old part a at k inside k_is put =
     let all : take k (drop at old) ≡ drop at old = ap (λ (i : ℕ). take i (drop at old)) k_is ∙ take_rest old at in

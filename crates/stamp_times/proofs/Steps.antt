@@ -1,5 +1,6 @@
 -- Steps of the walk.
-use Rattle.std.proofs.Common.{◌≡◌, ℕ, ◌+◌, ◌%◌, ◌^◌, ◌≤◌, List, ◌++◌, length, take, drop, refl, sym, ap, ◌∙◌, subst, arith}
+use Rattle.std.proofs.Common.{◌≡◌, ℕ, ◌+◌, ◌%◌, ◌^◌, ◌≤◌, List, ◌++◌, length, take, drop, refl, sym, ap, ◌∙◌, subst}
+use Rattle.std.proofs.Common.{arith}
 use Rattle.trace_model.specs.Words.{Word, time_stamp, bytes_of_word, delta_of}
 use Rattle.trace_model.specs.Reading.{IsData}
 use Rattle.trace_model.proofs.words.Lengths.{length-bytes_of_stamp}
@@ -10,7 +11,8 @@ use Rattle.stamp_times.specs.declared.restore.Reached.{Reached}
 use Rattle.stamp_times.proofs.Restored.{record-stays, restored-on}
 
 -- a word that stays is passed
-pub kept-word : (bytes : List ℕ) (reached behind : Reached) (w : Word) (next delta : ℕ) → StandsAt bytes reached.at next w
+pub kept-word : (bytes : List ℕ) (reached behind : Reached) (w : Word) (next delta : ℕ)
+    → StandsAt bytes reached.at next w
     → restored_word reached.before w ≡ w → restored_time reached.before w ≡ (reached.before + delta) % 2 ^ 64
     → behind.at ≡ next → behind.before ≡ (reached.before + delta) % 2 ^ 64 → RestoresWord bytes bytes reached behind
 kept-word bytes reached behind w next delta stands stays time at_is before_is = record {
@@ -23,7 +25,8 @@ kept-word bytes reached behind w next delta stands stays time at_is before_is = 
 }
 
 -- a record is passed
-pub kept-record : (bytes : List ℕ) (reached behind : Reached) (w : Word) (next delta : ℕ) → StandsAt bytes reached.at next w
+pub kept-record : (bytes : List ℕ) (reached behind : Reached) (w : Word) (next delta : ℕ)
+    → StandsAt bytes reached.at next w
     → IsData w → delta_of w ≡ delta → behind.at ≡ next → behind.before ≡ (reached.before + delta) % 2 ^ 64
     → RestoresWord bytes bytes reached behind
 kept-record bytes reached behind w next delta stands is_data delta_is at_is before_is =
@@ -40,5 +43,6 @@ pub step-on : (all was is : List ℕ) (reached behind : Reached) → RestoresWor
     → all ≡ take reached.at was ++ restored_data reached.before (drop reached.at was)
     → (behind.at ≤ length is) × (all ≡ take behind.at is ++ restored_data behind.before (drop behind.at is))
 step-on all was is reached behind step done =
-    let on = restored-on all was is reached.before reached.at behind.at step.word step.stands step.front step.put done in
+    let on =
+    restored-on all was is reached.before reached.at behind.at step.word step.stands step.front step.put done in
     (on.0, on.1 ∙ ap (λ (t : ℕ). take behind.at is ++ restored_data t (drop behind.at is)) (sym step.time))

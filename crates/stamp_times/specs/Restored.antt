@@ -2,7 +2,8 @@
 -- reader that knows the time before a stamp takes the bits above them from it, and adds 2^59 if the stamp would be
 -- earlier.
 use Rattle.std.specs.Prelude.{ℕ, ◌+◌, ◌-◌, ◌%◌, ◌^◌, if◌then◌else◌, nat_lt, List, [], ◌∷◌, ◌++◌, length, take, drop}
-use Rattle.trace_model.specs.Words.{Word, short_data, long_data, padding, time_extend, time_stamp, joined, word_time_limit}
+use Rattle.trace_model.specs.Words.{Word, short_data, long_data, padding, time_extend, time_stamp, joined}
+use Rattle.trace_model.specs.Words.{word_time_limit}
 use Rattle.trace_model.specs.Reading.{words_in}
 use Rattle.trace_model.specs.Image.{from_le64}
 use Rattle.page_image.specs.Images.{data_in, behind_data}

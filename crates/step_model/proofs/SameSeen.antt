@@ -1,7 +1,8 @@
 -- What is found to be the same is one.
 use Rattle.std.proofs.Common.{◌≡◌, ℕ, true, ◌&&◌, ◌==◌, refl, ap}
 use Rattle.std.proofs.lemmas.Bool.{false≢true, eqb-true, and_parts}
-use Rattle.trace_model.specs.Frames.{Progress, waiting, left, reserved, Role, owner, helper, Phase, idle, looking, claiming, looking_next, marking, clearing, opening, releasing, wishing}
+use Rattle.trace_model.specs.Frames.{Progress, waiting, left, reserved, Role, owner, helper, Phase, idle, looking}
+use Rattle.trace_model.specs.Frames.{claiming, looking_next, marking, clearing, opening, releasing, wishing}
 use Rattle.trace_model.specs.Ring.{ReaderPhase, loading_head, loading_done, storing_spare_link, swapping}
 use Rattle.step_model.specs.Seen.{ReaderSeen}
 use Rattle.step_model.specs.Changes.{same_role, same_state, same_phase, same_reader_phase, same_reader}
@@ -41,14 +42,18 @@ phase_is_one _ _ e = absurd (false≢true e)
 
 reader_phase_is : (a b : ReaderPhase) → same_reader_phase a b ≡ true → a ≡ b
 reader_phase_is loading_head loading_head e = refl
-reader_phase_is (loading_done page fill) (loading_done p f) e = let (x, y) = two page fill p f e in (λ i. loading_done (x i) (y i))
-reader_phase_is (storing_spare_link page fill) (storing_spare_link p f) e = let (x, y) = two page fill p f e in (λ i. storing_spare_link (x i) (y i))
+reader_phase_is (loading_done page fill) (loading_done p f) e = let (x, y) = two page fill p f e in
+    (λ i. loading_done (x i) (y i))
+reader_phase_is (storing_spare_link page fill) (storing_spare_link p f) e = let (x, y) = two page fill p f e in
+    (λ i. storing_spare_link (x i) (y i))
 reader_phase_is (swapping page fill) (swapping p f) e = let (x, y) = two page fill p f e in (λ i. swapping (x i) (y i))
 reader_phase_is _ _ e = absurd (false≢true e)
 
 pub reader_is_one : (a b : ReaderSeen) → same_reader a b ≡ true → a ≡ b
 reader_is_one a b e =
-    let (phs, x) = and_parts (same_reader_phase a.phase b.phase && a.hint == b.hint && a.seen == b.seen) (a.expected == b.expected) e in
+    let (phs, x) =
+    and_parts (same_reader_phase a.phase b.phase && a.hint == b.hint && a.seen == b.seen) (a.expected == b.expected)
+    e in
     let (ph, s) = and_parts (same_reader_phase a.phase b.phase && a.hint == b.hint) (a.seen == b.seen) phs in
     let (p, h) = and_parts (same_reader_phase a.phase b.phase) (a.hint == b.hint) ph in
     (λ i. record {

@@ -1,9 +1,12 @@
 -- What a step changes of what is seen of a ring: the keys whose values are new. docs/FORMATS.md, "Step text".
 use Rattle.std.specs.Prelude.{ℕ, suc, Bool, true, false, if◌then◌else◌, ◌&&◌, ◌==◌, nat_lt, List, [], ◌∷◌, ◌++◌, length}
 use Rattle.trace_model.specs.Links.{Link, same_link}
-use Rattle.trace_model.specs.Frames.{Progress, waiting, left, reserved, Role, owner, helper, Phase, idle, looking, claiming, looking_next, marking, clearing, opening, releasing, wishing, Frame}
+use Rattle.trace_model.specs.Frames.{Progress, waiting, left, reserved, Role, owner, helper, Phase, idle, looking}
+use Rattle.trace_model.specs.Frames.{claiming, looking_next, marking, clearing, opening, releasing, wishing, Frame}
 use Rattle.trace_model.specs.Ring.{ReaderPhase, loading_head, loading_done, storing_spare_link, swapping}
-use Rattle.step_model.specs.Seen.{ReaderSeen, CountsSeen, RingSeen, CountKey, spare_key, done_key, opened_key, wish_key, head_key, committed_key, Change, link_is, spare_link_is, page_is, count_is, frame_is, frame_gone, phase_is, reader_is}
+use Rattle.step_model.specs.Seen.{ReaderSeen, CountsSeen, RingSeen, CountKey, spare_key, done_key, opened_key, wish_key}
+use Rattle.step_model.specs.Seen.{head_key, committed_key, Change, link_is, spare_link_is, page_is, count_is, frame_is}
+use Rattle.step_model.specs.Seen.{frame_gone, phase_is, reader_is}
 
 -- ---- whether two are the same
 

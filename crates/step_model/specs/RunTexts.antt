@@ -9,7 +9,8 @@ use Rattle.trace_model.specs.Parcel.{Parcel}
 use Rattle.text_model.specs.Text.{line_feed}
 use Rattle.text_model.specs.Log.{Delivery, new_page, known_page, no_page, delivery_line}
 use Rattle.text_model.specs.Printing.{printed_log_line}
-use Rattle.text_model.specs.Script.{Command, begin_frame, step_frame, finish_frame, write, close, step_reader, take_page, wish, deliver, Script}
+use Rattle.text_model.specs.Script.{Command, begin_frame, step_frame, finish_frame, write, close, step_reader}
+use Rattle.text_model.specs.Script.{take_page, wish, deliver, Script}
 use Rattle.world_model.specs.Lanes.{Lane}
 use Rattle.world_model.specs.World.{World, IsNewWorld, RunsLine, DeliversTaken, DeliversNothing}
 use Rattle.step_model.specs.Seen.{ring_seen}

@@ -3,7 +3,8 @@
 use Rattle.std.specs.Prelude.{◌≡◌, ℕ, ◌+◌, max, Bool, true, false, if◌then◌else◌, ◌&&◌, ◌==◌, List, [], ◌∷◌, length}
 use Rattle.trace_model.specs.History.{last_moment, reserved_records}
 use Rattle.trace_model.specs.HistoryLaws.{committed_count}
-use Rattle.trace_model.specs.Frames.{Purpose, for_record, for_close, Progress, waiting, left, reserved, owner, Phase, claiming, looking_next, Frame}
+use Rattle.trace_model.specs.Frames.{Purpose, for_record, for_close, Progress, waiting, left, reserved, owner, Phase}
+use Rattle.trace_model.specs.Frames.{claiming, looking_next, Frame}
 use Rattle.trace_model.specs.Ring.{Core}
 use Rattle.trace_model.specs.Steps.{Answer, reserved_as, page_taken}
 

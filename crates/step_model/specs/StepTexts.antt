@@ -1,15 +1,22 @@
 -- The text of one step of a ring: a line that says what was done and answered, and below it a line for each key whose
 -- value is new. docs/FORMATS.md, "Step text".
-use Rattle.std.specs.Prelude.{ℕ, suc, ◌-◌, Bool, true, false, if◌then◌else◌, ◌==◌, List, [], ◌∷◌, ◌++◌, length, flat_map, codes, Option, Some, None}
+use Rattle.std.specs.Prelude.{ℕ, suc, ◌-◌, Bool, true, false, if◌then◌else◌, ◌==◌, List, [], ◌∷◌, ◌++◌, length}
+use Rattle.std.specs.Prelude.{flat_map, codes, Option, Some, None}
 use Rattle.std.specs.Fmt.{decimal}
 use Rattle.trace_model.specs.History.{last_moment, reserved_records}
 use Rattle.trace_model.specs.Links.{Mark, normal, header, update, Link, same_link}
-use Rattle.trace_model.specs.Frames.{Purpose, for_record, for_close, Progress, waiting, left, reserved, Role, owner, helper, Phase, idle, looking, claiming, looking_next, marking, clearing, opening, releasing, wishing, noted_fill, Frame}
+use Rattle.trace_model.specs.Frames.{Purpose, for_record, for_close, Progress, waiting, left, reserved, Role, owner}
+use Rattle.trace_model.specs.Frames.{helper, Phase, idle, looking, claiming, looking_next, marking, clearing, opening}
+use Rattle.trace_model.specs.Frames.{releasing, wishing, noted_fill, Frame}
 use Rattle.trace_model.specs.Ring.{ReaderPhase, loading_head, loading_done, storing_spare_link, swapping, Core, page_at}
-use Rattle.trace_model.specs.Steps.{Event, pushes, pushes_close, steps, ends, reads, wishes, Answer, pushed, going, reserved_as, pending, full, gone, refused, reading, empty, moving, page_taken, wished_for}
+use Rattle.trace_model.specs.Steps.{Event, pushes, pushes_close, steps, ends, reads, wishes, Answer, pushed, going}
+use Rattle.trace_model.specs.Steps.{reserved_as, pending, full, gone, refused, reading, empty, moving, page_taken}
+use Rattle.trace_model.specs.Steps.{wished_for}
 use Rattle.text_model.specs.Text.{hex_text, line_feed, space}
 use Rattle.text_model.specs.Printing.{refusal_text, line_text}
-use Rattle.step_model.specs.Seen.{ReaderSeen, ring_seen, CountKey, spare_key, done_key, opened_key, wish_key, head_key, committed_key, Change, link_is, spare_link_is, page_is, count_is, frame_is, frame_gone, phase_is, reader_is}
+use Rattle.step_model.specs.Seen.{ReaderSeen, ring_seen, CountKey, spare_key, done_key, opened_key, wish_key, head_key}
+use Rattle.step_model.specs.Seen.{committed_key, Change, link_is, spare_link_is, page_is, count_is, frame_is}
+use Rattle.step_model.specs.Seen.{frame_gone, phase_is, reader_is}
 use Rattle.step_model.specs.Changes.{changes}
 
 -- ---- a key and its value

@@ -1,5 +1,6 @@
 -- The parts after a step follow from those before it, the answer and the ring.
-use Rattle.std.proofs.Common.{◌≡◌, ℕ, suc, ◌+◌, ◌<◌, ◌^◌, Bool, if◌then◌else◌, ◌||◌, List, [], ◌∷◌, length, Option, Some, None, refl, sym, ap, ◌∙◌, arith}
+use Rattle.std.proofs.Common.{◌≡◌, ℕ, suc, ◌+◌, ◌<◌, ◌^◌, Bool, if◌then◌else◌, ◌||◌, List, [], ◌∷◌, length, Option}
+use Rattle.std.proofs.Common.{Some, None, refl, sym, ap, ◌∙◌, arith}
 use Rattle.std.proofs.lemmas.Bool.{and_left, ne_eqb}
 use Prim.Native.Nat.compare
 use Rattle.trace_model.specs.HistoryLaws.{committed_count}
@@ -16,7 +17,8 @@ use Rattle.ring_frames.specs.ReaderPhases.{reader_phase_of}
 use Rattle.ring_frames.specs.Value.{FramesValue}
 use Rattle.ring_frames.specs.AreFrames.{frames_in_phases, AreBelow, AreFrames}
 use Rattle.ring_frames.specs.declared.answer.Answer.{Answer}
-use Rattle.ring_frames.specs.declared.answer.Answer.TheVariants.{Pushed, Going, Reserved, Ended, Gone, Refused, Looking, Empty, Moving, Taken, Wished}
+use Rattle.ring_frames.specs.declared.answer.Answer.TheVariants.{Pushed, Going, Reserved, Ended, Gone, Refused, Looking}
+use Rattle.ring_frames.specs.declared.answer.Answer.TheVariants.{Empty, Moving, Taken, Wished}
 use Rattle.nested_writer.specs.declared.stack.leave.Ended.TheVariants.{Pending, Full}
 use Rattle.ring_frames.specs.Answers.{IsAnswerOf}
 use Rattle.step_model.specs.Seen.{counts_seen, reader_seen}
@@ -46,19 +48,25 @@ records_fit p c k =
 
 -- ---- frames
 
-phases_long : (frames : List stack.Frame) (phases : List Phase) → length phases ≡ length frames → length (frames_in_phases frames phases) ≡ length frames
+phases_long : (frames : List stack.Frame) (phases : List Phase) → length phases ≡ length frames
+    → length (frames_in_phases frames phases) ≡ length frames
 phases_long [] phases e = refl
 phases_long (f ∷ frames) [] e = absurd (omega arith)
 phases_long (f ∷ frames) (phase ∷ phases) e = ap suc (phases_long frames phases (omega arith))
 
-frames_long : (frames : List stack.Frame) (phase : Phase) (below : List Phase) → AreBelow frames below → length (frames_in_phases frames (phase ∷ below)) ≡ length frames
+frames_long : (frames : List stack.Frame) (phase : Phase) (below : List Phase) → AreBelow frames below
+    → length (frames_in_phases frames (phase ∷ below)) ≡ length frames
 frames_long [] phase below none = refl
 frames_long (f ∷ frames) phase below e = ap suc (phases_long frames below e)
 
-pub depth_is : (n size start : ℕ) (v : FramesValue) (c : Core) → AreFrames n size start v c → length v.stack.frames ≡ length c.frames
-depth_is n size start v c are = sym (ap length are.frames_are ∙ frames_long v.stack.frames v.phase v.below are.below_are)
+pub depth_is : (n size start : ℕ) (v : FramesValue) (c : Core) → AreFrames n size start v c
+    → length v.stack.frames ≡ length c.frames
+depth_is n size start v c are =
+    sym (ap length are.frames_are ∙ frames_long v.stack.frames v.phase v.below are.below_are)
 
-pub claims_in : (olds news : List Frame) (depth now : ℕ) (old new : Option FrameSeen) → depth ≡ length olds → now ≡ length news → top_in old ≡ top_frame olds → top_in new ≡ top_frame news → some_claims depth now old new ≡ top_claims olds news
+pub claims_in : (olds news : List Frame) (depth now : ℕ) (old new : Option FrameSeen) → depth ≡ length olds
+    → now ≡ length news → top_in old ≡ top_frame olds → top_in new ≡ top_frame news
+    → some_claims depth now old new ≡ top_claims olds news
 claims_in [] news depth now None new d e o w = refl
 claims_in [] news depth now (Some f) new d e o w = absurd (cc)
 claims_in (old ∷ olds) news depth now None new d e o w = absurd (cc)
@@ -70,7 +78,8 @@ claims_in (old ∷ olds) (new ∷ news) depth now (Some f) (Some g) d e o w =
     let other : frame_in g ≡ new = cc in
     rw (d, e, ← same, ← other) (rw compare.suc-suc refl)
 
-pub left_in : (frames : List Frame) (depth : ℕ) (top : Option FrameSeen) → depth ≡ length frames → top_in top ≡ top_frame frames → all_have_left_in depth top ≡ all_have_left frames
+pub left_in : (frames : List Frame) (depth : ℕ) (top : Option FrameSeen) → depth ≡ length frames
+    → top_in top ≡ top_frame frames → all_have_left_in depth top ≡ all_have_left frames
 left_in [] depth None d t = refl
 left_in [] depth (Some f) d t = absurd (cc)
 left_in (frame ∷ below) depth None d t = absurd (cc)
@@ -79,7 +88,8 @@ left_in (frame ∷ []) depth (Some f) d t =
     rw (d, ← same) refl
 left_in (frame ∷ next ∷ below) depth (Some f) d t = and_left _ _ (ne_eqb depth 1 (λ e. absurd (omega arith)))
 
-pub moment_in : (frames : List Frame) (top : Option FrameSeen) → top_in top ≡ top_frame frames → top_moment_in top ≡ top_moment frames
+pub moment_in : (frames : List Frame) (top : Option FrameSeen) → top_in top ≡ top_frame frames
+    → top_moment_in top ≡ top_moment frames
 moment_in [] None t = refl
 moment_in [] (Some f) t = absurd (cc)
 moment_in (frame ∷ below) None t = absurd (cc)
@@ -87,16 +97,28 @@ moment_in (frame ∷ below) (Some f) t =
     let same : frame_in f ≡ frame = cc in
     rw (← same) refl
 
-pub counts_are : (k : Counts) (c : Core) → k.spare ≡ c.spare → k.done ≡ c.done → k.opened ≡ c.opened → k.wish ≡ c.wish → k.head ≡ c.head → k.committed ≡ committed_count c.history → counts_in k ≡ counts_seen c
+pub counts_are : (k : Counts) (c : Core) → k.spare ≡ c.spare → k.done ≡ c.done → k.opened ≡ c.opened → k.wish ≡ c.wish
+    → k.head ≡ c.head → k.committed ≡ committed_count c.history → counts_in k ≡ counts_seen c
 counts_are k c spare done opened wish head committed =
-    λ i. record { spare = spare i; done = done i; opened = opened i; wish = wish i; head = head i; committed = committed i }
+    λ i.
+    record {
+      spare = spare i;
+      done = done i;
+      opened = opened i;
+      wish = wish i;
+      head = head i;
+      committed = committed i;
+    }
 
-pub reader_is : (r : TakeState) (c : Core) → reader_phase_of r.phase ≡ c.reader.phase → r.hint ≡ c.reader.hint → r.seen ≡ c.reader.seen → r.expected ≡ c.reader.expected → reader_in r ≡ reader_seen c
-reader_is r c phase hint seen expected = λ i. record { phase = phase i; hint = hint i; seen = seen i; expected = expected i }
+pub reader_is : (r : TakeState) (c : Core) → reader_phase_of r.phase ≡ c.reader.phase → r.hint ≡ c.reader.hint
+    → r.seen ≡ c.reader.seen → r.expected ≡ c.reader.expected → reader_in r ≡ reader_seen c
+reader_is r c phase hint seen expected =
+    λ i. record { phase = phase i; hint = hint i; seen = seen i; expected = expected i }
 
 -- ---- answers
 
-pub gives : (size count : ℕ) (answer : Answer) (reported : steps.Answer) → IsAnswerOf size answer reported → gives_in count answer ≡ gives_next count reported
+pub gives : (size count : ℕ) (answer : Answer) (reported : steps.Answer) → IsAnswerOf size answer reported
+    → gives_in count answer ≡ gives_next count reported
 gives size count Pushed reported is = rw is refl
 gives size count Going reported is = rw is refl
 gives size count (Reserved number) reported is = rw is refl
@@ -110,7 +132,9 @@ gives size count (Moving fill body) reported is = rw is refl
 gives size count (Taken page missed) reported (t, is, written) = rw is refl
 gives size count (Wished fill) reported is = rw is refl
 
-pub head_is : (size : ℕ) (c : Core) (answer : Answer) (reported : steps.Answer) (after : Core) (claims : Bool) → IsAnswerOf size answer reported → claims ≡ top_claims c.frames after.frames → (if takes_in answer || claims then c.head + 1 else c.head) ≡ head_after c reported after
+pub head_is : (size : ℕ) (c : Core) (answer : Answer) (reported : steps.Answer) (after : Core) (claims : Bool)
+    → IsAnswerOf size answer reported → claims ≡ top_claims c.frames after.frames
+    → (if takes_in answer || claims then c.head + 1 else c.head) ≡ head_after c reported after
 head_is size c Pushed reported after claims is e = rw (is, e) refl
 head_is size c Going reported after claims is e = rw (is, e) refl
 head_is size c (Reserved number) reported after claims is e = rw (is, e) refl

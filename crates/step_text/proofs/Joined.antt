@@ -3,7 +3,8 @@ use Rattle.std.proofs.Common.{◌≡◌, ℕ, List, ◌++◌, append_assoc, flat
 use Rattle.std.proofs.lemmas.Grind.{flat_map-append}
 use Rattle.step_model.specs.Seen.{Change}
 
-pub join_four : (o p q r s a b c d : List ℕ) → p ≡ o ++ a → q ≡ p ++ b → r ≡ q ++ c → s ≡ r ++ d → s ≡ o ++ (a ++ b ++ c ++ d)
+pub join_four : (o p q r s a b c d : List ℕ) → p ≡ o ++ a → q ≡ p ++ b → r ≡ q ++ c → s ≡ r ++ d
+    → s ≡ o ++ (a ++ b ++ c ++ d)
 join_four o p q r s a b c d e f g h = rw (h, g, f, e) (simp append_assoc)
 
 pub join_changes : (f : Change → List ℕ) (o p q r s t u : List ℕ) (a b c d e g : List Change)
@@ -32,5 +33,6 @@ pub join_phase : (o p q r s t u v w x y key depth gap name noted page next role 
 join_phase o p q r s t u v w x y key depth gap name noted page next role state end a b c d e f g h i j =
     rw (j, i, h, g, f, e, d, c, b, a) (simp append_assoc)
 
-pub join_five : (o p q r s t a b c d e : List ℕ) → p ≡ o ++ a → q ≡ p ++ b → r ≡ q ++ c → s ≡ r ++ d → t ≡ s ++ e → t ≡ o ++ (a ++ b ++ c ++ d ++ e)
+pub join_five : (o p q r s t a b c d e : List ℕ) → p ≡ o ++ a → q ≡ p ++ b → r ≡ q ++ c → s ≡ r ++ d → t ≡ s ++ e
+    → t ≡ o ++ (a ++ b ++ c ++ d ++ e)
 join_five o p q r s t a b c d e f g h i j = rw (j, i, h, g, f) (simp append_assoc)

@@ -10,12 +10,15 @@ none_new : (olds : List model.Link) → links_differ olds [] ≡ false
 none_new [] = refl
 none_new (old ∷ olds) = refl
 
-none_left : (olds news : List Link) (position : ℕ) → (length olds ≤ position) ⊎ (length news ≤ position) → links_differ (map link_of (drop position olds)) (map link_of (drop position news)) ≡ false
+none_left : (olds news : List Link) (position : ℕ) → (length olds ≤ position) ⊎ (length news ≤ position)
+    → links_differ (map link_of (drop position olds)) (map link_of (drop position news)) ≡ false
 none_left olds news position (inl short) = rw (drop_all position olds short) refl
-none_left olds news position (inr short) = rw (drop_all position news short) (none_new (map link_of (drop position olds)))
+none_left olds news position (inr short) =
+    rw (drop_all position news short) (none_new (map link_of (drop position olds)))
 
 -- behind the shorter of two lists of links none differs
-pub none_behind : (olds news : List Link) (position : ℕ) → min (length olds) (length news) ≤ position → links_differ (map link_of (drop position olds)) (map link_of (drop position news)) ≡ false
+pub none_behind : (olds news : List Link) (position : ℕ) → min (length olds) (length news) ≤ position
+    → links_differ (map link_of (drop position olds)) (map link_of (drop position news)) ≡ false
 none_behind olds news position past =
     let short : (length olds ≤ position) ⊎ (length news ≤ position) = grind arith in
     none_left olds news position short

@@ -22,13 +22,20 @@ first_fill_in known =
     key_line (codes "fill" ++ spaced known.parts.counts.head)
     (decimal (known.parts.counts.head % length known.order) ++ spaced 0)
 
-regroup : (out name keys fill : List ℕ) → ((out ++ (name ++ line_feed ∷ [])) ++ keys) ++ fill ≡ out ++ ((name ++ line_feed ∷ keys) ++ fill)
+regroup : (out name keys fill : List ℕ)
+    → ((out ++ (name ++ line_feed ∷ [])) ++ keys) ++ fill ≡ out ++ ((name ++ line_feed ∷ keys) ++ fill)
 regroup out name keys fill = simp append_assoc
 
-pub ring_written : (cpu : ℕ) (known : KnownValue) (c : Core) (out named keyed filled : List ℕ) → IsKnownOf known c → named ≡ out ++ (codes "- c" ++ decimal cpu ++ codes " new" ++ line_feed ∷ []) → keyed ≡ named ++ flat_map change_text (keys_in known) → filled ≡ keyed ++ first_fill_in known → filled ≡ out ++ new_ring_text cpu c
+pub ring_written : (cpu : ℕ) (known : KnownValue) (c : Core) (out named keyed filled : List ℕ) → IsKnownOf known c
+    → named ≡ out ++ (codes "- c" ++ decimal cpu ++ codes " new" ++ line_feed ∷ [])
+    → keyed ≡ named ++ flat_map change_text (keys_in known) → filled ≡ keyed ++ first_fill_in known
+    → filled ≡ out ++ new_ring_text cpu c
 ring_written cpu known c out named keyed filled k names keys fills =
-    fills ∙ ap (λ text. text ++ first_fill_in known) (keys ∙ ap (λ text. text ++ flat_map change_text (keys_in known)) names)
-    ∙ regroup out (codes "- c" ++ decimal cpu ++ codes " new") (flat_map change_text (keys_in known)) (first_fill_in known)
+    fills
+    ∙ ap (λ text. text ++ first_fill_in known)
+    (keys ∙ ap (λ text. text ++ flat_map change_text (keys_in known)) names)
+    ∙ regroup out (codes "- c" ++ decimal cpu ++ codes " new") (flat_map change_text (keys_in known))
+    (first_fill_in known)
     ∙ (λ i.
     out ++ (codes "- c" ++ decimal cpu ++ codes " new" ++ line_feed ∷ flat_map change_text (
     all_links 0 (k.links i) ++ spare_link_is (k.parts.spare_link i) ∷ all_pages 0 (k.order i)

@@ -1,5 +1,6 @@
 -- What telling a step rests on: the stack is not deep, and a ring keeps its number of positions.
-use Rattle.std.proofs.Common.{zero, suc, [], ◌∷◌, map, get_or, Some, slice_get, slice_set, ◌≡◌, ℕ, ◌<◌, ◌^◌, List, length, ◌++◌, append_assoc, sym, ap, ◌∙◌, subst, arith}
+use Rattle.std.proofs.Common.{zero, suc, [], ◌∷◌, map, get_or, Some, slice_get, slice_set, ◌≡◌, ℕ, ◌<◌, ◌^◌, List}
+use Rattle.std.proofs.Common.{length, ◌++◌, append_assoc, sym, ap, ◌∙◌, subst, arith}
 use Rattle.std.proofs.lemmas.List.{map-set}
 use Rattle.std.proofs.lemmas.Option.{slice_get_within}
 use Rattle.ring_core.proofs.Homes.{get_set_same, get_set_other}
@@ -18,39 +19,45 @@ use Rattle.step_text.specs.Seen.{ArePartsOf}
 use Rattle.step_text.specs.Known.{KnownValue, StepTextValue, known_in, step_text_of, IsKnownOf}
 use Rattle.step_text.specs.Tells.{IsToldOf, IsTold, MayTellOf}
 
-pub depth_fits : (n size start : ℕ) (p : Parts) (c : Core) → IsReached n size start c → ArePartsOf p c → p.depth < 2 ^ 63
+pub depth_fits : (n size start : ℕ) (p : Parts) (c : Core) → IsReached n size start c → ArePartsOf p c
+    → p.depth < 2 ^ 63
 depth_fits n size start p c reached parts =
     let few = (reached_kept n size start c reached).stack.few in
     let depth = parts.depth in
     omega arith
 
-module _ (asked : Asked) (answer : Answer) (ring : CoreValue) (k : KnownValue) (may : MayTellOf asked answer ring k) where
-  pub links_alike : length k.links ≡ length ring.links
-  links_alike =
-      let old = (reached_kept may.n may.size may.start may.before may.step.reached).links.positions in
-      ap length may.known.links ∙ old ∙ sym may.step.is_core.shows.positions
+module _ (asked : Asked) (answer : Answer) (ring : CoreValue) (k : KnownValue) (may : MayTellOf asked answer ring k)
+  where
+    pub links_alike : length k.links ≡ length ring.links
+    links_alike =
+        let old = (reached_kept may.n may.size may.start may.before may.step.reached).links.positions in
+        ap length may.known.links ∙ old ∙ sym may.step.is_core.shows.positions
 
-  pub order_alike : length k.order ≡ length ring.order
-  order_alike =
-      let old = (reached_kept may.n may.size may.start may.before may.step.reached).links.apart.pages in
-      let new = (reached_kept may.n may.size may.start may.after may.step.is_core.reached).links.apart.pages in
-      ap length may.known.order ∙ old ∙ sym new ∙ ap length may.step.is_core.shows.order_is
+    pub order_alike : length k.order ≡ length ring.order
+    order_alike =
+        let old = (reached_kept may.n may.size may.start may.before may.step.reached).links.apart.pages in
+        let new = (reached_kept may.n may.size may.start may.after may.step.is_core.reached).links.apart.pages in
+        ap length may.known.order ∙ old ∙ sym new ∙ ap length may.step.is_core.shows.order_is
 
 -- after a step this is known
-pub knows_after : (n size start : ℕ) (ring : CoreValue) (parts : Parts) (k : KnownValue) (c : Core) → IsCore n size start ring c → ArePartsOf parts c → k ≡ record { links = ring.links; order = ring.order; parts = parts } → IsKnownOf k c
+pub knows_after : (n size start : ℕ) (ring : CoreValue) (parts : Parts) (k : KnownValue) (c : Core)
+    → IsCore n size start ring c → ArePartsOf parts c
+    → k ≡ record { links = ring.links; order = ring.order; parts = parts } → IsKnownOf k c
 knows_after n size start ring parts k c core are is = subst (λ (x : KnownValue). IsKnownOf x c) (sym is) record {
   links = sym core.shows.links_are;
   order = sym core.shows.order_is;
   parts = are;
 }
 
-pub join_told : (o p q r line changes a b c d : List ℕ) → p ≡ o ++ line → q ≡ p ++ changes → r ≡ q ++ (a ++ b ++ c ++ d) → r ≡ o ++ (line ++ changes ++ a ++ b ++ c ++ d)
+pub join_told : (o p q r line changes a b c d : List ℕ) → p ≡ o ++ line → q ≡ p ++ changes → r ≡ q ++ (a ++ b ++ c ++ d)
+    → r ≡ o ++ (line ++ changes ++ a ++ b ++ c ++ d)
 join_told o p q r line changes a b c d e f g = rw (g, f, e) (simp append_assoc)
 
 -- ---- of all rings
 
 -- what is known of the ring of a CPU is what its item says
-pub item_known : (rings : List Known) (cpu : ℕ) (item : Known) (k : KnownValue) → item ≡ get_or rings cpu item → slice_get (map known_in rings) cpu ≡ Some k → k ≡ known_in item
+pub item_known : (rings : List Known) (cpu : ℕ) (item : Known) (k : KnownValue) → item ≡ get_or rings cpu item
+    → slice_get (map known_in rings) cpu ≡ Some k → k ≡ known_in item
 item_known [] cpu item k e at = absurd (cc)
 item_known (ring ∷ rings) zero item k e at = let same : known_in ring ≡ k = cc in sym same ∙ ap known_in (sym e)
 item_known (ring ∷ rings) (suc cpu) item k e at = item_known rings cpu item k e at
@@ -60,12 +67,14 @@ abbrev pub with_ring : Inside → (cpu : ℕ) → List ℕ → Known → StepTex
 with_ring w cpu text item = record { text = text; rings = map known_in (slice_set w.rings.items cpu item) }
 
 -- the step's text is appended, and of its ring alone something new is known
-pub is_told : (w : Inside) (cpu line : ℕ) (more : List ℕ) (item : Known) (k : KnownValue) (before after : Core) (event : model.Event) (reported : model.Answer)
+pub is_told : (w : Inside) (cpu line : ℕ) (more : List ℕ) (item : Known) (k : KnownValue) (before after : Core)
+    (event : model.Event) (reported : model.Answer)
     → slice_get (step_text_of w).rings cpu ≡ Some k
     → IsToldOf line cpu before after event reported w.text.items more (known_in item)
     → IsTold line cpu before after event reported (step_text_of w) (with_ring w cpu more item)
 is_told w cpu line more item k before after event reported at told =
-    subst (λ (rings : List KnownValue). IsTold line cpu before after event reported (step_text_of w) record { text = more; rings = rings })
+    subst (λ (rings : List KnownValue).
+    IsTold line cpu before after event reported (step_text_of w) record { text = more; rings = rings })
     (sym (map-set known_in w.rings.items cpu item))
     record {
       text = told.text;

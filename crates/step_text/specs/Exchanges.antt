@@ -1,6 +1,7 @@
 -- Which steps begin again, and which are compare and exchanges.
 use Rattle.std.specs.Prelude.{ℕ, Bool, true, false, ◌==◌, not}
-use Rattle.trace_model.specs.Frames.{Progress, waiting, reserved, left, Frame, owner, helper, Phase, looking, claiming, looking_next, marking, opening}
+use Rattle.trace_model.specs.Frames.{Progress, waiting, reserved, left, Frame, owner, helper, Phase, looking, claiming}
+use Rattle.trace_model.specs.Frames.{looking_next, marking, opening}
 
 abbrev pub is_late : (noted opened : ℕ) → Bool
 is_late noted opened = not (noted == opened)

@@ -2,7 +2,7 @@
 use crate::parcels::parcel_of;
 use collector::{AddFault, Added, Collector};
 use std::test::Fail;
-use time_merge::listing;
+use time_merge::{lines_by_time, listing};
 use trace_model::{CpuId, Moment, RecordNo};
 
 #[test]
@@ -48,5 +48,7 @@ fn a_collector_is_listed(rt: HostRuntime) -> Result<(), Fail> {
     for line in &lines {
         assert!(rt; line.moment == Moment(2) && line.bytes == b"abcd".as_slice());
     }
+    let mut listed = lines_by_time(rt.alloc(), &collector)?;
+    assert!(rt; listed.next() == Some(lines[0]) && listed.next().is_none());
     Ok(())
 }

@@ -1,5 +1,6 @@
 -- Hexadecimal digits: those of the kit's table are those of the definition.
-use Rattle.std.proofs.Common.{Bool, ◌≡◌, ℕ, zero, suc, ◌+◌, ◌/◌, ◌%◌, ◌<◌, ◌==◌, true, List, [], ◌∷◌, length, get_or, refl, ap, ◌∙◌, arith}
+use Rattle.std.proofs.Common.{Bool, ◌≡◌, ℕ, zero, suc, ◌+◌, ◌/◌, ◌%◌, ◌<◌, ◌==◌, true, List, [], ◌∷◌, length, get_or}
+use Rattle.std.proofs.Common.{refl, ap, ◌∙◌, arith}
 use Rattle.std.specs.Char.{digit_char}
 use Rattle.std.specs.List.{list_all, enumerate_from}
 use Rattle.std.proofs.lemmas.Bool.{and_parts, eqb-true}
@@ -28,7 +29,8 @@ sixteen = refl
 
 digit_is : (d : ℕ) → d < 16 → get_or lower_digits d 0 ≡ digit_char d
 digit_is d small =
-    let here : 0 + d ≡ d = omega arith in digit_in lower_digits 0 d all_digits (omega (arith, sixteen)) ∙ ap digit_char here
+    let here : 0 + d ≡ d = omega arith in
+    digit_in lower_digits 0 d all_digits (omega (arith, sixteen)) ∙ ap digit_char here
 
 -- bytes in the kit's digits
 pub digits_are : (bytes : List ℕ) → ((k : ℕ) → get_or bytes k 0 < 256) → encode_lower bytes ≡ pairs_of bytes

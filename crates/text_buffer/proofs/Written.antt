@@ -1,5 +1,6 @@
 -- What was put stays put when the buffer is written out, and when more is added.
-use Rattle.std.proofs.Common.{◌≡◌, ℕ, ◌+◌, Bool, true, false, List, [], ◌++◌, length, take, drop, refl, sym, ap, ◌∙◌, subst, arith, append-nil, append_assoc, length-append}
+use Rattle.std.proofs.Common.{◌≡◌, ℕ, ◌+◌, Bool, true, false, List, [], ◌++◌, length, take, drop, refl, sym, ap, ◌∙◌}
+use Rattle.std.proofs.Common.{subst, arith, append-nil, append_assoc, length-append}
 use Rattle.std.specs.Prelude.{Option, Result, Ok, Err, OnOk, OnErr, IsOk, IsErr, ◌↔◌}
 use Rattle.std.specs.Io.KnownBytes.{Appends}
 use Rattle.std.proofs.Math.Seq.{take-append-add}
@@ -79,7 +80,8 @@ pub piece_more : (so_far piece more rest all : List ℕ) (n : ℕ) → piece ≡
 piece_more so_far piece more rest all n front back is =
     append_assoc so_far piece more
     ∙ ap (λ (text : List ℕ). so_far ++ text)
-    (ap (λ (text : List ℕ). text ++ more) front ∙ ap (λ (text : List ℕ). take n rest ++ text) back ∙ take-append-drop n rest)
+    (ap (λ (text : List ℕ). text ++ more) front ∙ ap (λ (text : List ℕ). take n rest ++ text) back
+    ∙ take-append-drop n rest)
     ∙ is
 
 -- one piece more, as digits
@@ -89,7 +91,9 @@ digits_more so_far piece more rest all n front back is =
     append_assoc so_far (pairs_of piece) (pairs_of more)
     ∙ ap (λ (text : List ℕ). so_far ++ text)
     (sym (flat_map-append pair_of piece more)
-    ∙ ap pairs_of (ap (λ (text : List ℕ). text ++ more) front ∙ ap (λ (text : List ℕ). take n rest ++ text) back ∙ take-append-drop n rest))
+    ∙ ap pairs_of
+    (ap (λ (text : List ℕ). text ++ more) front ∙ ap (λ (text : List ℕ). take n rest ++ text) back
+    ∙ take-append-drop n rest))
     ∙ is
 
 pub ok_fact : {A E P : Type 0} (result : Result A E) → IsOk result → OnOk result P → P

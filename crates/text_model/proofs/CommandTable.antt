@@ -4,7 +4,9 @@ use Rattle.std.specs.Str.{bytes_eq}
 use Rattle.std.proofs.lemmas.Bool.{cond-false}
 use Rattle.text_model.specs.ScriptLines.{LineFault, bad_line, ◌>>=◌, decimal_in, number_below, cpu_in, payload_in}
 use Rattle.text_model.proofs.FieldWords.{same_word, cpu_is_no_delivery}
-use Rattle.text_model.specs.Script.{Command, begin_frame, step_frame, finish_frame, write, close, step_reader, take_page, wish, deliver, count_in, command_of, SpellsRecord, SpellsOfCpu, SpellsSteps, SpellsCommand}
+use Rattle.text_model.specs.Script.{Command, begin_frame, step_frame, finish_frame, write, close, step_reader}
+use Rattle.text_model.specs.Script.{take_page, wish, deliver, count_in, command_of, SpellsRecord, SpellsOfCpu}
+use Rattle.text_model.specs.Script.{SpellsSteps, SpellsCommand}
 use Rattle.text_model.specs.CommandReading.{record_in, of_cpu, steps_in, deliver_in}
 use Rattle.text_model.proofs.Readings.{ok_is_no_err, same_ok, bind_ok, chosen}
 

@@ -18,12 +18,15 @@ err_is_no_ok e x h = absurd (cc)
 pub same_word : (field word : Field) → bytes_eq field word ≡ true → field ≡ word
 same_word field word h = (bytes_eq-Decides field word).0 h
 
-cpu_is_no_delivery_at : (cpus cpu : ℕ) (field : Field) (names : Bool) → (field ≡ codes "d") → names_cpu field ≡ names → cond names (number_below cpus (drop 1 field)) (Err bad_line) ≡ Ok cpu → ⊥
+cpu_is_no_delivery_at : (cpus cpu : ℕ) (field : Field) (names : Bool) → (field ≡ codes "d") → names_cpu field ≡ names
+    → cond names (number_below cpus (drop 1 field)) (Err bad_line) ≡ Ok cpu → ⊥
 cpu_is_no_delivery_at cpus cpu field true is names h = both_ways (names_cpu field) (ap names_cpu is) names
 cpu_is_no_delivery_at cpus cpu field false is names h = err_is_no_ok bad_line cpu h
 
 -- a field that names a CPU isn't the word of a delivery
-pub cpu_is_no_delivery : (cpus cpu : ℕ) (field : Field) → cpu_in cpus field ≡ Ok cpu → bytes_eq field (codes "d") ≡ false
+pub cpu_is_no_delivery : (cpus cpu : ℕ) (field : Field) → cpu_in cpus field ≡ Ok cpu
+    → bytes_eq field (codes "d") ≡ false
 unfolding cpu_in
 cpu_is_no_delivery cpus cpu field h =
-    false_from_ne_true (bytes_eq field (codes "d")) (λ yes. cpu_is_no_delivery_at cpus cpu field (names_cpu field) (same_word field (codes "d") yes) refl h)
+    false_from_ne_true (bytes_eq field (codes "d"))
+    (λ yes. cpu_is_no_delivery_at cpus cpu field (names_cpu field) (same_word field (codes "d") yes) refl h)

@@ -1,5 +1,6 @@
 -- What a text spells is within the limits: commands, scripts.
-use Rattle.std.proofs.Common.{ℕ, ◌+◌, ◌-◌, ◌<◌, ◌≤◌, Bool, true, false, ◌&&◌, cond, leb, List, [], ◌∷◌, Result, Ok, arith}
+use Rattle.std.proofs.Common.{ℕ, ◌+◌, ◌-◌, ◌<◌, ◌≤◌, Bool, true, false, ◌&&◌, cond, leb, List, [], ◌∷◌, Result, Ok}
+use Rattle.std.proofs.Common.{arith}
 use Rattle.std.specs.List.{AllByRecursion}
 use Rattle.std.specs.Prelude.{codes}
 use Rattle.std.specs.Result.{IfOk}
@@ -9,12 +10,17 @@ use Rattle.std.proofs.lemmas.List.Elements.{All-from_recursion}
 use Rattle.std.proofs.lemmas.Result.{IfOk-at_ok}
 use Rattle.trace_model.specs.declared.limits.TheConstants.{MAX_PAGES, LINK_FILLS}
 use Rattle.text_model.specs.Text.{fields_of, is_well_spaced}
-use Rattle.text_model.specs.ScriptLines.{LineFault, bad_line, out_of_range, decimal_in, payload_in, number_below, cpu_in, NumberedLine, significant_lines}
+use Rattle.text_model.specs.ScriptLines.{LineFault, bad_line, out_of_range, decimal_in, payload_in, number_below}
+use Rattle.text_model.specs.ScriptLines.{cpu_in, NumberedLine, significant_lines}
 use Rattle.text_model.specs.declared.script_limits.TheConstants.{MIN_LINE_STEPS, MAX_LINE_STEPS}
-use Rattle.text_model.specs.Script.{Command, begin_frame, step_frame, finish_frame, write, close, step_reader, take_page, wish, Script, count_in, command_of, command_in, header_settings, start_setting, GivesStart, SpellCommands, SpellScript, ParsesScript}
+use Rattle.text_model.specs.Script.{Command, begin_frame, step_frame, finish_frame, write, close, step_reader}
+use Rattle.text_model.specs.Script.{take_page, wish, Script, count_in, command_of, command_in, header_settings}
+use Rattle.text_model.specs.Script.{start_setting, GivesStart, SpellCommands, SpellScript, ParsesScript}
 use Rattle.text_model.specs.CommandReading.{record_in, of_cpu, steps_in, deliver_in}
 use Rattle.text_model.specs.ScriptLimits.{IsRecordWithin, AreStepsWithin, IsCommandWithin, IsWithinLimits}
-use Rattle.text_model.proofs.FieldLimits.{tested-within, then-within, Is64Bit, decimal_in-within, number_below-within, cpu_in-within, AreBytes, payload_in-within, IsAllowed, value_in-within, settings-within}
+use Rattle.text_model.proofs.FieldLimits.{tested-within, then-within, Is64Bit, decimal_in-within, number_below-within}
+use Rattle.text_model.proofs.FieldLimits.{cpu_in-within, AreBytes, payload_in-within, IsAllowed, value_in-within}
+use Rattle.text_model.proofs.FieldLimits.{settings-within}
 
 -- ---- commands
 

@@ -1,15 +1,21 @@
 -- What the plain reader of a script answers, tied to the definition of whole texts.
-use Rattle.std.proofs.Common.{◌≡◌, ℕ, ◌⊎◌, Bool, true, false, cond, List, [], ◌∷◌, ◌++◌, length, get_or, suc, arith, Result, Ok, Err, refl, sym, ◌∙◌, ap, subst, inl, inr, append_assoc}
+use Rattle.std.proofs.Common.{◌≡◌, ℕ, ◌⊎◌, Bool, true, false, cond, List, [], ◌∷◌, ◌++◌, length, get_or, suc, arith}
+use Rattle.std.proofs.Common.{Result, Ok, Err, refl, sym, ◌∙◌, ap, subst, inl, inr, append_assoc}
 use Rattle.std.proofs.lemmas.Bool.{cond-true, cond-false}
 use Rattle.std.proofs.lemmas.List.{append-nil, length-append}
 use Rattle.trace_model.specs.declared.limits.TheConstants.{START_FILL}
-use Rattle.text_model.specs.ScriptLines.{LineFault, bad_line, ◌>>=◌, NumberedLine, Setting, value_in, GiveSettings, IsFaultySetting, IsMissingSetting}
+use Rattle.text_model.specs.ScriptLines.{LineFault, bad_line, ◌>>=◌, NumberedLine, Setting, value_in, GiveSettings}
+use Rattle.text_model.specs.ScriptLines.{IsFaultySetting, IsMissingSetting}
 use Rattle.text_model.specs.HeaderReading.{numbered_reading, settings_from}
-use Rattle.text_model.proofs.SettingLemmas.{settings_ok, settings_given, settings_err, faulty_setting_read, missing_setting_read, length_given, four_values}
-use Rattle.text_model.specs.Script.{Command, Script, command_in, header_settings, start_setting, is_start_line, BeginsNoStart, GivesStart, SpellCommands, SpellScript, IsFaultyStart, IsFaultyCommand}
+use Rattle.text_model.proofs.SettingLemmas.{settings_ok, settings_given, settings_err, faulty_setting_read}
+use Rattle.text_model.proofs.SettingLemmas.{missing_setting_read, length_given, four_values}
+use Rattle.text_model.specs.Script.{Command, Script, command_in, header_settings, start_setting, is_start_line}
+use Rattle.text_model.specs.Script.{BeginsNoStart, GivesStart, SpellCommands, SpellScript, IsFaultyStart}
+use Rattle.text_model.specs.Script.{IsFaultyCommand}
 use Rattle.text_model.specs.ScriptReading.{commands_from, start_from, script_from}
 use Rattle.text_model.proofs.Readings.{ok_is_no_err, same_ok, same_err, bind_ok, bind_err}
-use Rattle.text_model.proofs.StartLines.{given_is_start, commands_begin_no_start, begins_no_start_before, first_is_no_start}
+use Rattle.text_model.proofs.StartLines.{given_is_start, commands_begin_no_start, begins_no_start_before}
+use Rattle.text_model.proofs.StartLines.{first_is_no_start}
 
 -- what is read, or the first line at fault
 abbrev pub Read : Type 0 → Type 0
@@ -197,7 +203,8 @@ start_ok_at pages line lines x false r is given h =
     }
 
 -- what the reader takes for the first fill is given by a start line, or meant without one
-pub start_ok : (pages : ℕ) (lines : List NumberedLine) (x : Start) → start_from pages lines ≡ Ok x → StartRead pages lines x
+pub start_ok : (pages : ℕ) (lines : List NumberedLine) (x : Start) → start_from pages lines ≡ Ok x
+    → StartRead pages lines x
 unfolding start_from
 start_ok pages [] x h =
     let none : List NumberedLine = [] in

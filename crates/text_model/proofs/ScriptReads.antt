@@ -1,12 +1,17 @@
 -- The plain reader answers the script of a text, or its first fault.
-use Rattle.std.proofs.Common.{◌≡◌, ◌↔◌, ℕ, ◌+◌, List, [], ◌∷◌, length, drop, Result, Ok, Err, refl, sym, ◌∙◌, ap, arith, zero-add}
+use Rattle.std.proofs.Common.{◌≡◌, ◌↔◌, ℕ, ◌+◌, List, [], ◌∷◌, length, drop, Result, Ok, Err, refl, sym, ◌∙◌, ap, arith}
+use Rattle.std.proofs.Common.{zero-add}
 use Rattle.std.specs.Prelude.{slice_index_or}
 use Rattle.text_model.specs.Text.{lines_of}
-use Rattle.text_model.specs.ScriptLines.{LineFault, bad_line, ◌>>=◌, NumberedLine, Setting, value_in, significant_lines, pages_setting, size_setting}
-use Rattle.text_model.specs.HeaderReading.{numbered_reading, setting_from, settings_from, significant_lines_after, end_line_after}
-use Rattle.text_model.specs.Script.{Script, ParsesScript, FirstScriptFault, cpus_setting, collectors_setting, header_settings}
+use Rattle.text_model.specs.ScriptLines.{LineFault, bad_line, ◌>>=◌, NumberedLine, Setting, value_in, significant_lines}
+use Rattle.text_model.specs.ScriptLines.{pages_setting, size_setting}
+use Rattle.text_model.specs.HeaderReading.{numbered_reading, setting_from, settings_from, significant_lines_after}
+use Rattle.text_model.specs.HeaderReading.{end_line_after}
+use Rattle.text_model.specs.Script.{Script, ParsesScript, FirstScriptFault, cpus_setting, collectors_setting}
+use Rattle.text_model.specs.Script.{header_settings}
 use Rattle.text_model.specs.ScriptReading.{commands_from, start_from, script_from, script_in}
-use Rattle.text_model.proofs.ScriptLemmas.{Read, Settings, then_start, script_from_settings, script_ok, script_given, script_err, script_fault_given}
+use Rattle.text_model.proofs.ScriptLemmas.{Read, Settings, then_start, script_from_settings, script_ok, script_given}
+use Rattle.text_model.proofs.ScriptLemmas.{script_err, script_fault_given}
 
 -- ---- the header, by the index of each line, and by parts
 -- the value that a line gives to a setting, by the line's index

@@ -1,18 +1,24 @@
 -- A script that is written is read back.
-use Rattle.std.proofs.Common.{◌≡◌, ℕ, ◌+◌, ◌^◌, ◌<◌, ◌≤◌, ◌-◌, ◌&&◌, true, cond, leb, List, [], ◌∷◌, length, map, filter, decimal, Result, Ok, Err, refl, sym, ◌∙◌, ap, subst, arith}
+use Rattle.std.proofs.Common.{◌≡◌, ℕ, ◌+◌, ◌^◌, ◌<◌, ◌≤◌, ◌-◌, ◌&&◌, true, cond, leb, List, [], ◌∷◌, length, map}
+use Rattle.std.proofs.Common.{filter, decimal, Result, Ok, Err, refl, sym, ◌∙◌, ap, subst, arith}
 use Rattle.std.specs.List.{list_all, enumerate_from, AllByRecursion}
 use Rattle.std.proofs.lemmas.Bool.{lt-ltb, le-leb, and_from, cond-true}
 use Rattle.std.proofs.lemmas.List.Elements.{recursion_from_All}
 use Rattle.trace_model.specs.declared.limits.TheConstants.{LINK_FILLS}
 use Rattle.text_model.specs.Text.{is_well_spaced, hex_text}
-use Rattle.text_model.specs.ScriptLines.{LineFault, bad_line, out_of_range, NumberedLine, ◌>>=◌, is_significant, significant_lines, pages_setting, size_setting}
+use Rattle.text_model.specs.ScriptLines.{LineFault, bad_line, out_of_range, NumberedLine, ◌>>=◌, is_significant}
+use Rattle.text_model.specs.ScriptLines.{significant_lines, pages_setting, size_setting}
 use Rattle.text_model.specs.LineWriting.{text_of, cpu_text, setting_text}
 use Rattle.text_model.proofs.TextLemmas.{decimal_in-decimal, payload_in-hex_text, hex_text_free, some_hex_text}
 use Rattle.text_model.specs.declared.script_limits.TheConstants.{MIN_LINE_STEPS, MAX_LINE_STEPS}
-use Rattle.text_model.specs.Script.{Command, begin_frame, step_frame, finish_frame, write, close, step_reader, take_page, wish, deliver, Script, count_in, command_of, command_in, cpus_setting, collectors_setting, start_setting, SpellCommands, ParsesScript}
+use Rattle.text_model.specs.Script.{Command, begin_frame, step_frame, finish_frame, write, close, step_reader}
+use Rattle.text_model.specs.Script.{take_page, wish, deliver, Script, count_in, command_of, command_in, cpus_setting}
+use Rattle.text_model.specs.Script.{collectors_setting, start_setting, SpellCommands, ParsesScript}
 use Rattle.text_model.specs.ScriptWriting.{command_fields, command_text, script_text}
 use Rattle.text_model.specs.ScriptLimits.{IsCommandWithin, IsWithinLimits}
-use Rattle.text_model.proofs.LineWrites.{is_free, fields_of-line_of, is_free-line_of, lines_of-text_of, all_significant, decimal_free, cpu_free, some_cpu, some_decimal, cpu_in-cpu_text, number_below-decimal, setting_spelled}
+use Rattle.text_model.proofs.LineWrites.{is_free, fields_of-line_of, is_free-line_of, lines_of-text_of, all_significant}
+use Rattle.text_model.proofs.LineWrites.{decimal_free, cpu_free, some_cpu, some_decimal, cpu_in-cpu_text}
+use Rattle.text_model.proofs.LineWrites.{number_below-decimal, setting_spelled}
 use Rattle.text_model.proofs.CommandTable.{spelled_command}
 
 -- ---- commands

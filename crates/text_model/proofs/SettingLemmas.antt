@@ -1,7 +1,9 @@
 -- What the plain reader of a header answers, tied to what lines give settings.
-use Rattle.std.proofs.Common.{◌≡◌, ℕ, ◌⊎◌, List, [], ◌∷◌, ◌++◌, length, get_or, suc, arith, Result, Ok, Err, refl, sym, ◌∙◌, ap, subst, inl, inr}
+use Rattle.std.proofs.Common.{◌≡◌, ℕ, ◌⊎◌, List, [], ◌∷◌, ◌++◌, length, get_or, suc, arith, Result, Ok, Err, refl, sym}
+use Rattle.std.proofs.Common.{◌∙◌, ap, subst, inl, inr}
 use Rattle.std.proofs.lemmas.List.{append-nil}
-use Rattle.text_model.specs.ScriptLines.{LineFault, bad_line, ◌>>=◌, NumberedLine, Setting, value_in, GiveSettings, IsFaultySetting, IsMissingSetting}
+use Rattle.text_model.specs.ScriptLines.{LineFault, bad_line, ◌>>=◌, NumberedLine, Setting, value_in, GiveSettings}
+use Rattle.text_model.specs.ScriptLines.{IsFaultySetting, IsMissingSetting}
 use Rattle.text_model.specs.HeaderReading.{numbered_reading, setting_from, settings_from}
 
 -- ---- one step after the other
@@ -22,7 +24,8 @@ bind_ok : {A B : Type 0} (r : Read A) (f : A → Read B) (y : B) → (r >>= f) �
 bind_ok (Ok x) f y h = (x, refl, h)
 bind_ok (Err e) f y h = absurd (ok_is_no_err y e (sym h))
 
-bind_err : {A B : Type 0} (r : Read A) (f : A → Read B) (e : ℕ × LineFault) → (r >>= f) ≡ Err e → (r ≡ Err e) ⊎ ((x : A) × (r ≡ Ok x) × (f x ≡ Err e))
+bind_err : {A B : Type 0} (r : Read A) (f : A → Read B) (e : ℕ × LineFault) → (r >>= f) ≡ Err e
+    → (r ≡ Err e) ⊎ ((x : A) × (r ≡ Ok x) × (f x ≡ Err e))
 bind_err (Ok x) f e h = inr (x, refl, h)
 bind_err (Err d) f e h = inl (let same : d ≡ e = cc in ap (λ e. Err e) same)
 
@@ -40,7 +43,8 @@ AreRead settings lines x = (header : List NumberedLine) × (lines ≡ header ++ 
 
 -- one setting, of the line whose reading is r, and then the others
 abbrev setting_then : ℕ → Setting → List Setting → NumberedLine → List NumberedLine → Result ℕ LineFault → Read Settings
-setting_then end s settings line lines r = (numbered_reading line.0 r >>= λ value. let found : Read (ℕ × List NumberedLine) = Ok (value, lines) in found)
+setting_then end s settings line lines r =
+    (numbered_reading line.0 r >>= λ value. let found : Read (ℕ × List NumberedLine) = Ok (value, lines) in found)
     >>= λ first. settings_from end settings first.1 >>= value_onto first.0
 
 settings_from_line : (end : ℕ) (s : Setting) (settings : List Setting) (line : NumberedLine) (lines : List NumberedLine)
@@ -48,7 +52,8 @@ settings_from_line : (end : ℕ) (s : Setting) (settings : List Setting) (line :
 unfolding settings_from setting_from
 settings_from_line end s settings line lines = refl
 
-settings_ok_at : (end : ℕ) (s : Setting) (settings : List Setting) (line : NumberedLine) (lines : List NumberedLine) (x : Settings) (r : Result ℕ LineFault)
+settings_ok_at : (end : ℕ) (s : Setting) (settings : List Setting) (line : NumberedLine) (lines : List NumberedLine)
+    (x : Settings) (r : Result ℕ LineFault)
     → ((x : Settings) → settings_from end settings lines ≡ Ok x → AreRead settings lines x)
     → value_in s line.1 ≡ r → setting_then end s settings line lines r ≡ Ok x → AreRead (s ∷ settings) (line ∷ lines) x
 settings_ok_at end s settings line lines x (Ok v) again is h =
@@ -59,7 +64,8 @@ settings_ok_at end s settings line lines x (Ok v) again is h =
 settings_ok_at end s settings line lines x (Err f) again is h = absurd (ok_is_no_err x (line.0, f) (sym h))
 
 -- what the reader takes for settings are lines that give them
-pub settings_ok : (end : ℕ) (settings : List Setting) (lines : List NumberedLine) (x : Settings) → settings_from end settings lines ≡ Ok x → AreRead settings lines x
+pub settings_ok : (end : ℕ) (settings : List Setting) (lines : List NumberedLine) (x : Settings)
+    → settings_from end settings lines ≡ Ok x → AreRead settings lines x
 unfolding settings_from setting_from
 settings_ok end [] lines x h =
     let none : Settings = ([], lines) in
@@ -72,12 +78,14 @@ bind_same : (r : Read Settings) → r ≡ (r >>= values_onto [])
 bind_same (Ok x) = refl
 bind_same (Err e) = refl
 
-bind_onto : (v : ℕ) (values : List ℕ) (r : Read Settings) → ((r >>= values_onto values) >>= value_onto v) ≡ (r >>= values_onto (v ∷ values))
+bind_onto : (v : ℕ) (values : List ℕ) (r : Read Settings)
+    → ((r >>= values_onto values) >>= value_onto v) ≡ (r >>= values_onto (v ∷ values))
 bind_onto v values (Ok x) = refl
 bind_onto v values (Err e) = refl
 
 -- lines that give settings are read as that, if the rest follows them
-pub settings_given : (end : ℕ) (front : List NumberedLine) (given : List Setting) (values : List ℕ) (others : List Setting) (rest : List NumberedLine)
+pub settings_given : (end : ℕ) (front : List NumberedLine) (given : List Setting) (values : List ℕ)
+    (others : List Setting) (rest : List NumberedLine)
     → GiveSettings front given values
     → settings_from end (given ++ others) (front ++ rest) ≡ (settings_from end others rest >>= values_onto values)
 unfolding settings_from setting_from
@@ -94,10 +102,12 @@ settings_given end (line ∷ front) (s ∷ given) [] others rest h = absurd h
 
 -- what the reader takes for the first fault among settings
 abbrev SettingFault : ℕ → List Setting → List NumberedLine → ℕ × LineFault → Type 0
-SettingFault end settings lines e = IsFaultySetting settings lines e.0 e.1 ⊎ (IsMissingSetting settings lines × (e ≡ (end, bad_line)))
+SettingFault end settings lines e =
+    IsFaultySetting settings lines e.0 e.1 ⊎ (IsMissingSetting settings lines × (e ≡ (end, bad_line)))
 
 -- a fault after a line that gives its setting
-later_setting : (end : ℕ) (s : Setting) (settings : List Setting) (line : NumberedLine) (lines : List NumberedLine) (v : ℕ) (e : ℕ × LineFault)
+later_setting : (end : ℕ) (s : Setting) (settings : List Setting) (line : NumberedLine) (lines : List NumberedLine)
+    (v : ℕ) (e : ℕ × LineFault)
     → value_in s line.1 ≡ Ok v → SettingFault end settings lines e → SettingFault end (s ∷ settings) (line ∷ lines) e
 later_setting end s settings line lines v e is (inl f) = inl record {
   front = line ∷ f.front;
@@ -124,9 +134,11 @@ later_setting end s settings line lines v e is (inr f) = inr (
   f.1,
 )
 
-settings_err_at : (end : ℕ) (s : Setting) (settings : List Setting) (line : NumberedLine) (lines : List NumberedLine) (e : ℕ × LineFault) (r : Result ℕ LineFault)
+settings_err_at : (end : ℕ) (s : Setting) (settings : List Setting) (line : NumberedLine) (lines : List NumberedLine)
+    (e : ℕ × LineFault) (r : Result ℕ LineFault)
     → ((e : ℕ × LineFault) → settings_from end settings lines ≡ Err e → SettingFault end settings lines e)
-    → value_in s line.1 ≡ r → setting_then end s settings line lines r ≡ Err e → SettingFault end (s ∷ settings) (line ∷ lines) e
+    → value_in s line.1 ≡ r → setting_then end s settings line lines r ≡ Err e
+    → SettingFault end (s ∷ settings) (line ∷ lines) e
 settings_err_at end s settings line lines e (Ok v) again is h =
     elim (bind_err (settings_from end settings lines) (value_onto v) e h) [
       | inl f ↦ later_setting end s settings line lines v e is (again e f)
@@ -149,7 +161,8 @@ settings_err_at end s settings line lines e (Err f) again is h =
     })
 
 -- what the reader takes for a fault of the header is one
-pub settings_err : (end : ℕ) (settings : List Setting) (lines : List NumberedLine) (e : ℕ × LineFault) → settings_from end settings lines ≡ Err e → SettingFault end settings lines e
+pub settings_err : (end : ℕ) (settings : List Setting) (lines : List NumberedLine) (e : ℕ × LineFault)
+    → settings_from end settings lines ≡ Err e → SettingFault end settings lines e
 unfolding settings_from setting_from
 settings_err end [] lines e h = absurd (ok_is_no_err ([], lines) e h)
 settings_err end (s ∷ settings) [] e h =
@@ -158,7 +171,8 @@ settings_err end (s ∷ settings) (line ∷ lines) e h =
     settings_err_at end s settings line lines e (value_in s line.1) (settings_err end settings lines) refl h
 
 -- and a fault of the header is read as one
-pub faulty_setting_read : (end : ℕ) (settings : List Setting) (lines : List NumberedLine) (number : ℕ) (fault : LineFault)
+pub faulty_setting_read : (end : ℕ) (settings : List Setting) (lines : List NumberedLine) (number : ℕ)
+    (fault : LineFault)
     → IsFaultySetting settings lines number fault → settings_from end settings lines ≡ Err (number, fault)
 faulty_setting_read end settings lines number fault f =
     let here = settings_from_line end f.setting f.others (number, f.line) f.behind
@@ -168,26 +182,31 @@ faulty_setting_read end settings lines number fault f =
     ∙ settings_given end f.front f.given f.values (f.setting ∷ f.others) ((number, f.line) ∷ f.behind) f.fits
     ∙ ap (λ (r : Read Settings). r >>= values_onto f.values) here
 
-nothing_read : (end : ℕ) (s : Setting) (settings : List Setting) → settings_from end (s ∷ settings) [] ≡ Err (end, bad_line)
+nothing_read : (end : ℕ) (s : Setting) (settings : List Setting)
+    → settings_from end (s ∷ settings) [] ≡ Err (end, bad_line)
 unfolding settings_from setting_from
 nothing_read end s settings = refl
 
-pub missing_setting_read : (end : ℕ) (settings : List Setting) (lines : List NumberedLine) → IsMissingSetting settings lines → settings_from end settings lines ≡ Err (end, bad_line)
+pub missing_setting_read : (end : ℕ) (settings : List Setting) (lines : List NumberedLine)
+    → IsMissingSetting settings lines → settings_from end settings lines ≡ Err (end, bad_line)
 missing_setting_read end settings lines f =
     ap (λ (ss : List Setting). settings_from end ss lines) f.order
     ∙ ap (λ (ls : List NumberedLine). settings_from end (f.given ++ f.setting ∷ f.others) ls) (sym (append-nil lines))
     ∙ settings_given end lines f.given f.values (f.setting ∷ f.others) [] f.fits
     ∙ ap (λ (r : Read Settings). r >>= values_onto f.values) (nothing_read end f.setting f.others)
 
-pub length_given : (header : List NumberedLine) (settings : List Setting) (values : List ℕ) → GiveSettings header settings values → length values ≡ length settings
+pub length_given : (header : List NumberedLine) (settings : List Setting) (values : List ℕ)
+    → GiveSettings header settings values → length values ≡ length settings
 length_given [] [] [] h = refl
-length_given (line ∷ header) (s ∷ settings) (value ∷ values) h = ap (λ (n : ℕ). suc n) (length_given header settings values h.1)
+length_given (line ∷ header) (s ∷ settings) (value ∷ values) h =
+    ap (λ (n : ℕ). suc n) (length_given header settings values h.1)
 length_given [] [] (value ∷ values) h = absurd h
 length_given [] (s ∷ settings) values h = absurd h
 length_given (line ∷ header) [] values h = absurd h
 length_given (line ∷ header) (s ∷ settings) [] h = absurd h
 
-pub four_values : (values : List ℕ) → length values ≡ 4 → values ≡ get_or values 0 0 ∷ get_or values 1 0 ∷ get_or values 2 0 ∷ get_or values 3 0 ∷ []
+pub four_values : (values : List ℕ) → length values ≡ 4
+    → values ≡ get_or values 0 0 ∷ get_or values 1 0 ∷ get_or values 2 0 ∷ get_or values 3 0 ∷ []
 four_values [] h = absurd (omega (arith, h))
 four_values (a ∷ []) h = absurd (omega (arith, h))
 four_values (a ∷ b ∷ []) h = absurd (omega (arith, h))

@@ -1,10 +1,13 @@
 -- A start line is distinguished from a command by its word.
-use Rattle.std.proofs.Common.{◌≡◌, ℕ, Bool, true, false, ◌&&◌, cond, List, [], ◌∷◌, ◌++◌, length, codes, Ok, Err, refl, sym, ◌∙◌, ap, arith}
+use Rattle.std.proofs.Common.{◌≡◌, ℕ, Bool, true, false, ◌&&◌, cond, List, [], ◌∷◌, ◌++◌, length, codes, Ok, Err, refl}
+use Rattle.std.proofs.Common.{sym, ◌∙◌, ap, arith}
 use Rattle.std.specs.Str.{bytes_eq}
 use Rattle.std.proofs.lemmas.Bool.{false_from_ne_true, both_ways}
 use Rattle.text_model.specs.Text.{fields_of, is_well_spaced}
-use Rattle.text_model.specs.ScriptLines.{bad_line, decimal_in, ◌>>=◌, cpu_in, allowed_for, value_of, value_in, NumberedLine}
-use Rattle.text_model.specs.Script.{Command, command_of, command_in, start_setting, are_of_start, is_start_line, BeginsNoStart, SpellCommands}
+use Rattle.text_model.specs.ScriptLines.{bad_line, decimal_in, ◌>>=◌, cpu_in, allowed_for, value_of, value_in}
+use Rattle.text_model.specs.ScriptLines.{NumberedLine}
+use Rattle.text_model.specs.Script.{Command, command_of, command_in, start_setting, are_of_start, is_start_line}
+use Rattle.text_model.specs.Script.{BeginsNoStart, SpellCommands}
 use Rattle.text_model.proofs.Readings.{ok_is_no_err}
 use Rattle.text_model.proofs.FieldWords.{same_word}
 

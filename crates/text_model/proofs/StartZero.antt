@@ -1,13 +1,17 @@
 -- Without a start line a text is read as with `start 0` in its place.
-use Rattle.std.proofs.Common.{◌≡◌, ◌↔◌, ℕ, List, [], ◌∷◌, ◌++◌, length, arith, codes, get_or, Result, Ok, Err, refl, sym, ◌∙◌, ap}
+use Rattle.std.proofs.Common.{◌≡◌, ◌↔◌, ℕ, List, [], ◌∷◌, ◌++◌, length, arith, codes, get_or, Result, Ok, Err, refl}
+use Rattle.std.proofs.Common.{sym, ◌∙◌, ap}
 use Rattle.text_model.specs.Text.{is_decimal}
 use Rattle.text_model.specs.ScriptLines.{LineFault, ◌>>=◌, decimal_in, NumberedLine, Setting, value_of, value_in}
-use Rattle.text_model.specs.HeaderReading.{numbered_reading, setting_from, settings_from, significant_lines_after, end_line_after}
-use Rattle.text_model.specs.Script.{Script, header_settings, start_setting, BeginsNoStart, ParsesScript, FirstScriptFault, AddsStartZero}
+use Rattle.text_model.specs.HeaderReading.{numbered_reading, setting_from, settings_from, significant_lines_after}
+use Rattle.text_model.specs.HeaderReading.{end_line_after}
+use Rattle.text_model.specs.Script.{Script, header_settings, start_setting, BeginsNoStart, ParsesScript}
+use Rattle.text_model.specs.Script.{FirstScriptFault, AddsStartZero}
 use Rattle.text_model.specs.ScriptReading.{start_from, script_from, script_in}
 use Rattle.text_model.proofs.LineWrites.{setting_allowed}
 use Rattle.text_model.proofs.StartLines.{given_is_start}
-use Rattle.text_model.proofs.ScriptLemmas.{Read, Settings, Start, then_commands, then_start, script_from_settings, start_line_read, no_start_read}
+use Rattle.text_model.proofs.ScriptLemmas.{Read, Settings, Start, then_commands, then_start, script_from_settings}
+use Rattle.text_model.proofs.ScriptLemmas.{start_line_read, no_start_read}
 use Rattle.text_model.proofs.ScriptReads.{by_lines, script_in_by_lines, script_reads, fault_reads}
 
 -- ---- the header

@@ -5,10 +5,12 @@ use Rattle.std.specs.Fmt.{decimal}
 use Rattle.trace_model.specs.Record.{Record}
 use Rattle.text_model.specs.Text.{hex_text}
 use Rattle.text_model.specs.ScriptLines.{LineFault, fault_text}
-use Rattle.text_model.specs.Log.{LogLine, refused, taken, empty, moving, asks, new_delivery, known_delivery, untaken_delivery}
+use Rattle.text_model.specs.Log.{LogLine, refused, taken, empty, moving, asks, new_delivery, known_delivery}
+use Rattle.text_model.specs.Log.{untaken_delivery}
 use Rattle.trace_model.specs.Frames.{WriteFault, too_deep, too_long, late_moment, crowded, worn, no_frame, not_reserved}
 use Rattle.trace_model.specs.Faults.{Cause, cut, bad_length, time_overflow}
-use Rattle.trace_model.specs.Image.{Missed, none, unknown, counted, ImageCause, too_short, bad_size, bad_count, bad_word}
+use Rattle.trace_model.specs.Image.{Missed, none, unknown, counted, ImageCause, too_short, bad_size, bad_count}
+use Rattle.trace_model.specs.Image.{bad_word}
 
 -- the name of why a push, a step or an end is refused
 abbrev pub refusal_text : WriteFault → List ℕ

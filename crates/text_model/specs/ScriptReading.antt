@@ -1,11 +1,14 @@
 -- The reading of a script, line by line from the front. That it is the script of the whole text, or its first fault, in
 -- the words of Script, is a law. docs/FORMATS.md, "Script".
-use Rattle.std.specs.Prelude.{ℕ, ◌+◌, if◌then◌else◌, List, [], ◌∷◌, length, drop, slice_index, slice_index_or, Result, Ok}
+use Rattle.std.specs.Prelude.{ℕ, ◌+◌, if◌then◌else◌, List, [], ◌∷◌, length, drop, slice_index, slice_index_or, Result}
+use Rattle.std.specs.Prelude.{Ok}
 use Rattle.trace_model.specs.declared.limits.TheConstants.{START_FILL}
 use Rattle.text_model.specs.Text.{lines_of}
-use Rattle.text_model.specs.ScriptLines.{LineFault, ◌>>=◌, NumberedLine, Setting, value_in, pages_setting, size_setting, significant_lines}
+use Rattle.text_model.specs.ScriptLines.{LineFault, ◌>>=◌, NumberedLine, Setting, value_in, pages_setting, size_setting}
+use Rattle.text_model.specs.ScriptLines.{significant_lines}
 use Rattle.text_model.specs.HeaderReading.{numbered_reading, settings_from}
-use Rattle.text_model.specs.Script.{Command, Script, command_in, cpus_setting, collectors_setting, header_settings, start_setting, is_start_line}
+use Rattle.text_model.specs.Script.{Command, Script, command_in, cpus_setting, collectors_setting, header_settings}
+use Rattle.text_model.specs.Script.{start_setting, is_start_line}
 
 -- the commands that lines spell, each with the number of its line
 unfoldable pub commands_from : ℕ → ℕ → List NumberedLine → Result (List (ℕ × Command)) (ℕ × LineFault)

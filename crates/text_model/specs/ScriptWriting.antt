@@ -4,7 +4,8 @@ use Rattle.std.specs.Prelude.{ℕ, List, [], ◌∷◌, map, codes, decimal}
 use Rattle.text_model.specs.Text.{hex_text}
 use Rattle.text_model.specs.ScriptLines.{pages_setting, size_setting}
 use Rattle.text_model.specs.LineWriting.{line_of, text_of, cpu_text, setting_text}
-use Rattle.text_model.specs.Script.{Command, begin_frame, step_frame, finish_frame, write, close, step_reader, take_page, wish, deliver, Script, cpus_setting, collectors_setting, start_setting}
+use Rattle.text_model.specs.Script.{Command, begin_frame, step_frame, finish_frame, write, close, step_reader}
+use Rattle.text_model.specs.Script.{take_page, wish, deliver, Script, cpus_setting, collectors_setting, start_setting}
 
 -- the fields of a command
 abbrev pub command_fields : Command → List (List ℕ)

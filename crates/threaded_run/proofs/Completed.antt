@@ -1,9 +1,6 @@
 -- What both threads of a ring leave, settled.
 use Rattle.std.specs.Prelude.{Bool}
-use Rattle.std.proofs.Common.{◌≡◌, ℕ, ◌<◌, false, refl, sym, ap, ◌∙◌, subst}
-use Rattle.trace_script.specs.declared.replay_fault.ReplayFault.{ReplayFault}
-use Rattle.trace_script.specs.declared.replay_fault.ReplayFault.TheVariants.{GateShut}
-use Rattle.trace_model.specs.declared.numbers.FillNo.{FillNo}
+use Rattle.std.proofs.Common.{◌≡◌, ℕ, refl, sym, ap, ◌∙◌, subst}
 use Rattle.page_numbers.specs.Parcels.{as_parcels}
 use Rattle.ring_steps.specs.declared.rule.Shape.{Shape}
 use Rattle.ring_steps.specs.Views.{Writing}
@@ -15,12 +12,9 @@ use Rattle.writer_thread.specs.declared.gate.Who.TheVariants as who
 use Rattle.writer_thread.specs.Asking.{HavePassed}
 use Rattle.reader_thread.specs.Value.{ReaderEndValue}
 use Rattle.reader_thread.specs.Ledgers.{writer_in, IsLedger}
-use Rattle.threaded_run.specs.declared.reading.Stop.{Stop}
-use Rattle.threaded_run.specs.declared.reading.Stop.TheVariants.{Shut}
 use Rattle.threaded_run.specs.Runs.{shape_of}
 use Rattle.threaded_run.specs.Asked.{HaveReadersPassed, IsPassedLedger}
-use Rattle.threaded_run.specs.Taking.{IsStop}
-use Rattle.threaded_run.specs.Threads.{RunningValue, IsJoined, ArePassedEnds, IsByGate}
+use Rattle.threaded_run.specs.Threads.{RunningValue, IsJoined, ArePassedEnds}
 use Rattle.threaded_run.proofs.Ends.{HasLog}
 use Rattle.threaded_run.proofs.OneRuns.{one_run_of}
 
@@ -43,7 +37,8 @@ module _ {Gate : Type 0} (answers : Gate → Who → (cpu fill : ℕ) → Bool �
       (subst (λ (k : ℕ). IsLedger k ends.0.shape ledger) joined.cpu_is is) in
       let here : ArePassedEnds answers gate v.script v.cpu ends =
       subst (λ (g : Gate). ArePassedEnds answers g v.script v.cpu ends) gate_is passed in
-      let done = ap (λ (w : Writing). w.done) is_ledger.settled.one_run.writing_is ∙ ap (λ (w : Writing). w.done) same in (
+      let done =
+      ap (λ (w : Writing). w.done) is_ledger.settled.one_run.writing_is ∙ ap (λ (w : Writing). w.done) same in (
         record {
           history = log.0;
           is_ledger = is_ledger;
@@ -55,14 +50,3 @@ module _ {Gate : Type 0} (answers : Gate → Who → (cpu fill : ℕ) → Bool �
         subst (λ (k : ℕ). HaveReadersPassed answers gate k (taken_of ledger)) own_is
             (on (subst (λ (k : ℕ). HaveReadersPassed answers gate k (as_parcels ends.1.taken)) (sym own_is) here.1)),
       )
-
-  -- the gate stopped the reader
-  pub settled_by_gate : (stop : Stop) (fault : ReplayFault)
-      → (fault ≡ GateShut → (fill : FillNo) × (stop ≡ Shut fill))
-      → IsStop answers gate own stop
-      → IsByGate answers gate v.script.cpus fault
-  settled_by_gate stop fault reported is shut =
-      let (fill, e) = reported shut in
-      let at : answers gate who.Reader own fill.0 false = subst (λ (s : Stop). IsStop answers gate own s) e is in
-      let low : own < v.script.cpus = subst (λ (k : ℕ). k < v.script.cpus) (sym own_is) joined.known in
-      (who.Reader, own, fill.0, low, at)

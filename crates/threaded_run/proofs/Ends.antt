@@ -92,10 +92,12 @@ CommitsWhole s lines history = AllWriteOrClose lines
 module _ (script : Script) (cpu : ℕ) (before after : WriterValue) (new : before.shape ≡ shape_of script)
     (is : IsWriter after) (obeyed : HasObeyed cpu script.commands before after) where
   -- the calls that it has made, and no others
-  pub calls : (reached : IsReachedByLines script.pages script.size script.start (lines_of script cpu) (writer_in after.part))
+  pub calls : (reached : IsReachedByLines script.pages script.size script.start (lines_of script cpu)
+      (writer_in after.part))
       × (made_in after.part ≡ exchanges_to reached)
   calls =
-      subst (λ (s : Shape). (reached : IsReachedByLines s.pages s.size s.start (lines_of script cpu) (writer_in after.part))
+      subst (λ (s : Shape).
+      (reached : IsReachedByLines s.pages s.size s.start (lines_of script cpu) (writer_in after.part))
       × (made_in after.part ≡ exchanges_to reached)) new (obeyed.calls, obeyed.has_made)
 
   -- the history of a writer that has obeyed its lines
@@ -149,7 +151,8 @@ ends_joined {Gate} v w cpu before was after end view new own others low is obeye
 
 -- both were let pass wherever they asked
 pub ends_passed : {Gate : Type 0} (answers : Gate → Who → (cpu fill : ℕ) → Bool → Type 0) (v w : RunningValue Gate)
-    (cpu own : ℕ) (gate : Gate) (before : WriterValue) (was : ReaderEndValue) (after : WriterValue) (end : ReaderEndValue)
+    (cpu own : ℕ) (gate : Gate) (before : WriterValue) (was : ReaderEndValue) (after : WriterValue)
+    (end : ReaderEndValue)
     → v ≡ w
     → AreNewEnds (shape_of v.script) before was.reader
     → cpu ≡ v.cpu
@@ -170,4 +173,5 @@ ends_passed {Gate} answers v w cpu own gate before was after end view new cpu_is
     let by_reader : HaveReadersPassed answers v.gate v.cpu (as_parcels end.taken) =
     subst (λ (g : Gate). HaveReadersPassed answers g v.cpu (as_parcels end.taken)) gate_is
     (subst (λ (k : ℕ). HaveReadersPassed answers gate k (as_parcels end.taken)) own_is (on.passed none_taken)) in
-    subst (λ (r : RunningValue Gate). ArePassedEnds answers r.gate r.script r.cpu (after, end)) view (by_writer, by_reader)
+    subst (λ (r : RunningValue Gate). ArePassedEnds answers r.gate r.script r.cpu (after, end)) view
+    (by_writer, by_reader)

@@ -1,7 +1,8 @@
 -- The ledgers of a run are those of rings.
 use Rattle.std.specs.Prelude.{Bool, vec_len, map, Some}
 use Rattle.std.specs.List.{slice_get}
-use Rattle.std.proofs.Common.{◌≡◌, ℕ, zero, suc, ◌+◌, ◌<◌, List, [], ◌∷◌, length, refl, subst, sym, ap, ◌∙◌, inl, inr, arith}
+use Rattle.std.proofs.Common.{◌≡◌, ℕ, zero, suc, ◌+◌, ◌<◌, List, [], ◌∷◌, length, refl, subst, sym, ap, ◌∙◌, inl, inr}
+use Rattle.std.proofs.Common.{arith}
 use Rattle.std.proofs.lemmas.Option.{slice_get_cases}
 use Rattle.trace_model.specs.History.{HistoryEvent}
 use Rattle.trace_model.specs.Links.{normal_link}
@@ -93,7 +94,8 @@ module _ {Gate : Type 0} (answers : Gate → Who → (cpu fill : ℕ) → Bool �
       subst (λ (h : List HistoryEvent). IsRunHistory script cpu h) (sym same) passed.0.history
 
 there : (ledgers : List Ledger) (k : ℕ) → k < length ledgers → (ledger : Ledger) × (slice_get ledgers k ≡ Some ledger)
-there ledgers k low = elim (slice_get_cases ledgers k).1 [ inl found ↦ (found.0, found.2) | inr past ↦ absurd (omega (arith, past.0)) ]
+there ledgers k low =
+    elim (slice_get_cases ledgers k).1 [ inl found ↦ (found.0, found.2) | inr past ↦ absurd (omega (arith, past.0)) ]
 
 module _ {Gate : Type 0} (answers : Gate → Who → (cpu fill : ℕ) → Bool → Type 0) (gate : Gate) (script : Script)
     (ran : Ran) (are : AreRunLedgers answers gate script 0 ran.ledgers.items) where

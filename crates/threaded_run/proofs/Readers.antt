@@ -55,7 +55,8 @@ module _ {Gate : Type 0} (answers : Gate → Who → (cpu fill : ℕ) → Bool �
       → HaveReadersPassed answers gate cpu (as_parcels now.taken)
       → HaveReadersPassed answers gate cpu (as_parcels next.taken)
   passed_more Page now next is last were =
-      one_passed (as_parcels now.taken) (as_parcels next.taken) (parcel_of now.cpu is.is.taken) is.one_more (last refl) were
+      one_passed (as_parcels now.taken) (as_parcels next.taken) (parcel_of now.cpu is.is.taken) is.one_more (last refl)
+      were
   passed_more Empty now next is last were =
       subst (λ (l : List ParcelValue). HaveReadersPassed answers gate cpu (as_parcels l)) (sym is.taken_are) were
   passed_more Moving now next is last were =
@@ -76,9 +77,11 @@ module _ {Gate : Type 0} (answers : Gate → Who → (cpu fill : ℕ) → Bool �
   }
 
 -- what is known of the pages that are passed on to a gate behind something is known of that gate
-pub gate_behind : {Gate Other : Type 0} (answers : Gate → Who → (cpu fill : ℕ) → Bool → Type 0) (behind : Other → Gate) (passing : Other) (cpu : ℕ) (before : ReaderEndValue) (result : Result ReaderEndValue Stop)
+pub gate_behind : {Gate Other : Type 0} (answers : Gate → Who → (cpu fill : ℕ) → Bool → Type 0) (behind : Other → Gate)
+    (passing : Other) (cpu : ℕ) (before : ReaderEndValue) (result : Result ReaderEndValue Stop)
     → HasTaken (λ p. answers (behind p)) passing cpu before result
     → HasTaken answers (behind passing) cpu before result
-gate_behind answers behind passing cpu before (Ok after) on = record { cpu_is = on.cpu_is; same = on.same; passed = on.passed }
+gate_behind answers behind passing cpu before (Ok after) on =
+    record { cpu_is = on.cpu_is; same = on.same; passed = on.passed }
 gate_behind answers behind passing cpu before (Err NoMemory) stop = tt
 gate_behind answers behind passing cpu before (Err (Shut fill)) stop = stop

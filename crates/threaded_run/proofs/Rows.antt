@@ -42,7 +42,8 @@ pub running_pushed : {Gate : Type 0} (script : Script) (gate : Gate) (at : ℕ) 
     → new ≡ rs ++ r ∷ []
     → AreRunning script gate 0 new
 running_pushed {Gate} script gate at rs new r are e is more =
-    subst (λ (xs : List (RunningValue Gate)). AreRunning script gate 0 xs) (sym more) (running_more script gate 0 at rs r are (omega arith) is)
+    subst (λ (xs : List (RunningValue Gate)). AreRunning script gate 0 xs) (sym more)
+    (running_more script gate 0 at rs r are (omega arith) is)
 
 -- the first ones are those of the first CPU, and the others those of the next ones
 pub running_next : {Gate : Type 0} (script : Script) (gate : Gate) (at next : ℕ) (xs rest : List (RunningValue Gate))
@@ -52,7 +53,8 @@ pub running_next : {Gate : Type 0} (script : Script) (gate : Gate) (at next : �
     → next ≡ at + 1
     → IsRunningAt script gate at r × AreRunning script gate next rest
 running_next {Gate} script gate at next xs rest r are e n =
-    let here : AreRunning script gate at (r ∷ rest) = subst (λ (l : List (RunningValue Gate)). AreRunning script gate at l) e are in
+    let here : AreRunning script gate at (r ∷ rest) =
+    subst (λ (l : List (RunningValue Gate)). AreRunning script gate at l) e are in
     (here.0, subst (λ (k : ℕ). AreRunning script gate k rest) (omega arith) here.1)
 
 -- and one more ledger is joined
@@ -75,7 +77,8 @@ ledger_pushed answers script gate at r ls new l (cpu_is, script_is, gate_is) is 
 
 -- What holds of all that was joined, and what of each fault, is kept by one more.
 pub joined_on : {X : Type 0} (Before After : Vec X Global → Type 0) (Next : X → Type 0) (Bad : ReplayFault → Type 0)
-    (before : Result (Vec X Global) ReplayFault) (next : Result X ReplayFault) (after : Result (Vec X Global) ReplayFault)
+    (before : Result (Vec X Global) ReplayFault) (next : Result X ReplayFault)
+    (after : Result (Vec X Global) ReplayFault)
     → IfOk after (IsOneMore before next)
     → IfErr after (IsFirstFault before next)
     → IfOk before Before

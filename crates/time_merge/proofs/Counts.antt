@@ -7,7 +7,9 @@ use Rattle.time_merge.proofs.Ordered.{mapped_at}
 abbrev pub count_of : List ParcelValue → ℕ
 count_of parcels = sum_by (λ parcel. length (as_parcel parcel).records) parcels
 
-pub all_of_cpu : (parcels : List ParcelValue) (cpu : ℕ) → ((k : ℕ) (parcel : ParcelValue) → slice_get parcels k ≡ Some parcel → parcel.cpu ≡ cpu) → AreOfCpu (as_parcels parcels) cpu
+pub all_of_cpu : (parcels : List ParcelValue) (cpu : ℕ)
+    → ((k : ℕ) (parcel : ParcelValue) → slice_get parcels k ≡ Some parcel → parcel.cpu ≡ cpu)
+    → AreOfCpu (as_parcels parcels) cpu
 all_of_cpu parcels cpu each k parcel at =
     let (value, there, is) = mapped_at as_parcel parcels k parcel at in
     sym (ap (λ p. p.cpu) is) ∙ each k value there

@@ -2,7 +2,9 @@ pub mod Ordered
 pub mod Pairs
 pub mod StretchWalks
 pub mod Takes
+pub mod Trees
 pub mod ByNumber
-pub mod Merged
+pub mod Merging
+pub mod Ranked
 pub mod ByTime
 mod Counts

@@ -1,17 +1,22 @@
 //! Listings: what a collector has, in the order of time.
 //!
-//! Each CPU's records are walked by number, as lines. The walks of several CPUs are merged by moment, CPU and number; a
-//! single walk gives the lines as they are. If the moments of a CPU fall, the lines are then sorted in place.
+//! Lines are merged from sources, each of which gives lines of one CPU by number. One line of each source is at hand, and
+//! a tree of their moments says which of them goes first.
 //!
-//! `walk_lines` makes no list. It merges stretches of each CPU's records, which end where a moment falls, and has each
-//! line taken as the merge gives it.
+//! `lines_by_time` makes no list. Its sources are stretches of each CPU's records, which end where a moment falls.
+//! `walk_lines` has each of those lines taken. `listing` makes a list, and merges whole CPUs; a single one gives its
+//! lines as they are. If the moments of a CPU fall, the list is then sorted in place.
 #![tactic(auto)]
 
 mod by_time;
 mod lines;
+mod merged;
+mod sources;
 mod stretches;
+mod tournament;
 mod walk;
 
 pub use by_time::listing;
 pub use lines::Line;
+pub use merged::{LinesByTime, lines_by_time};
 pub use walk::{TakesLines, walk_lines};

@@ -5,7 +5,7 @@ ghost use Rattle.time_merge.specs.Lines.{line_seen};
 ghost use Rattle.time_merge.specs.Walks.{TakesAll};
 
 use crate::lines::Line;
-use crate::stretches::merged_stretches;
+use crate::merged::lines_by_time;
 use collector::Collector;
 use std::alloc::Global;
 use trace_model::NoMemory;
@@ -42,9 +42,8 @@ pub fn walk_lines<W, T: TakesLines<W>>(
         × TakesAll T.takes (taker.old, writer.old) lines (taker.new, writer.new)) }
     ensures refused { OnErr result ((taker.new ≡ taker.old) × (writer.new ≡ writer.old)) }
 {
-    let merge = merged_stretches(alloc, collector)?;
-    for waiting in merge {
-        taker.take_line(writer, &waiting.line);
+    for line in lines_by_time(alloc, collector)? {
+        taker.take_line(writer, &line);
     }
     Ok(())
 }

@@ -40,24 +40,29 @@ thread_line text bytes (inl a) = of_run a.script bytes a.output
 thread_line text bytes (inr a) = absurd (let is = a.refused in cc)
 
 module _ (source : SourceRun) (sink : SinkRun) (sound : AreSound source sink) where
-  too_long : (gives : List ℕ → List ℕ → ℕ → Type 0) → ((text bytes : List ℕ) → gives text bytes END_FAILED → ⊥) → Causes gives source sink → MAX_INPUT < source.count_after
+  too_long : (gives : List ℕ → List ℕ → ℕ → Type 0) → ((text bytes : List ℕ) → gives text bytes END_FAILED → ⊥)
+      → Causes gives source sink → MAX_INPUT < source.count_after
   too_long gives none (inl h) = absurd (let is = sound.source_sound in cc)
   too_long gives none (inr (inl h)) = absurd (let is = sound.sink_sound in cc)
   too_long gives none (inr (inr (inl h))) = h.0.3
   too_long gives none (inr (inr (inr (bytes, output, written)))) = absurd (none output.0 bytes output.4)
 
-  pub replay_reported : (asked : Bool) → IsCommandRun (ReplayGives asked) source sink END_FAILED → MAX_INPUT < source.count_after
+  pub replay_reported : (asked : Bool) → IsCommandRun (ReplayGives asked) source sink END_FAILED
+      → MAX_INPUT < source.count_after
   replay_reported asked h = too_long (ReplayGives asked) (no_replay asked) (h.end_fault refl)
 
   pub dump_reported : IsCommandRun DumpGives source sink END_FAILED → MAX_INPUT < source.count_after
   dump_reported h = too_long DumpGives no_dump (h.end_fault refl)
 
-  line_written : source.count_after ≤ MAX_INPUT → Causes RunGives source sink → Appends sink.contents sink.contents_after THREAD_LINE.now
+  line_written : source.count_after ≤ MAX_INPUT → Causes RunGives source sink
+      → Appends sink.contents sink.contents_after THREAD_LINE.now
   line_written short (inl h) = absurd (let is = sound.source_sound in cc)
   line_written short (inr (inl h)) = absurd (let is = sound.sink_sound in cc)
   line_written short (inr (inr (inl h))) = absurd (let long = h.0.3 in omega arith)
   line_written short (inr (inr (inr (bytes, output, written)))) =
-      subst (λ (bytes : List ℕ). Appends sink.contents sink.contents_after bytes) (thread_line output.0 bytes output.4) written
+      subst (λ (bytes : List ℕ). Appends sink.contents sink.contents_after bytes) (thread_line output.0 bytes output.4)
+      written
 
-  pub run_reported : IsCommandRun RunGives source sink END_FAILED → source.count_after ≤ MAX_INPUT → Appends sink.contents sink.contents_after THREAD_LINE.now
+  pub run_reported : IsCommandRun RunGives source sink END_FAILED → source.count_after ≤ MAX_INPUT
+      → Appends sink.contents sink.contents_after THREAD_LINE.now
   run_reported h short = line_written short (h.end_fault refl)

@@ -3,8 +3,9 @@ ghost use Rattle.std.specs.Prelude.{◌≡◌, false, Err, Ok};
 ghost use Rattle.command_io.specs.CommandRun.{IsCommandRun, IsRefusedCall, source_run, sink_run};
 ghost use Rattle.command_line.specs.declared.call.Call.{Call as CallSeen};
 ghost use Rattle.command_line.specs.CommandLine.{HasSource};
-ghost use Rattle.trace_cli.specs.Answers.{CallGives};
+ghost use Rattle.trace_cli.specs.Answers.{CallGives, HasNoFiles, OnlyVersionLine};
 
+use crate::version::print_version;
 use command_io::{Sink, Source, USAGE, print_memory_line};
 use command_line::{Call, CallFault};
 use dump_command::dump_to;
@@ -15,7 +16,7 @@ use std::sync::Wait;
 use std::thread::Threads;
 use steps_command::steps_to;
 
-/// Carries out a command that reads one source, over these ends, and gives the exit status.
+/// Carries out a command that reads one source, over these ends, or writes the version, and gives the exit status.
 fn answer_call<Rt: Threads + Wait + Sync, R: Source, W: Sink>(
     rt: &Rt,
     alloc: Global,
@@ -23,25 +24,29 @@ fn answer_call<Rt: Threads + Wait + Sync, R: Source, W: Sink>(
     reader: &mut R,
     writer: &mut W,
 ) -> u8
-    requires one_source { HasSource call }
+    requires no_files { HasNoFiles call }
     requires sound_reader { R.failed reader.old ≡ false }
     requires sound_writer { W.failed writer.old ≡ false }
-    ensures { IsCommandRun (CallGives call.entry)
+    ensures run { HasSource call.entry → IsCommandRun (CallGives call.entry)
         (source_run R.remaining R.count R.failed reader.old reader.new)
         (sink_run W.contents W.failed writer.old writer.new) result }
+    ensures version { call.entry ≡ Call.Version
+        → OnlyVersionLine (sink_run W.contents W.failed writer.old writer.new) result }
+    ensures not_read { call.entry ≡ Call.Version → reader.new ≡ reader.old }
 {
     match call {
         Call::Replay { log } => replay_to(alloc, reader, writer, log),
         Call::Run => run_to(rt, alloc, reader, writer),
         Call::Steps => steps_to(alloc, reader, writer),
         Call::Dump => dump_to(alloc, reader, writer),
+        Call::Version => print_version(writer),
         Call::Collect(_) | Call::Recover(_) => unreachable!(),
     }
 }
 
-/// Carries out the command that was called, which is one that reads one source, over these ends. If the command line is
-/// refused, nothing is read or written; if memory was refused to it, only the line for that is written. Gives the exit
-/// status.
+/// Carries out what was called, which is a command that reads one source, over these ends, or the version, which is
+/// written, and nothing is read. If the command line is refused, nothing is read or written; if memory was refused to
+/// it, only the line for that is written. Gives the exit status.
 pub fn answer_to<Rt: Threads + Wait + Sync, R: Source, W: Sink>(
     rt: &Rt,
     alloc: Global,
@@ -49,12 +54,15 @@ pub fn answer_to<Rt: Threads + Wait + Sync, R: Source, W: Sink>(
     reader: &mut R,
     writer: &mut W,
 ) -> u8
-    requires one_source { (asked : CallSeen) → call ≡ Ok asked → HasSource asked }
+    requires no_files { (asked : CallSeen) → call ≡ Ok asked → HasNoFiles asked }
     requires sound_reader { R.failed reader.old ≡ false }
     requires sound_writer { W.failed writer.old ≡ false }
-    ensures called { (asked : CallSeen) → call.entry ≡ Ok asked → IsCommandRun (CallGives asked)
+    ensures called { (asked : CallSeen) → call.entry ≡ Ok asked → HasSource asked → IsCommandRun (CallGives asked)
         (source_run R.remaining R.count R.failed reader.old reader.new)
         (sink_run W.contents W.failed writer.old writer.new) result }
+    ensures version { call.entry ≡ Ok Call.Version
+        → OnlyVersionLine (sink_run W.contents W.failed writer.old writer.new) result }
+    ensures not_read { call.entry ≡ Ok Call.Version → reader.new ≡ reader.old }
     ensures refused { IsRefusedCall (call.entry ≡ Err CallFault.Usage) (call.entry ≡ Err CallFault.NoMemory)
         (source_run R.remaining R.count R.failed reader.old reader.new)
         (sink_run W.contents W.failed writer.old writer.new) result }

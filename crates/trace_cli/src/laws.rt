@@ -1,5 +1,5 @@
-//! What the exit status 4 means if neither end failed.
-ghost use Rattle.std.specs.Prelude.{◌<◌, ◌≤◌, Bool};
+//! What the exit status 4 means if neither end failed, and the line of the version.
+ghost use Rattle.std.specs.Prelude.{◌≡◌, ◌<◌, ◌≤◌, ◌∷◌, ◌++◌, [], Bool, codes};
 ghost use Rattle.std.specs.Io.KnownBytes.{Appends};
 ghost use Rattle.command_io.specs.CommandRun.{IsCommandRun, SinkRun, SourceRun};
 ghost use Rattle.dump_command.specs.Dumps.{DumpGives};
@@ -7,6 +7,7 @@ ghost use Rattle.replay_command.specs.Commands.{ReplayGives};
 ghost use Rattle.trace_cli.specs.Answers.{AreSound};
 ghost use Rattle.run_command.specs.Runs.{RunGives};
 
+use crate::version::VERSION_LINE;
 use command_io::{END_FAILED, THREAD_LINE};
 use trace_model::MAX_INPUT;
 
@@ -21,4 +22,9 @@ pub fn status_four_is_reported()
     ensures run { (source : SourceRun) (sink : SinkRun) → AreSound source sink →
         IsCommandRun RunGives source sink END_FAILED → source.count_after ≤ MAX_INPUT →
         Appends sink.contents sink.contents_after THREAD_LINE.now }
+{}
+
+/// What `--version` prints is the program's name, a space, the version and the end of the line.
+pub fn version_line_is()
+    ensures { VERSION_LINE.now ≡ codes "tracering 0.1.0" ++ 10 ∷ [] }
 {}

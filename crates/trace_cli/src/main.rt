@@ -10,6 +10,7 @@ mod laws;
 mod recover;
 mod streams;
 mod unkept;
+mod version;
 
 use crate::answer::answer_to;
 use crate::choose::collect;

@@ -1,5 +1,6 @@
 -- Reading the options of a chain of sections, as a loop does.
-use Rattle.std.proofs.Common.{◌≡◌, ℕ, suc, ◌-◌, ◌+◌, ◌≤◌, ◌<◌, List, [], ◌++◌, length, Option, Some, None, Ok, Err, refl, sym, ap, subst, ◌∙◌, append_assoc, arith}
+use Rattle.std.proofs.Common.{◌≡◌, ℕ, suc, ◌-◌, ◌+◌, ◌≤◌, ◌<◌, List, [], ◌++◌, length, Option, Some, None, Ok, Err}
+use Rattle.std.proofs.Common.{refl, sym, ap, subst, ◌∙◌, append_assoc, arith}
 use Rattle.std.specs.Prelude.{⊤, IfSome}
 use Rattle.trace_dat.specs.declared.fault.Fault.{Fault}
 use Rattle.trace_dat.specs.declared.fault.ReadError.{ReadError}
@@ -38,7 +39,8 @@ chain_start file pointer =
 
 -- the options of the sections from the second on, after those of the first
 abbrev rest_of : List ℕ → ℕ → List FileOption × Option Place → Reading (List FileOption)
-rest_of file count first = chain_from first.1 (λ place. options_of_chain file count place) >>= λ others. Ok (first.0 ++ others)
+rest_of file count first =
+    chain_from first.1 (λ place. options_of_chain file count place) >>= λ others. Ok (first.0 ++ others)
 
 regroup : (before first : List FileOption) (others : Reading (List FileOption))
     → with_list before (others >>= λ ys. Ok (first ++ ys)) ≡ with_list (before ++ first) others
@@ -88,8 +90,12 @@ chain_goes_on file before more place next total read onward within so_far =
     let e : so_far.0 ≡ suc (so_far.0 - 1) = omega (arith, so_far.1.0, so_far.1.1) in
     let one : with_list before (options_of_chain file so_far.0 place)
     ≡ with_list more (chain_from next (λ later. options_of_chain file (so_far.0 - 1) later)) =
-    rw (first_known file so_far.0 (so_far.0 - 1) place e) (link_moves file (so_far.0 - 1) before more next (link_at file place) read) in
-    (so_far.0 - 1, enough_behind (length file) so_far.0 (so_far.0 - 1) place next e so_far.1 onward within, sym one ∙ so_far.2)
+    rw (first_known file so_far.0 (so_far.0 - 1) place e)
+    (link_moves file (so_far.0 - 1) before more next (link_at file place) read) in (
+      so_far.0 - 1,
+      enough_behind (length file) so_far.0 (so_far.0 - 1) place next e so_far.1 onward within,
+      sym one ∙ so_far.2,
+    )
 
 -- a section that can't be read ends the reading
 pub chain_fails : (file : List ℕ) (before : List FileOption) (place : Place) (e : ReadError)
@@ -98,5 +104,6 @@ pub chain_fails : (file : List ℕ) (before : List FileOption) (place : Place) (
 chain_fails file before place e total fails so_far =
     let k : so_far.0 ≡ suc (so_far.0 - 1) = omega (arith, so_far.1.0, so_far.1.1) in
     let one : Fails e (with_list before (options_of_chain file so_far.0 place)) =
-    rw (first_known file so_far.0 (so_far.0 - 1) place k) (link_fails file (so_far.0 - 1) before e (link_at file place) fails) in
+    rw (first_known file so_far.0 (so_far.0 - 1) place k)
+    (link_fails file (so_far.0 - 1) before e (link_at file place) fails) in
     subst (λ r. Fails e r) so_far.2 one

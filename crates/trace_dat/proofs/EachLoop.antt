@@ -1,5 +1,6 @@
 -- Reading a list for each of some things, as a loop does.
-use Rattle.std.proofs.Common.{◌≡◌, ℕ, ◌+◌, ◌≤◌, ◌<◌, List, [], ◌∷◌, ◌++◌, length, get_or, drop, map, Ok, Err, refl, sym, ap, subst, ◌∙◌, append_assoc}
+use Rattle.std.proofs.Common.{◌≡◌, ℕ, ◌+◌, ◌≤◌, ◌<◌, List, [], ◌∷◌, ◌++◌, length, get_or, drop, map, Ok, Err, refl, sym}
+use Rattle.std.proofs.Common.{ap, subst, ◌∙◌, append_assoc}
 use Rattle.std.proofs.lemmas.List.{append-nil, drop_more, drop_all}
 use Rattle.trace_dat.specs.declared.fault.ReadError.{ReadError}
 use Rattle.trace_dat.specs.declared.fault.ReadError.TheVariants as errors
@@ -40,8 +41,10 @@ pub each_goes_on : {X Y A : Type 0} (see : X → Y) (of : Y → Reading (List A)
     → with_list before (each_of of (map see (drop i xs))) ≡ total
     → with_list more (each_of of (map see (drop (i + 1) xs))) ≡ total
 each_goes_on see of before more xs i x total lt is read so_far =
-    let one : with_list before (each_of of (map see (drop i xs))) ≡ with_list more (each_of of (map see (drop (i + 1) xs))) =
-    rw (next_known see of xs i x lt is) (list_moves before more (of (see x)) (each_of of (map see (drop (i + 1) xs))) read) in
+    let one : with_list before (each_of of (map see (drop i xs)))
+    ≡ with_list more (each_of of (map see (drop (i + 1) xs))) =
+    rw (next_known see of xs i x lt is)
+    (list_moves before more (of (see x)) (each_of of (map see (drop (i + 1) xs))) read) in
     sym one ∙ so_far
 
 -- a list that can't be read ends the reading
@@ -51,7 +54,8 @@ pub each_fails : {X Y A : Type 0} (see : X → Y) (of : Y → Reading (List A)) 
     → with_list before (each_of of (map see (drop i xs))) ≡ total → Fails e total
 each_fails see of before xs i x e total lt is fails so_far =
     let one : Fails e (with_list before (each_of of (map see (drop i xs)))) =
-    rw (next_known see of xs i x lt is) (list_fails before e (of (see x)) (each_of of (map see (drop (i + 1) xs))) fails) in
+    rw (next_known see of xs i x lt is)
+    (list_fails before e (of (see x)) (each_of of (map see (drop (i + 1) xs))) fails) in
     subst (λ r. Fails e r) so_far one
 
 -- all lists were read

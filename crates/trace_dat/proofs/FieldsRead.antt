@@ -1,5 +1,6 @@
 -- What is spelled at the front of a part is read there: fields, and the formats of events.
-use Rattle.std.proofs.Common.{◌≡◌, ◌==◌, ℕ, ◌+◌, true, false, ltb, List, [], ◌∷◌, ◌++◌, length, take, drop, flat_map, Some, Ok, refl, sym, ap, subst, ◌∙◌, append_assoc, arith, length-append, nat_eq}
+use Rattle.std.proofs.Common.{◌≡◌, ◌==◌, ℕ, ◌+◌, true, false, ltb, List, [], ◌∷◌, ◌++◌, length, take, drop, flat_map}
+use Rattle.std.proofs.Common.{Some, Ok, refl, sym, ap, subst, ◌∙◌, append_assoc, arith, length-append, nat_eq}
 use Rattle.std.specs.List.{AllByRecursion, position, position_or_len, starts_with}
 use Rattle.std.specs.Int.{Width, w32, w64, byte_len, to_le_bytes}
 use Rattle.std.proofs.lemmas.Bool.{le-ltb, lt-ltb}
@@ -10,11 +11,14 @@ use Rattle.std.proofs.lemmas.Slice.Eq.{starts_is}
 use Rattle.trace_dat.specs.declared.fault.Cause.{Cause}
 use Rattle.trace_dat.specs.declared.fault.Cause.TheVariants.{Misplaced}
 use Rattle.trace_dat.specs.Parts.{FilePart}
-use Rattle.trace_dat.specs.Fields.{Reading, ◌>>=◌, behind, part_at, number_at, block_at, text_at, text_to, expected_at, all_at}
+use Rattle.trace_dat.specs.Fields.{Reading, ◌>>=◌, behind, part_at, number_at, block_at, text_at, text_to, expected_at}
+use Rattle.trace_dat.specs.Fields.{all_at}
 use Rattle.trace_dat.specs.Contents.{EventFormat}
 use Rattle.trace_dat.specs.Formats.{ring_system, format_at, formats_at, system_at, systems_at}
 use Rattle.trace_dat.specs.Versions.{ended, page_title, record_title, titled_at, all_formats_at, tables_at}
-use Rattle.trace_dat.specs.Spelling.{Fits, IsText, FitsBlock, FormatsFit, SystemFits, SystemsFit, SixTextsFit, block, formats_bytes, System, system_bytes, systems_bytes, SixTexts, six_bytes, named_formats, systems_formats, six_formats}
+use Rattle.trace_dat.specs.Spelling.{Fits, IsText, FitsBlock, FormatsFit, SystemFits, SystemsFit, SixTextsFit, block}
+use Rattle.trace_dat.specs.Spelling.{formats_bytes, System, system_bytes, systems_bytes, SixTexts, six_bytes}
+use Rattle.trace_dat.specs.Spelling.{named_formats, systems_formats, six_formats}
 use Rattle.trace_dat.proofs.Spelled.{IsWide, wide32, wide64}
 
 -- one step that reads, and those after it

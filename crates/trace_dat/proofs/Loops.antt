@@ -1,5 +1,6 @@
 -- Reading fields one after the other, as a loop does.
-use Rattle.std.proofs.Common.{◌≡◌, ℕ, suc, ◌-◌, ◌+◌, ◌≤◌, ◌<◌, List, ◌++◌, Ok, Err, refl, sym, ap, subst, ◌∙◌, append_assoc, arith}
+use Rattle.std.proofs.Common.{◌≡◌, ℕ, suc, ◌-◌, ◌+◌, ◌≤◌, ◌<◌, List, ◌++◌, Ok, Err, refl, sym, ap, subst, ◌∙◌}
+use Rattle.std.proofs.Common.{append_assoc, arith}
 use Rattle.std.proofs.lemmas.List.{append-nil}
 use Rattle.trace_dat.specs.declared.fault.ReadError.{ReadError}
 use Rattle.trace_dat.specs.declared.fault.ReadError.TheVariants as errors
@@ -7,7 +8,8 @@ use Rattle.trace_dat.specs.Parts.{FilePart}
 use Rattle.trace_dat.specs.Fields.{Reading, ◌>>=◌, Fails, all_at, with_front}
 
 -- the fields from the second on, after the first
-abbrev then_all : {A : Type 0} → (FilePart → Reading (List A × FilePart)) → List A × FilePart → Reading (List A × FilePart)
+abbrev then_all : {A : Type 0} → (FilePart → Reading (List A × FilePart)) → List A × FilePart
+    → Reading (List A × FilePart)
 then_all others x = others x.1 >>= λ y. Ok (x.0 ++ y.0, y.1)
 
 pub regroup : {A : Type 0} (before first : List A) (others : Reading (List A × FilePart))
@@ -22,7 +24,8 @@ read_so x = Ok x
 pub same_value : {A : Type 0} (x y : A) → read_so x ≡ read_so y → x ≡ y
 same_value x y e = cc
 
-front_moves : {A : Type 0} (before : List A) (first : Reading (List A × FilePart)) (others : FilePart → Reading (List A × FilePart))
+front_moves : {A : Type 0} (before : List A) (first : Reading (List A × FilePart))
+    (others : FilePart → Reading (List A × FilePart))
     (more : List A) (after : FilePart) → with_front before first ≡ Ok (more, after)
     → with_front before (first >>= then_all others) ≡ with_front more (others after)
 front_moves before (Ok x) others more after e =
@@ -46,7 +49,8 @@ pub goes_on : {A : Type 0} (field : ℕ → FilePart → Reading (List A × File
 unfolding all_at
 goes_on field before more count i part after total lt read so_far =
     let k : count - i ≡ suc (count - (i + 1)) = omega arith in
-    let one : with_front before (all_at field i (count - i) part) ≡ with_front more (all_at field (i + 1) (count - (i + 1)) after) =
+    let one : with_front before (all_at field i (count - i) part)
+    ≡ with_front more (all_at field (i + 1) (count - (i + 1)) after) =
     rw k (front_moves before (field i part) (λ p. all_at field (i + 1) (count - (i + 1)) p) more after read) in
     sym one ∙ so_far
 

@@ -1,5 +1,6 @@
 -- Reading options one after the other, as a loop does.
-use Rattle.std.proofs.Common.{◌≡◌, ℕ, suc, ◌-◌, ◌+◌, ◌<◌, List, [], ◌∷◌, ◌++◌, length, Option, Some, None, Ok, refl, sym, ap, subst, ◌∙◌, arith}
+use Rattle.std.proofs.Common.{◌≡◌, ℕ, suc, ◌-◌, ◌+◌, ◌<◌, List, [], ◌∷◌, ◌++◌, length, Option, Some, None, Ok, refl}
+use Rattle.std.proofs.Common.{sym, ap, subst, ◌∙◌, arith}
 use Rattle.std.proofs.lemmas.List.{append-nil}
 use Rattle.trace_dat.specs.declared.fault.ReadError.{ReadError}
 use Rattle.trace_dat.specs.declared.fault.ReadError.TheVariants as errors
@@ -34,8 +35,11 @@ pub option_goes_on : (before : List FileOption) (part after : FilePart) (option 
 option_goes_on before part after option total read shorter so_far =
     let one : with_front before (option_at part >>= rest_of (so_far.0 - 1))
     ≡ with_front (before ++ option ∷ []) (options_among (so_far.0 - 1) after) =
-    rw read (regroup before (option ∷ []) (options_among (so_far.0 - 1) after)) in
-    (so_far.0 - 1, omega (arith, so_far.1), sym one ∙ sym (from_first before so_far.0 (so_far.0 - 1) part (omega (arith, so_far.1))) ∙ so_far.2)
+    rw read (regroup before (option ∷ []) (options_among (so_far.0 - 1) after)) in (
+      so_far.0 - 1,
+      omega (arith, so_far.1),
+      sym one ∙ sym (from_first before so_far.0 (so_far.0 - 1) part (omega (arith, so_far.1))) ∙ so_far.2,
+    )
 
 -- the options end here
 pub options_end : (before : List FileOption) (part after : FilePart) (total : Reading (List FileOption × FilePart))
@@ -57,5 +61,6 @@ pub option_fails : (before : List FileOption) (part : FilePart) (e : ReadError)
     → Fails e total
 option_fails before part e total fails so_far =
     let one : Fails e (with_front before (options_among so_far.0 part)) =
-    rw (from_first before so_far.0 (so_far.0 - 1) part (omega (arith, so_far.1))) (first_fails before e (option_at part) (rest_of (so_far.0 - 1)) fails) in
+    rw (from_first before so_far.0 (so_far.0 - 1) part (omega (arith, so_far.1)))
+    (first_fails before e (option_at part) (rest_of (so_far.0 - 1)) fails) in
     subst (λ r. Fails e r) so_far.2 one

@@ -1,13 +1,16 @@
 -- What an option leads to doesn't depend on where the option is in the file.
-use Rattle.std.proofs.Common.{◌≡◌, ◌==◌, ℕ, zero, suc, ◌+◌, false, cond, ltb, List, [], ◌∷◌, ◌++◌, length, take, drop, flat_map, Option, Some, None, Ok, refl, sym, ap, ◌∙◌, inl, inr}
+use Rattle.std.proofs.Common.{◌≡◌, ◌==◌, ℕ, zero, suc, ◌+◌, false, cond, ltb, List, [], ◌∷◌, ◌++◌, length, take, drop}
+use Rattle.std.proofs.Common.{flat_map, Option, Some, None, Ok, refl, sym, ap, ◌∙◌, inl, inr}
 use Rattle.std.specs.List.{position}
 use Rattle.std.specs.Int.{Width, w32, w64, byte_len, from_le_bytes}
 use Rattle.trace_dat.specs.declared.entries.TheConstants.{BUFFER, COUNTERS, FORMATS, RING_FORMATS}
 use Rattle.trace_dat.specs.Parts.{FilePart}
-use Rattle.trace_dat.specs.Fields.{Reading, ◌>>=◌, front, behind, part_at, number_at, text_at, text_to, pointed_at, range_at, all_at, each_of}
+use Rattle.trace_dat.specs.Fields.{Reading, ◌>>=◌, front, behind, part_at, number_at, text_at, text_to, pointed_at}
+use Rattle.trace_dat.specs.Fields.{range_at, all_at, each_of}
 use Rattle.trace_dat.specs.Contents.{EventFormat, TraceBuffer}
 use Rattle.trace_dat.specs.Entries.{FileOption}
-use Rattle.trace_dat.specs.Buffers.{pages_at, numbered_pages_at, buffer_at, instance_at, instance_of, stated_buffer_at, buffer_of, counters_of}
+use Rattle.trace_dat.specs.Buffers.{pages_at, numbered_pages_at, buffer_at, instance_at, instance_of, stated_buffer_at}
+use Rattle.trace_dat.specs.Buffers.{buffer_of, counters_of}
 use Rattle.trace_dat.specs.Sections.{ring_formats_at, event_formats_at, formats_of}
 use Rattle.trace_dat.proofs.Loops.{same_value}
 use Rattle.trace_dat.proofs.Spelled.{bind_ok, guard_ok}

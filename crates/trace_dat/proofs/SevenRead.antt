@@ -1,5 +1,6 @@
 -- A file that is spelled as version 7 is read so.
-use Rattle.std.proofs.Common.{◌≡◌, ◌==◌, ℕ, zero, suc, ◌+◌, ◌%◌, ◌≤◌, false, List, [], ◌∷◌, ◌++◌, length, drop, flat_map, Some, None, Ok, refl, ap, ◌∙◌, arith, nat_eq}
+use Rattle.std.proofs.Common.{◌≡◌, ◌==◌, ℕ, zero, suc, ◌+◌, ◌%◌, ◌≤◌, false, List, [], ◌∷◌, ◌++◌, length, drop}
+use Rattle.std.proofs.Common.{flat_map, Some, None, Ok, refl, ap, ◌∙◌, arith, nat_eq}
 use Rattle.std.specs.List.{starts_with}
 use Rattle.std.specs.Prelude.{codes}
 use Rattle.std.specs.Int.{w16, w32, w64, to_le_bytes}
@@ -12,11 +13,13 @@ use Rattle.trace_dat.specs.Fields.{number_at, block_at, text_at, expected_at, po
 use Rattle.trace_dat.specs.Contents.{Contents}
 use Rattle.trace_dat.specs.Entries.{FileOption, options_at}
 use Rattle.trace_dat.specs.Buffers.{buffer_of, counters_of}
-use Rattle.trace_dat.specs.Sections.{section_body_at, section_at, Place, linked_at, link_from, link_at, options_of_chain, formats_of}
+use Rattle.trace_dat.specs.Sections.{section_body_at, section_at, Place, linked_at, link_from, link_at}
+use Rattle.trace_dat.specs.Sections.{options_of_chain, formats_of}
 use Rattle.trace_dat.specs.Versions.{ended, magic, machine, plain_word, version_at, version_seven, reading_of}
 use Rattle.trace_dat.specs.Spelling.{block, options_bytes, HasSection, HasOptions, Linked, IsChain, IsSeven}
 use Rattle.trace_dat.proofs.Spelled.{wide16, wide32, wide64}
-use Rattle.trace_dat.proofs.FieldsRead.{step, Begins, Begins-split, behind_is, number_reads, block_reads, text_reads, word_begins, expected_reads}
+use Rattle.trace_dat.proofs.FieldsRead.{step, Begins, Begins-split, behind_is, number_reads, block_reads, text_reads}
+use Rattle.trace_dat.proofs.FieldsRead.{word_begins, expected_reads}
 use Rattle.trace_dat.proofs.OptionsSame.{AreSame, AreSame-append, formats_same, buffers_same, counters_same}
 use Rattle.trace_dat.proofs.SixRead.{options_read, pointer_reads, same_contents}
 

@@ -1,5 +1,7 @@
 -- A file that is spelled as version 6 is read so.
-use Rattle.std.proofs.Common.{◌≡◌, ◌==◌, ℕ, zero, suc, ◌+◌, ◌<◌, ◌≤◌, true, false, ltb, List, [], ◌∷◌, ◌++◌, length, take, drop, flat_map, Option, Some, None, Ok, refl, sym, ap, subst, ◌∙◌, append_assoc, arith, length-append, nat_eq}
+use Rattle.std.proofs.Common.{◌≡◌, ◌==◌, ℕ, zero, suc, ◌+◌, ◌<◌, ◌≤◌, true, false, ltb, List, [], ◌∷◌, ◌++◌, length}
+use Rattle.std.proofs.Common.{take, drop, flat_map, Option, Some, None, Ok, refl, sym, ap, subst, ◌∙◌, append_assoc}
+use Rattle.std.proofs.Common.{arith, length-append, nat_eq}
 use Rattle.std.specs.Prelude.{codes, unwrap_or}
 use Rattle.std.specs.List.{AllByRecursion, starts_with}
 use Rattle.std.specs.Int.{w16, w32, w64, to_le_bytes}
@@ -13,10 +15,14 @@ use Rattle.trace_dat.specs.Fields.{number_at, block_at, expected_at, pointed_at,
 use Rattle.trace_dat.specs.Contents.{EventFormat, Recorded, TraceBuffer, Contents}
 use Rattle.trace_dat.specs.Entries.{FileOption, body_at, option_at, options_among, options_at}
 use Rattle.trace_dat.specs.Buffers.{ranges_word, pages_at, buffer_at, instance_of, counters_of}
-use Rattle.trace_dat.specs.Versions.{ended, magic, machine, options_word, all_formats_at, tables_at, stated_options_at, version_six, version_at, reading_of}
-use Rattle.trace_dat.specs.Spelling.{Fits, OptionFits, RangeFits, block, six_bytes, six_formats, option_bytes, options_bytes, stated_bytes, Range, range_bytes, IsInside, numbered_pages, SixParts, IsSix}
+use Rattle.trace_dat.specs.Versions.{ended, magic, machine, options_word, all_formats_at, tables_at, stated_options_at}
+use Rattle.trace_dat.specs.Versions.{version_six, version_at, reading_of}
+use Rattle.trace_dat.specs.Spelling.{Fits, OptionFits, RangeFits, block, six_bytes, six_formats, option_bytes}
+use Rattle.trace_dat.specs.Spelling.{options_bytes, stated_bytes, Range, range_bytes, IsInside, numbered_pages}
+use Rattle.trace_dat.specs.Spelling.{SixParts, IsSix}
 use Rattle.trace_dat.proofs.Spelled.{wide16, wide32, wide64}
-use Rattle.trace_dat.proofs.FieldsRead.{step, Begins, Begins-split, Begins-nothing, behind_is, number_reads, block_reads, word_begins, expected_reads, all_read, front_reads}
+use Rattle.trace_dat.proofs.FieldsRead.{step, Begins, Begins-split, Begins-nothing, behind_is, number_reads}
+use Rattle.trace_dat.proofs.FieldsRead.{block_reads, word_begins, expected_reads, all_read, front_reads}
 use Rattle.trace_dat.proofs.OptionsSame.{AreSame, instances_same, counters_same}
 
 -- ---- options

@@ -1,23 +1,29 @@
 -- What is read at the front of a part is spelled there.
-use Rattle.std.proofs.Common.{◌≡◌, ◌==◌, ℕ, zero, suc, ◌+◌, ◌<◌, ◌≤◌, Bool, true, false, cond, ltb, List, [], ◌∷◌, ◌++◌, length, take, drop, flat_map, Option, Some, None, Ok, Err, refl, sym, ap, subst, ◌∙◌, append_assoc, arith, inl, inr}
+use Rattle.std.proofs.Common.{◌≡◌, ◌==◌, ℕ, zero, suc, ◌+◌, ◌<◌, ◌≤◌, Bool, true, false, cond, ltb, List, [], ◌∷◌, ◌++◌}
+use Rattle.std.proofs.Common.{length, take, drop, flat_map, Option, Some, None, Ok, Err, refl, sym, ap, subst, ◌∙◌}
+use Rattle.std.proofs.Common.{append_assoc, arith, inl, inr}
 use Rattle.std.specs.Prelude.{nat_eq}
 use Rattle.std.specs.List.{AllByRecursion, position, starts_with}
 use Rattle.std.specs.Int.{Width, w16, w32, w64, byte_len, from_le_bytes, to_le_bytes}
 use Rattle.std.proofs.lemmas.Bool.{cases_lt, ltb-false, eqb-true, eqb-false}
 use Rattle.std.proofs.lemmas.List.{take-append-drop, length-take, get_or-drop, get_or-take, get_or_past, drop_more}
 use Rattle.std.proofs.lemmas.List.Quantifiers.{position-Some}
-use Rattle.std.proofs.lemmas.Nat.{le_bytes_2, le_bytes_4, le_bytes_8, from_le_bytes-to_le_bytes_2, from_le_bytes-to_le_bytes_4, from_le_bytes-to_le_bytes_8}
+use Rattle.std.proofs.lemmas.Nat.{le_bytes_2, le_bytes_4, le_bytes_8, from_le_bytes-to_le_bytes_2}
+use Rattle.std.proofs.lemmas.Nat.{from_le_bytes-to_le_bytes_4, from_le_bytes-to_le_bytes_8}
 use Rattle.std.proofs.lemmas.Slice.Eq.{starts_is}
 use Rattle.std.proofs.lemmas.Bool.Decides.{Decides-eqb}
 use Rattle.trace_dat.specs.declared.fault.Fault.{Fault}
 use Rattle.trace_dat.specs.declared.fault.Cause.{Cause}
 use Rattle.trace_dat.specs.declared.fault.Cause.TheVariants.{Misplaced}
 use Rattle.trace_dat.specs.Parts.{FilePart}
-use Rattle.trace_dat.specs.Fields.{Reading, ◌>>=◌, front, behind, part_at, number_at, block_at, text_at, text_to, expected_at, all_at}
+use Rattle.trace_dat.specs.Fields.{Reading, ◌>>=◌, front, behind, part_at, number_at, block_at, text_at, text_to}
+use Rattle.trace_dat.specs.Fields.{expected_at, all_at}
 use Rattle.trace_dat.specs.Contents.{EventFormat}
 use Rattle.trace_dat.specs.Formats.{ring_system, format_at, formats_at, system_at, systems_at}
 use Rattle.trace_dat.specs.Versions.{ended, page_title, record_title, titled_at, all_formats_at, tables_at}
-use Rattle.trace_dat.specs.Spelling.{IsBytes, Fits, IsText, FitsBlock, FormatsFit, SystemFits, SystemsFit, SixTextsFit, block, formats_bytes, System, system_bytes, systems_bytes, SixTexts, six_bytes, named_formats, systems_formats, six_formats}
+use Rattle.trace_dat.specs.Spelling.{IsBytes, Fits, IsText, FitsBlock, FormatsFit, SystemFits, SystemsFit, SixTextsFit}
+use Rattle.trace_dat.specs.Spelling.{block, formats_bytes, System, system_bytes, systems_bytes, SixTexts, six_bytes}
+use Rattle.trace_dat.specs.Spelling.{named_formats, systems_formats, six_formats}
 use Rattle.trace_dat.proofs.Loops.{same_value}
 
 pub IsBytes-drop : (n : ℕ) (bytes : List ℕ) → IsBytes bytes → IsBytes (drop n bytes)
@@ -59,7 +65,9 @@ pub part_takes : (len : ℕ) (part body rest : FilePart) → IsBytes part.bytes 
     → Takes part body.bytes rest × (length body.bytes ≡ len) × IsBytes body.bytes
 unfolding part_at
 part_takes len part body rest fits e =
-    let g = guard_ok (ltb (length part.bytes) len) (record { cause = _; at = part.at }) (front len part, behind len part) (body, rest) e in
+    let g =
+    guard_ok (ltb (length part.bytes) len) (record { cause = _; at = part.at }) (front len part, behind len part)
+    (body, rest) e in
     let enough : len ≤ length part.bytes = ltb-false _ _ g.0 in
     let whole : Takes part (take len part.bytes) (behind len part) =
     record { whole = sym (take-append-drop len part.bytes); fits = IsBytes-drop len part.bytes fits } in
@@ -107,7 +115,8 @@ number_takes w wide part n rest fits e =
     let same = same_value (from_le_bytes w b.0.0.bytes, b.0.1) (n, rest) b.2 in
     let number : from_le_bytes w b.0.0.bytes ≡ n = ap (λ p. p.0) same in
     let spelled : to_le_bytes w n ≡ b.0.0.bytes = wide.back b.0.0.bytes n t.1 t.2 (sym number) in
-    subst (λ r. Takes part (to_le_bytes w n) r) (ap (λ p. p.1) same) (subst (λ bs. Takes part bs b.0.1) (sym spelled) t.0)
+    subst (λ r. Takes part (to_le_bytes w n) r) (ap (λ p. p.1) same)
+    (subst (λ bs. Takes part bs b.0.1) (sym spelled) t.0)
 
 pub number_fits : (w : Width) → IsWide w → (part : FilePart) (n : ℕ) (rest : FilePart) → IsBytes part.bytes
     → number_at w part ≡ Ok (n, rest) → Fits w n
@@ -144,7 +153,8 @@ text_to_takes (Some len) part text rest fits there e =
     ∙ sym (append_assoc (take len part.bytes) (0 ∷ []) (drop (len + 1) part.bytes)) in
     let whole : Takes part (ended (take len part.bytes)) (behind (len + 1) part) =
     record { whole = parts; fits = IsBytes-drop (len + 1) part.bytes fits } in
-    subst (λ x. Takes part (ended x.0) x.1) (same_value (take len part.bytes, behind (len + 1) part) (text, rest) e) whole
+    subst (λ x. Takes part (ended x.0) x.1) (same_value (take len part.bytes, behind (len + 1) part) (text, rest) e)
+    whole
 
 pub text_takes : (part : FilePart) (text : List ℕ) (rest : FilePart) → IsBytes part.bytes
     → text_at part ≡ Ok (text, rest) → Takes part (ended text) rest
@@ -160,7 +170,8 @@ text_to_ends (Some len) part text rest there e =
     let none : IsText (take len part.bytes) = λ i lt.
     let before : i < len = omega (arith, lt, length-take len part.bytes) in
     rw (get_or-take len part.bytes i 0 before) (eqb-false _ _ (found.2 i before)) in
-    subst (λ xs. IsText xs) (ap (λ p. p.0) (same_value (take len part.bytes, behind (len + 1) part) (text, rest) e)) none
+    subst (λ xs. IsText xs) (ap (λ p. p.0) (same_value (take len part.bytes, behind (len + 1) part) (text, rest) e))
+    none
 
 -- a text that is read has no zero byte
 pub text_ends : (part : FilePart) (text : List ℕ) (rest : FilePart) → text_at part ≡ Ok (text, rest) → IsText text
@@ -183,7 +194,9 @@ pub expected_takes : (text : List ℕ) (cause : Cause) (part rest : FilePart) �
     → expected_at text cause part ≡ Ok rest → Takes part text rest
 unfolding expected_at
 expected_takes text cause part rest fits e =
-    let g = passed_ok (starts_with nat_eq part.bytes text) (record { cause = cause; at = part.at }) (behind (length text) part) rest e in
+    let g =
+    passed_ok (starts_with nat_eq part.bytes text) (record { cause = cause; at = part.at })
+    (behind (length text) part) rest e in
     subst (λ r. Takes part text r) g.1 (word_takes text part fits g.0)
 
 -- ---- formats
@@ -194,10 +207,16 @@ format_takes : (system : List ℕ) (part : FilePart) (found : List EventFormat) 
     × FitsBlock w64 text
 unfolding format_at
 format_takes system part found rest fits e =
-    let b = bind_ok (block_at w64 part) (λ text. Ok (record { system = system; text = text.0.bytes } ∷ [], text.1)) (found, rest) e in
+    let b =
+    bind_ok (block_at w64 part) (λ text. Ok (record { system = system; text = text.0.bytes } ∷ [], text.1))
+    (found, rest) e in
     let t = block_takes w64 wide64 part b.0.0 b.0.1 fits b.1 in
-    let same = same_value (record { system = system; text = b.0.0.bytes } ∷ [], b.0.1) (found, rest) b.2 in
-    (b.0.0.bytes, subst (λ r. Takes part (block w64 b.0.0.bytes) r) (ap (λ p. p.1) same) t.0, sym (ap (λ p. p.0) same), t.2)
+    let same = same_value (record { system = system; text = b.0.0.bytes } ∷ [], b.0.1) (found, rest) b.2 in (
+      b.0.0.bytes,
+      subst (λ r. Takes part (block w64 b.0.0.bytes) r) (ap (λ p. p.1) same) t.0,
+      sym (ap (λ p. p.0) same),
+      t.2,
+    )
 
 -- formats that are read are spelled, this count of them
 abbrev SpellsFormats : List ℕ → ℕ → FilePart → List EventFormat → FilePart → Type 0
@@ -213,15 +232,25 @@ each_format_takes system zero index part found rest fits e =
     let same = same_value ([], part) (found, rest) e in
     subst (λ x. SpellsFormats system 0 part x.0 x.1) same ([], refl, record { whole = refl; fits = fits }, refl, tt)
 each_format_takes system (suc count) index part found rest fits e =
-    let b = bind_ok (format_at system part) (λ first. all_at (λ _. format_at system) (index + 1) count first.1 >>= λ others. Ok (first.0 ++ others.0, others.1)) (found, rest) e in
-    let d = bind_ok (all_at (λ _. format_at system) (index + 1) count b.0.1) (λ others. Ok (b.0.0 ++ others.0, others.1)) (found, rest) b.2 in
+    let b =
+    bind_ok (format_at system part)
+    (λ first. all_at (λ _. format_at system) (index + 1) count first.1 >>= λ others.
+    Ok (first.0 ++ others.0, others.1)) (found, rest) e in
+    let d =
+    bind_ok (all_at (λ _. format_at system) (index + 1) count b.0.1) (λ others. Ok (b.0.0 ++ others.0, others.1))
+    (found, rest) b.2 in
     let one = format_takes system part b.0.0 b.0.1 fits b.1 in
     let more = each_format_takes system count (index + 1) b.0.1 d.0.0 d.0.1 one.1.fits d.1 in
     let lists : b.0.0 ++ d.0.0 ≡ named_formats system (one.0 ∷ more.0) =
     ap (λ xs. xs ++ d.0.0) one.2 ∙ ap (λ xs. record { system = system; text = one.0 } ∷ xs) more.3 in
     let same = same_value (b.0.0 ++ d.0.0, d.0.1) (found, rest) d.2 in
-    subst (λ x. SpellsFormats system (suc count) part x.0 x.1) same
-    (one.0 ∷ more.0, ap (λ n. suc n) more.1, Takes-then part (block w64 one.0) b.0.1 (flat_map (block w64) more.0) d.0.1 one.1 more.2, lists, (one.3, more.4))
+    subst (λ x. SpellsFormats system (suc count) part x.0 x.1) same (
+      one.0 ∷ more.0,
+      ap (λ n. suc n) more.1,
+      Takes-then part (block w64 one.0) b.0.1 (flat_map (block w64) more.0) d.0.1 one.1 more.2,
+      lists,
+      (one.3, more.4),
+    )
 
 -- the formats of a system
 abbrev pub AreSpelled : List ℕ → FilePart → List EventFormat → FilePart → Type 0
@@ -257,8 +286,12 @@ unfolding system_at
 system_takes part found rest fits e =
     let b = bind_ok (text_at part) (λ name. formats_at name.0 name.1) (found, rest) e in
     let n = text_takes part b.0.0 b.0.1 fits b.1 in
-    let t = formats_take b.0.0 b.0.1 found rest n.fits b.2 in
-    (record { name = b.0.0; texts = t.0 }, Takes-then part (ended b.0.0) b.0.1 (formats_bytes t.0) rest n t.1, t.2, (text_ends part b.0.0 b.0.1 b.1, t.3))
+    let t = formats_take b.0.0 b.0.1 found rest n.fits b.2 in (
+      record { name = b.0.0; texts = t.0 },
+      Takes-then part (ended b.0.0) b.0.1 (formats_bytes t.0) rest n t.1,
+      t.2,
+      (text_ends part b.0.0 b.0.1 b.1, t.3),
+    )
 
 -- systems that are read are spelled, this count of them
 abbrev SpellsSystems : ℕ → FilePart → List EventFormat → FilePart → Type 0
@@ -274,15 +307,25 @@ each_system_takes zero index part found rest fits e =
     let same = same_value ([], part) (found, rest) e in
     subst (λ x. SpellsSystems 0 part x.0 x.1) same ([], refl, record { whole = refl; fits = fits }, refl, tt)
 each_system_takes (suc count) index part found rest fits e =
-    let b = bind_ok (system_at part) (λ first. all_at (λ _. system_at) (index + 1) count first.1 >>= λ others. Ok (first.0 ++ others.0, others.1)) (found, rest) e in
-    let d = bind_ok (all_at (λ _. system_at) (index + 1) count b.0.1) (λ others. Ok (b.0.0 ++ others.0, others.1)) (found, rest) b.2 in
+    let b =
+    bind_ok (system_at part)
+    (λ first. all_at (λ _. system_at) (index + 1) count first.1 >>= λ others.
+    Ok (first.0 ++ others.0, others.1)) (found, rest) e in
+    let d =
+    bind_ok (all_at (λ _. system_at) (index + 1) count b.0.1) (λ others. Ok (b.0.0 ++ others.0, others.1))
+    (found, rest) b.2 in
     let one = system_takes part b.0.0 b.0.1 fits b.1 in
     let more = each_system_takes count (index + 1) b.0.1 d.0.0 d.0.1 one.1.fits d.1 in
     let lists : b.0.0 ++ d.0.0 ≡ systems_formats (one.0 ∷ more.0) =
     ap (λ xs. xs ++ d.0.0) one.2 ∙ ap (λ xs. named_formats one.0.name one.0.texts ++ xs) more.3 in
     let same = same_value (b.0.0 ++ d.0.0, d.0.1) (found, rest) d.2 in
-    subst (λ x. SpellsSystems (suc count) part x.0 x.1) same
-    (one.0 ∷ more.0, ap (λ n. suc n) more.1, Takes-then part (system_bytes one.0) b.0.1 (flat_map system_bytes more.0) d.0.1 one.1 more.2, lists, (one.3, more.4))
+    subst (λ x. SpellsSystems (suc count) part x.0 x.1) same (
+      one.0 ∷ more.0,
+      ap (λ n. suc n) more.1,
+      Takes-then part (system_bytes one.0) b.0.1 (flat_map system_bytes more.0) d.0.1 one.1 more.2,
+      lists,
+      (one.3, more.4),
+    )
 
 systems_take : (part : FilePart) (found : List EventFormat) (rest : FilePart) → IsBytes part.bytes
     → systems_at part ≡ Ok (found, rest)
@@ -321,7 +364,9 @@ tables_take : (part rest : FilePart) → IsBytes part.bytes → tables_at part �
     × FitsBlock w32 x × FitsBlock w32 y × FitsBlock w64 z
 unfolding tables_at
 tables_take part rest fits e =
-    let a = bind_ok (block_at w32 part) (λ symbols. block_at w32 symbols.1 >>= λ texts. (block_at w64 texts.1 >>= λ tasks. Ok tasks.1)) rest e in
+    let a =
+    bind_ok (block_at w32 part)
+    (λ symbols. block_at w32 symbols.1 >>= λ texts. (block_at w64 texts.1 >>= λ tasks. Ok tasks.1)) rest e in
     let b = bind_ok (block_at w32 a.0.1) (λ texts. block_at w64 texts.1 >>= λ tasks. Ok tasks.1) rest a.2 in
     let d = bind_ok (block_at w64 b.0.1) (λ tasks. Ok tasks.1) rest b.2 in
     let p = block_takes w32 wide32 part a.0.0 a.0.1 fits a.1 in
@@ -331,8 +376,10 @@ tables_take part rest fits e =
       a.0.0.bytes,
       b.0.0.bytes,
       d.0.0.bytes,
-      subst (λ x. Takes part (block w32 a.0.0.bytes ++ (block w32 b.0.0.bytes ++ block w64 d.0.0.bytes)) x) (same_value d.0.1 rest d.2)
-          (Takes-then part (block w32 a.0.0.bytes) a.0.1 (block w32 b.0.0.bytes ++ block w64 d.0.0.bytes) d.0.1 p.0 two),
+      subst (λ x. Takes part (block w32 a.0.0.bytes ++ (block w32 b.0.0.bytes ++ block w64 d.0.0.bytes)) x)
+          (same_value d.0.1 rest d.2)
+          (Takes-then part (block w32 a.0.0.bytes) a.0.1 (block w32 b.0.0.bytes ++ block w64 d.0.0.bytes)
+          d.0.1 p.0 two),
       p.2,
       q.2,
       r.2,
@@ -347,24 +394,58 @@ pub front_takes : (part tables rest : FilePart) (found : List EventFormat) → I
     → all_formats_at part ≡ Ok (found, tables) → tables_at tables ≡ Ok rest → SpellsFront part found rest
 unfolding all_formats_at
 front_takes part tables rest found fits e behind_it =
-    let a = bind_ok (titled_at page_title part) (λ page. titled_at record_title page >>= λ word. (formats_at ring_system word >>= λ ring. (systems_at ring.1 >>= λ systems. Ok (ring.0 ++ systems.0, systems.1)))) (found, tables) e in
-    let b = bind_ok (titled_at record_title a.0) (λ word. formats_at ring_system word >>= λ ring. (systems_at ring.1 >>= λ systems. Ok (ring.0 ++ systems.0, systems.1))) (found, tables) a.2 in
-    let d = bind_ok (formats_at ring_system b.0) (λ ring. systems_at ring.1 >>= λ systems. Ok (ring.0 ++ systems.0, systems.1)) (found, tables) b.2 in
+    let a =
+    bind_ok (titled_at page_title part)
+    (λ page. titled_at record_title page >>= λ word.
+    (formats_at ring_system word >>= λ ring.
+    (systems_at ring.1 >>= λ systems. Ok (ring.0 ++ systems.0, systems.1)))) (found, tables) e in
+    let b =
+    bind_ok (titled_at record_title a.0)
+    (λ word. formats_at ring_system word >>= λ ring.
+    (systems_at ring.1 >>= λ systems. Ok (ring.0 ++ systems.0, systems.1))) (found, tables) a.2 in
+    let d =
+    bind_ok (formats_at ring_system b.0)
+    (λ ring. systems_at ring.1 >>= λ systems. Ok (ring.0 ++ systems.0, systems.1)) (found, tables) b.2 in
     let f = bind_ok (systems_at d.0.1) (λ systems. Ok (d.0.0 ++ systems.0, systems.1)) (found, tables) d.2 in
     let same = same_value (d.0.0 ++ f.0.0, f.0.1) (found, tables) f.2 in
     let page = titled_takes page_title part a.0 fits a.1 in
     let word = titled_takes record_title a.0 b.0 page.1.fits b.1 in
     let ring = formats_take ring_system b.0 d.0.0 d.0.1 word.1.fits d.1 in
     let named = systems_take d.0.1 f.0.0 f.0.1 ring.1.fits f.1 in
-    let systems_to : Takes d.0.1 (systems_bytes named.0) tables = subst (λ x. Takes d.0.1 (systems_bytes named.0) x) (ap (λ p. p.1) same) named.1 in
+    let systems_to : Takes d.0.1 (systems_bytes named.0) tables =
+    subst (λ x. Takes d.0.1 (systems_bytes named.0) x) (ap (λ p. p.1) same) named.1 in
     let last = tables_take tables rest systems_to.fits behind_it in
-    let texts : SixTexts = record { page_layout = page.0; record_layout = word.0; ring = ring.0; systems = named.0; symbols = last.0; prints = last.1; tasks = last.2 } in
+    let texts : SixTexts =
+    record {
+      page_layout = page.0;
+      record_layout = word.0;
+      ring = ring.0;
+      systems = named.0;
+      symbols = last.0;
+      prints = last.1;
+      tasks = last.2;
+    } in
     let tail = block w32 last.0 ++ (block w32 last.1 ++ block w64 last.2) in
     let four = Takes-then d.0.1 (systems_bytes named.0) tables tail rest systems_to last.3 in
     let three = Takes-then b.0 (formats_bytes ring.0) d.0.1 (systems_bytes named.0 ++ tail) rest ring.1 four in
-    let two = Takes-then a.0 (record_title ++ block w64 word.0) b.0 (formats_bytes ring.0 ++ (systems_bytes named.0 ++ tail)) rest word.1 three in
-    let one = Takes-then part (page_title ++ block w64 page.0) a.0 ((record_title ++ block w64 word.0) ++ (formats_bytes ring.0 ++ (systems_bytes named.0 ++ tail))) rest page.1 two in
+    let two =
+    Takes-then a.0 (record_title ++ block w64 word.0) b.0 (formats_bytes ring.0 ++ (systems_bytes named.0 ++ tail))
+    rest word.1 three in
+    let one =
+    Takes-then part (page_title ++ block w64 page.0) a.0
+    ((record_title ++ block w64 word.0) ++ (formats_bytes ring.0 ++ (systems_bytes named.0 ++ tail))) rest
+    page.1 two in
     let lists : found ≡ six_formats texts =
-    sym (ap (λ p. p.0) same) ∙ ap (λ xs. xs ++ f.0.0) ring.2 ∙ ap (λ xs. named_formats ring_system ring.0 ++ xs) named.2 in
-    let bounds : SixTextsFit texts = record { page_layout = page.2; record_layout = word.2; ring = ring.3; systems = named.3; symbols = last.4; prints = last.5; tasks = last.6 } in
+    sym (ap (λ p. p.0) same) ∙ ap (λ xs. xs ++ f.0.0) ring.2
+    ∙ ap (λ xs. named_formats ring_system ring.0 ++ xs) named.2 in
+    let bounds : SixTextsFit texts =
+    record {
+      page_layout = page.2;
+      record_layout = word.2;
+      ring = ring.3;
+      systems = named.3;
+      symbols = last.4;
+      prints = last.5;
+      tasks = last.6;
+    } in
     (texts, one, lists, bounds)

@@ -1,5 +1,7 @@
 -- A file of version 6 that is read is spelled so, as a whole.
-use Rattle.std.proofs.Common.{◌≡◌, ◌≢◌, ◌==◌, ℕ, zero, suc, ◌+◌, ◌≤◌, ◌⊎◌, Bool, true, false, cond, ltb, List, [], ◌∷◌, ◌++◌, length, take, drop, flat_map, Option, Some, None, Ok, Err, refl, sym, ap, subst, ◌∙◌, append_assoc, arith, inl, inr, nat_eq}
+use Rattle.std.proofs.Common.{◌≡◌, ◌≢◌, ◌==◌, ℕ, zero, suc, ◌+◌, ◌≤◌, ◌⊎◌, Bool, true, false, cond, ltb, List, [], ◌∷◌}
+use Rattle.std.proofs.Common.{◌++◌, length, take, drop, flat_map, Option, Some, None, Ok, Err, refl, sym, ap, subst}
+use Rattle.std.proofs.Common.{◌∙◌, append_assoc, arith, inl, inr, nat_eq}
 use Rattle.std.specs.Prelude.{codes, unwrap_or}
 use Rattle.std.specs.List.{AllByRecursion, starts_with}
 use Rattle.std.specs.Int.{w16, w32, w64, to_le_bytes}
@@ -10,14 +12,19 @@ use Rattle.trace_dat.specs.declared.read.Version.{Version}
 use Rattle.trace_dat.specs.declared.read.Version.TheVariants.{Six, Seven}
 use Rattle.trace_dat.specs.declared.entries.TheConstants.{DONE}
 use Rattle.trace_dat.specs.Parts.{FilePart}
-use Rattle.trace_dat.specs.Fields.{Reading, ◌>>=◌, fault_at, behind, number_at, block_at, expected_at, pointed_at, range_at, all_at, each_of}
+use Rattle.trace_dat.specs.Fields.{Reading, ◌>>=◌, fault_at, behind, number_at, block_at, expected_at, pointed_at}
+use Rattle.trace_dat.specs.Fields.{range_at, all_at, each_of}
 use Rattle.trace_dat.specs.Contents.{Recorded, TraceBuffer, Contents}
 use Rattle.trace_dat.specs.Entries.{FileOption, body_at, option_at, option_then, options_among, options_at}
 use Rattle.trace_dat.specs.Buffers.{ranges_word, pages_at, buffer_at, instance_of, counters_of}
-use Rattle.trace_dat.specs.Versions.{ended, options_word, all_formats_at, tables_at, stated_options_at, version_six, version_at}
-use Rattle.trace_dat.specs.Spelling.{IsBytes, Fits, OptionFits, RangeFits, SixTextsFit, block, SixTexts, six_bytes, six_formats, option_bytes, options_bytes, stated_bytes, Range, range_bytes, IsInside, numbered_pages}
+use Rattle.trace_dat.specs.Versions.{ended, options_word, all_formats_at, tables_at, stated_options_at, version_six}
+use Rattle.trace_dat.specs.Versions.{version_at}
+use Rattle.trace_dat.specs.Spelling.{IsBytes, Fits, OptionFits, RangeFits, SixTextsFit, block, SixTexts, six_bytes}
+use Rattle.trace_dat.specs.Spelling.{six_formats, option_bytes, options_bytes, stated_bytes, Range, range_bytes}
+use Rattle.trace_dat.specs.Spelling.{IsInside, numbered_pages}
 use Rattle.trace_dat.proofs.Loops.{same_value}
-use Rattle.trace_dat.proofs.Spelled.{wide16, wide32, wide64, Takes, Takes-then, bind_ok, guard_ok, passed_ok, number_takes, number_fits, block_takes, word_takes, expected_takes, front_takes}
+use Rattle.trace_dat.proofs.Spelled.{wide16, wide32, wide64, Takes, Takes-then, bind_ok, guard_ok, passed_ok}
+use Rattle.trace_dat.proofs.Spelled.{number_takes, number_fits, block_takes, word_takes, expected_takes, front_takes}
 
 -- which way a test went
 pub chosen : {A : Type 0} (b : Bool) (x y z : A) → cond b x y ≡ z → ((b ≡ true) × (x ≡ z)) ⊎ ((b ≡ false) × (y ≡ z))
@@ -36,21 +43,26 @@ body_takes : (id : ℕ) (part here : FilePart) (found : Option FileOption) (rest
     → SpellsOption part found rest
 unfolding body_at
 body_takes id part here found rest before bound not_done e =
-    let b = bind_ok (block_at w32 here) (λ body. Ok (Some (record { id = id; body = body.0 }), body.1)) (found, rest) e in
+    let b =
+    bind_ok (block_at w32 here) (λ body. Ok (Some (record { id = id; body = body.0 }), body.1)) (found, rest) e in
     let t = block_takes w32 wide32 here b.0.0 b.0.1 before.fits b.1 in
-    subst (λ x. SpellsOption part x.0 x.1) (same_value (Some (record { id = id; body = b.0.0 }), b.0.1) (found, rest) b.2)
+    subst (λ x. SpellsOption part x.0 x.1)
+    (same_value (Some (record { id = id; body = b.0.0 }), b.0.1) (found, rest) b.2)
     (Takes-then part (to_le_bytes w16 id) here (block w32 b.0.0.bytes) b.0.1 before t.0, (bound, not_done, t.2))
 
 option_takes : (part : FilePart) (found : Option FileOption) (rest : FilePart) → IsBytes part.bytes
     → option_at part ≡ Ok (found, rest) → SpellsOption part found rest
 unfolding option_at
 option_takes part found rest fits e =
-    let b = bind_ok (number_at w16 part) (λ id. cond (id.0 == DONE) (Ok (None, id.1)) (body_at id.0 id.1)) (found, rest) e in
+    let b =
+    bind_ok (number_at w16 part) (λ id. cond (id.0 == DONE) (Ok (None, id.1)) (body_at id.0 id.1)) (found, rest)
+    e in
     let n = number_takes w16 wide16 part b.0.0 b.0.1 fits b.1 in
     elim (chosen (b.0.0 == DONE) (Ok (None, b.0.1)) (body_at b.0.0 b.0.1) (Ok (found, rest)) b.2) [
       | inl end ↦ subst (λ x. SpellsOption part x.0 x.1) (same_value (None, b.0.1) (found, rest) end.1)
           (subst (λ k. Takes part (to_le_bytes w16 k) b.0.1) (eqb-true _ _ end.0) n)
-      | inr more ↦ body_takes b.0.0 part b.0.1 found rest n (number_fits w16 wide16 part b.0.0 b.0.1 fits b.1) (eqb-false _ _ more.0) more.1
+      | inr more ↦ body_takes b.0.0 part b.0.1 found rest n (number_fits w16 wide16 part b.0.0 b.0.1 fits b.1)
+          (eqb-false _ _ more.0) more.1
     ]
 
 -- the options that are read are spelled
@@ -59,7 +71,8 @@ SpellsOptions part found rest = Takes part (options_bytes found) rest × AllByRe
 
 first_option_takes : (count : ℕ) (part here : FilePart) (first : Option FileOption) (found : List FileOption)
     (rest : FilePart) → SpellsOption part first here
-    → ((more : List FileOption) → IsBytes here.bytes → options_among count here ≡ Ok (more, rest) → SpellsOptions here more rest)
+    → ((more : List FileOption) → IsBytes here.bytes → options_among count here ≡ Ok (more, rest)
+    → SpellsOptions here more rest)
     → option_then first (options_among count here) here ≡ Ok (found, rest) → SpellsOptions part found rest
 first_option_takes count part here None found rest one others e =
     subst (λ x. SpellsOptions part x.0 x.1) (same_value ([], here) (found, rest) e) (one, tt)
@@ -73,14 +86,16 @@ first_option_takes count part here (Some option) found rest one others e =
     Takes-then part (option_bytes option) here (options_bytes b.0.0) rest one.0 more.0 in
     let joined : option_bytes option ++ options_bytes b.0.0 ≡ options_bytes (option ∷ b.0.0) =
     sym (append_assoc (option_bytes option) (flat_map option_bytes b.0.0) (to_le_bytes w16 DONE)) in
-    subst (λ xs. SpellsOptions part xs rest) (ap (λ p. p.0) same) (subst (λ bs. Takes part bs rest) joined whole, (one.1, more.1))
+    subst (λ xs. SpellsOptions part xs rest) (ap (λ p. p.0) same)
+    (subst (λ bs. Takes part bs rest) joined whole, (one.1, more.1))
 
 pub options_take : (count : ℕ) (part : FilePart) (found : List FileOption) (rest : FilePart) → IsBytes part.bytes
     → options_among count part ≡ Ok (found, rest) → SpellsOptions part found rest
 unfolding options_among
 options_take zero part found rest fits e = absurd cc
 options_take (suc count) part found rest fits e =
-    let b = bind_ok (option_at part) (λ first. option_then first.0 (options_among count first.1) first.1) (found, rest) e in
+    let b =
+    bind_ok (option_at part) (λ first. option_then first.0 (options_among count first.1) first.1) (found, rest) e in
     first_option_takes count part b.0.1 b.0.0 found rest (option_takes part b.0.0 b.0.1 fits b.1)
     (λ more bytes read. options_take count b.0.1 more rest bytes read) b.2
 
@@ -90,26 +105,47 @@ stated_options_take : (part : FilePart) (found : List FileOption) (rest : FilePa
     × AllByRecursion OptionFits (unwrap_or options [])
 unfolding stated_options_at
 stated_options_take part found rest fits e =
-    elim (chosen (starts_with nat_eq part.bytes options_word) (options_at (behind (length options_word) part)) (Ok ([], part)) (Ok (found, rest)) e) [
+    elim
+    (chosen (starts_with nat_eq part.bytes options_word) (options_at (behind (length options_word) part))
+    (Ok ([], part)) (Ok (found, rest)) e) [
       | inl there ↦
           let word = word_takes options_word part fits there.0 in
-          let t = options_take (length (drop (length options_word) part.bytes) + 1) (behind (length options_word) part) found rest word.fits there.1 in
-          (Some found, Takes-then part options_word (behind (length options_word) part) (options_bytes found) rest word t.0, refl, t.1)
-      | inr not_there ↦ subst (λ x. (options : Option (List FileOption)) × Takes part (stated_bytes options) x.1 × (x.0 ≡ unwrap_or options []) × AllByRecursion OptionFits (unwrap_or options []))
+          let t =
+          options_take (length (drop (length options_word) part.bytes) + 1) (behind (length options_word) part)
+          found rest word.fits there.1 in (
+            Some found,
+            Takes-then part options_word (behind (length options_word) part) (options_bytes found) rest word t.0,
+            refl,
+            t.1,
+          )
+      | inr not_there ↦ subst
+          (λ x.
+          (options : Option (List FileOption)) × Takes part (stated_bytes options) x.1
+          × (x.0 ≡ unwrap_or options []) × AllByRecursion OptionFits (unwrap_or options []))
           (same_value ([], part) (found, rest) not_there.1) (None, record { whole = refl; fits = fits }, refl, tt)
     ]
 
 -- ---- pages
 
-pub pointer_takes : (file : List ℕ) (part there rest : FilePart) → IsBytes part.bytes → pointed_at file part ≡ Ok (there, rest)
+pub pointer_takes : (file : List ℕ) (part there rest : FilePart) → IsBytes part.bytes
+    → pointed_at file part ≡ Ok (there, rest)
     → Takes part (to_le_bytes w64 there.at) rest × (there.bytes ≡ drop there.at file) × (there.at ≤ length file)
     × Fits w64 there.at
 unfolding pointed_at
 pointer_takes file part there rest fits e =
-    let b = bind_ok (number_at w64 part) (λ offset. cond (ltb (length file) offset.0) (Err (record { cause = OutsideFile; at = part.at })) (Ok (record { at = offset.0; bytes = drop offset.0 file }, offset.1))) (there, rest) e in
+    let b =
+    bind_ok (number_at w64 part)
+    (λ offset.
+    cond (ltb (length file) offset.0) (Err (record { cause = OutsideFile; at = part.at }))
+    (Ok (record { at = offset.0; bytes = drop offset.0 file }, offset.1))) (there, rest) e in
     let n = number_takes w64 wide64 part b.0.0 b.0.1 fits b.1 in
-    let g = guard_ok (ltb (length file) b.0.0) (record { cause = OutsideFile; at = part.at }) (record { at = b.0.0; bytes = drop b.0.0 file }, b.0.1) (there, rest) b.2 in
-    subst (λ x. Takes part (to_le_bytes w64 x.0.at) x.1 × (x.0.bytes ≡ drop x.0.at file) × (x.0.at ≤ length file) × Fits w64 x.0.at) g.1
+    let g =
+    guard_ok (ltb (length file) b.0.0) (record { cause = OutsideFile; at = part.at })
+    (record { at = b.0.0; bytes = drop b.0.0 file }, b.0.1) (there, rest) b.2 in
+    subst
+    (λ x.
+    Takes part (to_le_bytes w64 x.0.at) x.1 × (x.0.bytes ≡ drop x.0.at file) × (x.0.at ≤ length file)
+    × Fits w64 x.0.at) g.1
     (n, refl, ltb-false _ _ g.0, number_fits w64 wide64 part b.0.0 b.0.1 fits b.1)
 
 -- the bytes that a range means are spelled by it
@@ -122,11 +158,21 @@ range_takes : (file : List ℕ) (part : FilePart) (found : List ℕ) (rest : Fil
     → range_at file part ≡ Ok (found, rest) → SpellsRange file part found rest
 unfolding range_at
 range_takes file part found rest fits e =
-    let a = bind_ok (pointed_at file part) (λ from. number_at w64 from.1 >>= λ size. cond (ltb (length from.0.bytes) size.0) (Err (record { cause = OutsideFile; at = part.at })) (Ok (take size.0 from.0.bytes, size.1))) (found, rest) e in
-    let b = bind_ok (number_at w64 a.0.1) (λ size. cond (ltb (length a.0.0.bytes) size.0) (Err (record { cause = OutsideFile; at = part.at })) (Ok (take size.0 a.0.0.bytes, size.1))) (found, rest) a.2 in
+    let a =
+    bind_ok (pointed_at file part)
+    (λ from. number_at w64 from.1 >>= λ size.
+    cond (ltb (length from.0.bytes) size.0) (Err (record { cause = OutsideFile; at = part.at }))
+    (Ok (take size.0 from.0.bytes, size.1))) (found, rest) e in
+    let b =
+    bind_ok (number_at w64 a.0.1)
+    (λ size.
+    cond (ltb (length a.0.0.bytes) size.0) (Err (record { cause = OutsideFile; at = part.at }))
+    (Ok (take size.0 a.0.0.bytes, size.1))) (found, rest) a.2 in
     let p = pointer_takes file part a.0.0 a.0.1 fits a.1 in
     let n = number_takes w64 wide64 a.0.1 b.0.0 b.0.1 p.0.fits b.1 in
-    let g = guard_ok (ltb (length a.0.0.bytes) b.0.0) (record { cause = OutsideFile; at = part.at }) (take b.0.0 a.0.0.bytes, b.0.1) (found, rest) b.2 in
+    let g =
+    guard_ok (ltb (length a.0.0.bytes) b.0.0) (record { cause = OutsideFile; at = part.at })
+    (take b.0.0 a.0.0.bytes, b.0.1) (found, rest) b.2 in
     let enough : b.0.0 ≤ length a.0.0.bytes = ltb-false _ _ g.0 in
     let len : length a.0.0.bytes ≡ length (drop a.0.0.at file) = ap (λ bs. length bs) p.1 in
     let range : Range = record { offset = a.0.0.at; size = b.0.0 } in
@@ -144,13 +190,16 @@ SpellsPages file cpu count part found rest =
     (ranges : List Range) × (length ranges ≡ count) × Takes part (flat_map range_bytes ranges) rest
     × AllByRecursion (IsInside file) ranges × (found ≡ numbered_pages file cpu ranges) × AllByRecursion RangeFits ranges
 
-one_cpu_takes : (file : List ℕ) (cpu : ℕ) (part : FilePart) (found : List Recorded) (rest : FilePart) → IsBytes part.bytes
+one_cpu_takes : (file : List ℕ) (cpu : ℕ) (part : FilePart) (found : List Recorded) (rest : FilePart)
+    → IsBytes part.bytes
     → pages_at file cpu part ≡ Ok (found, rest)
     → (range : Range) × Takes part (range_bytes range) rest × IsInside file range
     × (found ≡ record { cpu = cpu; pages = take range.size (drop range.offset file) } ∷ []) × RangeFits range
 unfolding pages_at
 one_cpu_takes file cpu part found rest fits e =
-    let b = bind_ok (range_at file part) (λ range. Ok (record { cpu = cpu; pages = range.0 } ∷ [], range.1)) (found, rest) e in
+    let b =
+    bind_ok (range_at file part) (λ range. Ok (record { cpu = cpu; pages = range.0 } ∷ [], range.1)) (found, rest)
+    e in
     let t = range_takes file part b.0.0 b.0.1 fits b.1 in
     let same = same_value (record { cpu = cpu; pages = b.0.0 } ∷ [], b.0.1) (found, rest) b.2 in (
       t.0,
@@ -168,12 +217,18 @@ each_cpu_takes file zero cpu part found rest fits e =
     subst (λ x. SpellsPages file cpu 0 part x.0 x.1) (same_value ([], part) (found, rest) e)
     ([], refl, record { whole = refl; fits = fits }, tt, refl, tt)
 each_cpu_takes file (suc count) cpu part found rest fits e =
-    let b = bind_ok (pages_at file cpu part) (λ first. all_at (pages_at file) (cpu + 1) count first.1 >>= λ others. Ok (first.0 ++ others.0, others.1)) (found, rest) e in
-    let d = bind_ok (all_at (pages_at file) (cpu + 1) count b.0.1) (λ others. Ok (b.0.0 ++ others.0, others.1)) (found, rest) b.2 in
+    let b =
+    bind_ok (pages_at file cpu part)
+    (λ first. all_at (pages_at file) (cpu + 1) count first.1 >>= λ others. Ok (first.0 ++ others.0, others.1))
+    (found, rest) e in
+    let d =
+    bind_ok (all_at (pages_at file) (cpu + 1) count b.0.1) (λ others. Ok (b.0.0 ++ others.0, others.1))
+    (found, rest) b.2 in
     let one = one_cpu_takes file cpu part b.0.0 b.0.1 fits b.1 in
     let more = each_cpu_takes file count (cpu + 1) b.0.1 d.0.0 d.0.1 one.1.fits d.1 in
     let lists : b.0.0 ++ d.0.0 ≡ numbered_pages file cpu (one.0 ∷ more.0) =
-    ap (λ xs. xs ++ d.0.0) one.3 ∙ ap (λ xs. record { cpu = cpu; pages = take one.0.size (drop one.0.offset file) } ∷ xs) more.4 in
+    ap (λ xs. xs ++ d.0.0) one.3
+    ∙ ap (λ xs. record { cpu = cpu; pages = take one.0.size (drop one.0.offset file) } ∷ xs) more.4 in
     subst (λ x. SpellsPages file cpu (suc count) part x.0 x.1) (same_value (b.0.0 ++ d.0.0, d.0.1) (found, rest) d.2) (
       one.0 ∷ more.0,
       ap (λ n. suc n) more.1,
@@ -195,8 +250,13 @@ buffer_takes : (file : List ℕ) (page_size count : ℕ) (part : FilePart) (foun
     → buffer_at file page_size count [] part ≡ Ok found → SpellsBuffer file page_size count part found
 unfolding buffer_at
 buffer_takes file page_size count part found fits e =
-    let a = bind_ok (expected_at ranges_word Misplaced part) (λ ranges. all_at (pages_at file) 0 count ranges >>= λ cpus. Ok (record { name = []; page_size = page_size; cpus = cpus.0 } ∷ [])) found e in
-    let b = bind_ok (all_at (pages_at file) 0 count a.0) (λ cpus. Ok (record { name = []; page_size = page_size; cpus = cpus.0 } ∷ [])) found a.2 in
+    let a =
+    bind_ok (expected_at ranges_word Misplaced part)
+    (λ ranges. all_at (pages_at file) 0 count ranges >>= λ cpus.
+    Ok (record { name = []; page_size = page_size; cpus = cpus.0 } ∷ [])) found e in
+    let b =
+    bind_ok (all_at (pages_at file) 0 count a.0)
+    (λ cpus. Ok (record { name = []; page_size = page_size; cpus = cpus.0 } ∷ [])) found a.2 in
     let w = expected_takes ranges_word Misplaced part a.0 fits a.1 in
     let t = each_cpu_takes file count 0 a.0 b.0.0 b.0.1 w.fits b.1 in (
       t.0,
@@ -217,7 +277,10 @@ pub record SpellsSix (file : List ℕ) (page_size : ℕ) (part : FilePart) (cont
   pub options : Option (List FileOption)
   pub ranges : List Range
   pub rest : FilePart
-  pub takes : Takes part (six_bytes texts ++ (to_le_bytes w32 (length ranges) ++ (stated_bytes options ++ (ranges_word ++ flat_map range_bytes ranges)))) rest
+  pub takes : Takes part
+      (six_bytes texts
+      ++ (to_le_bytes w32 (length ranges) ++ (stated_bytes options ++ (ranges_word ++ flat_map range_bytes ranges))))
+      rest
   pub texts_fit : SixTextsFit texts
   pub cpus_fit : Fits w32 (length ranges)
   pub options_fit : AllByRecursion OptionFits (unwrap_or options [])
@@ -226,7 +289,8 @@ pub record SpellsSix (file : List ℕ) (page_size : ℕ) (part : FilePart) (cont
   pub formats : contents.formats ≡ six_formats texts
   pub instances : List TraceBuffer
   pub named : each_of (instance_of file page_size (length ranges)) (unwrap_or options []) ≡ Ok instances
-  pub buffers : contents.buffers ≡ record { name = []; page_size = page_size; cpus = numbered_pages file 0 ranges } ∷ instances
+  pub buffers : contents.buffers
+      ≡ record { name = []; page_size = page_size; cpus = numbered_pages file 0 ranges } ∷ instances
   pub counters : contents.counters ≡ flat_map counters_of (unwrap_or options [])
 
 pub six_takes : (file : List ℕ) (page_size : ℕ) (part : FilePart) (contents : Contents) → IsBytes part.bytes
@@ -256,7 +320,9 @@ six_takes file page_size part contents fits e =
       options = o.0;
       ranges = p.0;
       rest = p.1;
-      takes = Takes-then part (six_bytes front.0) b.0 (to_le_bytes w32 (length p.0) ++ (stated_bytes o.0 ++ tail)) p.1 front.1 counted;
+      takes =
+          Takes-then part (six_bytes front.0) b.0 (to_le_bytes w32 (length p.0) ++ (stated_bytes o.0 ++ tail)) p.1
+          front.1 counted;
       texts_fit = front.3;
       cpus_fit = subst (λ k. Fits w32 k) (sym count) (number_fits w32 wide32 b.0 d.0.0 d.0.1 front.1.fits d.1);
       options_fit = o.3;
@@ -276,10 +342,13 @@ SpellsVersion part Six rest = Takes part (ended (codes "6")) rest
 SpellsVersion part Seven rest = Takes part (ended (codes "7")) rest
 
 later_version : (part : FilePart) (found : Version) (rest : FilePart) → IsBytes part.bytes
-    → cond {A = Reading (Version × FilePart)} (starts_with nat_eq part.bytes (ended (codes "7"))) (Ok (Seven, behind 2 part)) (fault_at BadVersion part) ≡ Ok (found, rest)
+    → cond {A = Reading (Version × FilePart)} (starts_with nat_eq part.bytes (ended (codes "7")))
+    (Ok (Seven, behind 2 part)) (fault_at BadVersion part) ≡ Ok (found, rest)
     → SpellsVersion part found rest
 later_version part found rest fits e =
-    let g = passed_ok (starts_with nat_eq part.bytes (ended (codes "7"))) (record { cause = BadVersion; at = part.at }) (Seven, behind 2 part) (found, rest) e in
+    let g =
+    passed_ok (starts_with nat_eq part.bytes (ended (codes "7"))) (record { cause = BadVersion; at = part.at })
+    (Seven, behind 2 part) (found, rest) e in
     subst (λ x. SpellsVersion part x.0 x.1) g.1 (word_takes (ended (codes "7")) part fits g.0)
 
 pub version_takes : (part : FilePart) (found : Version) (rest : FilePart) → IsBytes part.bytes
@@ -292,6 +361,7 @@ version_takes part found rest fits e =
       | inr other ↦ later_version part found rest fits other.1
     ]
 
-pub version_fits : (part : FilePart) (found : Version) (rest : FilePart) → SpellsVersion part found rest → IsBytes rest.bytes
+pub version_fits : (part : FilePart) (found : Version) (rest : FilePart) → SpellsVersion part found rest
+    → IsBytes rest.bytes
 version_fits part Six rest v = v.fits
 version_fits part Seven rest v = v.fits

@@ -1,5 +1,6 @@
 -- A file that is read is spelled as its version is.
-use Rattle.std.proofs.Common.{◌≡◌, ℕ, zero, suc, ◌+◌, ◌⊎◌, List, [], ◌∷◌, ◌++◌, length, flat_map, Option, Some, None, Ok, sym, ap, subst, ◌∙◌, inl, inr}
+use Rattle.std.proofs.Common.{◌≡◌, ℕ, zero, suc, ◌+◌, ◌⊎◌, List, [], ◌∷◌, ◌++◌, length, flat_map, Option, Some, None}
+use Rattle.std.proofs.Common.{Ok, sym, ap, subst, ◌∙◌, inl, inr}
 use Rattle.std.specs.Prelude.{codes}
 use Rattle.std.specs.Int.{w32, to_le_bytes}
 use Rattle.trace_dat.specs.declared.fault.Cause.TheVariants.{NotTraceDat, OtherMachine, Compressed}
@@ -11,10 +12,13 @@ use Rattle.trace_dat.specs.Contents.{Contents}
 use Rattle.trace_dat.specs.Entries.{FileOption}
 use Rattle.trace_dat.specs.Buffers.{ranges_word, buffer_of, counters_of}
 use Rattle.trace_dat.specs.Sections.{Place, link_at, chain_from, options_of_chain, formats_of}
-use Rattle.trace_dat.specs.Versions.{ended, magic, machine, plain_word, version_at, version_seven, contents_of, reading_of}
-use Rattle.trace_dat.specs.Spelling.{IsBytes, Fits, IsText, six_bytes, stated_bytes, range_bytes, Linked, IsChain, IsSix, IsSeven}
+use Rattle.trace_dat.specs.Versions.{ended, magic, machine, plain_word, version_at, version_seven, contents_of}
+use Rattle.trace_dat.specs.Versions.{reading_of}
+use Rattle.trace_dat.specs.Spelling.{IsBytes, Fits, IsText, six_bytes, stated_bytes, range_bytes, Linked, IsChain}
+use Rattle.trace_dat.specs.Spelling.{IsSix, IsSeven}
 use Rattle.trace_dat.proofs.Loops.{same_value}
-use Rattle.trace_dat.proofs.Spelled.{Takes, Takes-then, bind_ok, wide32, number_takes, number_fits, text_takes, text_ends, expected_takes}
+use Rattle.trace_dat.proofs.Spelled.{Takes, Takes-then, bind_ok, wide32, number_takes, number_fits, text_takes}
+use Rattle.trace_dat.proofs.Spelled.{text_ends, expected_takes}
 use Rattle.trace_dat.proofs.SpelledFile.{six_takes, SpellsVersion, version_takes, version_fits}
 use Rattle.trace_dat.proofs.SpelledSections.{SpellsLink, SpellsChain, link_takes}
 
@@ -47,11 +51,17 @@ chain_takes : (file : List ℕ) (count : ℕ) (place : Place) (options : List Fi
 unfolding options_of_chain
 chain_takes file zero place options fits bytes e = absurd cc
 chain_takes file (suc count) place options fits bytes e =
-    let a = bind_ok (link_at file place) (λ first. chain_from first.1 (λ next. options_of_chain file count next) >>= λ others. Ok (first.0 ++ others)) options e in
-    let d = bind_ok (chain_from a.0.1 (λ next. options_of_chain file count next)) (λ others. Ok (a.0.0 ++ others)) options a.2 in
+    let a =
+    bind_ok (link_at file place)
+    (λ first. chain_from first.1 (λ next. options_of_chain file count next) >>= λ others.
+    Ok (first.0 ++ others)) options e in
+    let d =
+    bind_ok (chain_from a.0.1 (λ next. options_of_chain file count next)) (λ others. Ok (a.0.0 ++ others)) options
+    a.2 in
     let link = link_takes file place a.0.0 a.0.1 fits bytes a.1 in
     subst (λ xs. SpellsChain file place.least place.pointer.bytes xs) (same_value (a.0.0 ++ d.0) options d.2)
-    (chain_next file count place a.0.0 d.0 a.0.1 link (λ later more read. chain_takes file count later d.0 fits more read) d.1)
+    (chain_next file count place a.0.0 d.0 a.0.1 link
+    (λ later more read. chain_takes file count later d.0 fits more read) d.1)
 
 -- ---- the whole
 
@@ -118,15 +128,28 @@ spelled_by file Seven a b d f page_size contents fits m v h n bound e =
     })
 spelled_by file Six a b d f page_size contents fits m v h n bound e =
     let six = six_takes file page_size f contents n.fits e in
-    let tail = six_bytes six.texts ++ (to_le_bytes w32 (length six.ranges) ++ (stated_bytes six.options ++ (ranges_word ++ flat_map range_bytes six.ranges))) in
+    let tail =
+    six_bytes six.texts
+    ++
+    (to_le_bytes w32 (length six.ranges)
+    ++ (stated_bytes six.options ++ (ranges_word ++ flat_map range_bytes six.ranges))) in
     let three = Takes-then d (to_le_bytes w32 page_size) f tail six.rest n six.takes in
     let two = Takes-then b machine d (to_le_bytes w32 page_size ++ tail) six.rest h three in
     let one = Takes-then a (ended (codes "6")) b (machine ++ (to_le_bytes w32 page_size ++ tail)) six.rest v two in
-    let all = Takes-then (record { at = 0; bytes = file }) magic a (ended (codes "6") ++ (machine ++ (to_le_bytes w32 page_size ++ tail))) six.rest m one in
+    let all =
+    Takes-then (record { at = 0; bytes = file }) magic a
+    (ended (codes "6") ++ (machine ++ (to_le_bytes w32 page_size ++ tail))) six.rest m one in
     inl (record {
       parts = record { page_size = page_size; texts = six.texts; options = six.options; ranges = six.ranges };
       rest = six.rest.bytes;
-      fits = record { page_size = bound; texts = six.texts_fit; cpus = six.cpus_fit; options = six.options_fit; ranges = six.ranges_fit };
+      fits =
+          record {
+            page_size = bound;
+            texts = six.texts_fit;
+            cpus = six.cpus_fit;
+            options = six.options_fit;
+            ranges = six.ranges_fit;
+          };
       whole = all.whole;
       inside = six.inside;
       formats = six.formats;
@@ -150,4 +173,5 @@ file_is_spelled file contents fits e =
     let v = version_takes a.0 b.0.0 b.0.1 m.fits b.1 in
     let h = expected_takes machine OtherMachine b.0.1 d.0 (version_fits a.0 b.0.0 b.0.1 v) d.1 in
     let n = number_takes w32 wide32 d.0 f.0.0 f.0.1 h.fits f.1 in
-    spelled_by file b.0.0 a.0 b.0.1 d.0 f.0.1 f.0.0 contents fits m v h n (number_fits w32 wide32 d.0 f.0.0 f.0.1 h.fits f.1) f.2
+    spelled_by file b.0.0 a.0 b.0.1 d.0 f.0.1 f.0.0 contents fits m v h n
+    (number_fits w32 wide32 d.0 f.0.0 f.0.1 h.fits f.1) f.2

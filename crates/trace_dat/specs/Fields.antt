@@ -1,5 +1,6 @@
 -- What is at the front of a part: numbers, bytes, texts. A field is a value and the part after it.
-use Rattle.std.specs.Prelude.{◌≡◌, ℕ, zero, suc, ◌+◌, List, [], ◌∷◌, ◌++◌, length, take, drop, Option, Some, None, Result, Ok, Err, ⊤, nat_lt, nat_eq, ◌==◌, if◌then◌else◌}
+use Rattle.std.specs.Prelude.{◌≡◌, ℕ, zero, suc, ◌+◌, List, [], ◌∷◌, ◌++◌, length, take, drop, Option, Some, None}
+use Rattle.std.specs.Prelude.{Result, Ok, Err, ⊤, nat_lt, nat_eq, ◌==◌, if◌then◌else◌}
 use Rattle.std.specs.Int.{Width, w64, byte_len, from_le_bytes}
 use Rattle.std.specs.List.{position, starts_with}
 use Rattle.trace_dat.specs.declared.fault.Fault.{Fault}

@@ -1,5 +1,6 @@
 -- The sections of version 7, and the chain of those that hold the options.
-use Rattle.std.specs.Prelude.{ℕ, zero, suc, ◌+◌, ◌%◌, List, [], ◌++◌, length, Option, Some, None, Ok, nat_lt, ◌==◌, if◌then◌else◌}
+use Rattle.std.specs.Prelude.{ℕ, zero, suc, ◌+◌, ◌%◌, List, [], ◌++◌, length, Option, Some, None, Ok, nat_lt, ◌==◌}
+use Rattle.std.specs.Prelude.{if◌then◌else◌}
 use Rattle.std.specs.Int.{w16, w32, w64, to_le_bytes}
 use Rattle.trace_dat.specs.declared.fault.Cause.TheVariants.{Misplaced, Compressed, Backward}
 use Rattle.trace_dat.specs.declared.entries.TheConstants.{OPTIONS, RING_FORMATS, FORMATS}

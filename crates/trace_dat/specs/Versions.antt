@@ -2,7 +2,8 @@
 use Rattle.std.specs.Prelude.{ℕ, List, [], ◌∷◌, ◌++◌, length, flat_map, Ok, codes, nat_eq, if◌then◌else◌}
 use Rattle.std.specs.List.{starts_with}
 use Rattle.std.specs.Int.{w32, w64}
-use Rattle.trace_dat.specs.declared.fault.Cause.TheVariants.{NotTraceDat, BadVersion, OtherMachine, Compressed, Misplaced}
+use Rattle.trace_dat.specs.declared.fault.Cause.TheVariants.{NotTraceDat, BadVersion, OtherMachine, Compressed}
+use Rattle.trace_dat.specs.declared.fault.Cause.TheVariants.{Misplaced}
 use Rattle.trace_dat.specs.declared.read.Version.{Version}
 use Rattle.trace_dat.specs.declared.read.Version.TheVariants.{Six, Seven}
 use Rattle.trace_dat.specs.Parts.{FilePart}

@@ -1,9 +1,11 @@
 -- What each event asks of the fills before it, and what a frame that is about to begin a fill still needs:
 -- the packing of records in pages, event by event.
 -- After kernel/trace/ring_buffer.c (rb_reserve_next_event, rb_move_tail).
-use Rattle.std.specs.Prelude.{◌≡◌, ◌≢◌, ℕ, ◌≤◌, Bool, true, IsTrue, List, [], ◌∷◌, ◌++◌, length, Some, None, slice_index_or}
+use Rattle.std.specs.Prelude.{◌≡◌, ◌≢◌, ℕ, ◌≤◌, Bool, true, IsTrue, List, [], ◌∷◌, ◌++◌, length, Some, None}
+use Rattle.std.specs.Prelude.{slice_index_or}
 use Rattle.trace_model.specs.Words.{encoded_len}
-use Rattle.trace_model.specs.History.{HistoryEvent, push, push_close, open_fill, reserve, leave, wished, Reservation, writer_after, reservation_for}
+use Rattle.trace_model.specs.History.{HistoryEvent, push, push_close, open_fill, reserve, leave, wished, Reservation}
+use Rattle.trace_model.specs.History.{writer_after, reservation_for}
 use Rattle.trace_model.specs.Packing.{cut_from, tail_of, fill_len, FitsBehind, next_reservation, MayCloseTail}
 use Rattle.trace_model.specs.Frames.{Purpose, for_record, for_close, Progress, waiting, reserved, left}
 

@@ -3,7 +3,8 @@
 -- rb_head_page_set_head, rb_head_page_set_normal).
 use Rattle.std.specs.Prelude.{ℕ, suc, ◌+◌, ◌-◌, if◌then◌else◌, ◌&&◌, nat_le, List}
 use Rattle.trace_model.specs.Links.{Link, normal_link, header_link, update_link, same_link}
-use Rattle.trace_model.specs.Frames.{Role, owner, helper, Phase, looking, looking_next, marking, clearing, opening, Frame}
+use Rattle.trace_model.specs.Frames.{Role, owner, helper, Phase, looking, looking_next, marking, clearing, opening}
+use Rattle.trace_model.specs.Frames.{Frame}
 use Rattle.trace_model.specs.Ring.{Core, link_into}
 use Rattle.trace_model.specs.Events.{Outcome, only_if}
 use Rattle.trace_model.specs.WriterSteps.{goes_on, with_link, unless_begun}

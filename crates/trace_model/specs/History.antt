@@ -1,7 +1,8 @@
 -- What the writer's frames of one CPU did, and the records that this leaves. After
 -- Documentation/trace/ring-buffer-design.rst, "The Generic Ring Buffer": a frame that interrupts another ends before
 -- it, and nothing is committed until the outermost one ends.
-use Rattle.std.specs.Prelude.{◌≡◌, ℕ, zero, suc, max, ⊤, Bool, true, false, if◌then◌else◌, List, [], ◌∷◌, ◌++◌, length, take, map, fold, replicate, Option, Some, None, IsSomeAnd, unwrap_or}
+use Rattle.std.specs.Prelude.{◌≡◌, ℕ, zero, suc, max, ⊤, Bool, true, false, if◌then◌else◌, List, [], ◌∷◌, ◌++◌, length}
+use Rattle.std.specs.Prelude.{take, map, fold, replicate, Option, Some, None, IsSomeAnd, unwrap_or}
 use Rattle.trace_model.specs.Record.{Record}
 use Rattle.trace_model.specs.Words.{slot_len, padded}
 

@@ -1,10 +1,12 @@
 -- The fills of a CPU: which records are in which page, and when a new page is begun.
 -- After kernel/trace/ring_buffer.c (rb_reserve_next_event, rb_move_tail): a record that doesn't fit in
 -- what the tail page has left goes to the next page. docs/FORMATS.md, "Record words", "The ring".
-use Rattle.std.specs.Prelude.{◌≡◌, ◌≢◌, ℕ, ◌+◌, ◌-◌, ◌<◌, ◌≤◌, Bool, true, false, IsTrue, fold, List, [], ◌∷◌, ◌++◌, length, take, drop, map, Option, Some, None, slice_index_or}
+use Rattle.std.specs.Prelude.{◌≡◌, ◌≢◌, ℕ, ◌+◌, ◌-◌, ◌<◌, ◌≤◌, Bool, true, false, IsTrue, fold, List, [], ◌∷◌, ◌++◌}
+use Rattle.std.specs.Prelude.{length, take, drop, map, Option, Some, None, slice_index_or}
 use Rattle.std.specs.List.{AllByRecursion}
 use Rattle.trace_model.specs.Words.{encoded_len, page_encoding}
-use Rattle.trace_model.specs.History.{HistoryEvent, open_fill, reserve, wished, Reservation, PushedFrame, record_frame, close_frame, writer_after, reserved_records, reservation_for, as_record}
+use Rattle.trace_model.specs.History.{HistoryEvent, open_fill, reserve, wished, Reservation, PushedFrame, record_frame}
+use Rattle.trace_model.specs.History.{close_frame, writer_after, reserved_records, reservation_for, as_record}
 
 -- how many records were reserved before each open, in order
 abbrev pub opens_behind : List HistoryEvent → List HistoryEvent → List ℕ

@@ -1,7 +1,8 @@
 -- Parcels as bytes: four numbers, and the image of the page after them. All of it is this project's own, stated in
 -- docs/FORMATS.md, "Parcel bytes".
 use Rattle.std.specs.Prelude.{◌≡◌, ℕ, ◌+◌, ◌^◌, ◌<◌, ◌≤◌, List, ◌++◌, length}
-use Rattle.trace_model.specs.Image.{le64, Missed, none, unknown, counted, DecodesImage, image_of, ImageCause, too_short, bad_size, bad_count, bad_word, FirstImageFault}
+use Rattle.trace_model.specs.Image.{le64, Missed, none, unknown, counted, DecodesImage, image_of, ImageCause, too_short}
+use Rattle.trace_model.specs.Image.{bad_size, bad_count, bad_word, FirstImageFault}
 use Rattle.trace_model.specs.Parcel.{Parcel}
 use Rattle.trace_model.specs.declared.limits.TheConstants.{MAX_CPUS}
 

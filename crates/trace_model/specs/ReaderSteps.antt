@@ -1,8 +1,10 @@
 -- The steps of the reader: docs/FORMATS.md, "The reader", row by row.
 -- After kernel/trace/ring_buffer.c (rb_get_reader_page, rb_head_page_replace).
-use Rattle.std.specs.Prelude.{ℕ, suc, ◌+◌, ◌-◌, ◌%◌, if◌then◌else◌, ◌&&◌, ◌==◌, nat_lt, nat_le, [], ◌∷◌, ◌++◌, length, Some, slice_set}
+use Rattle.std.specs.Prelude.{ℕ, suc, ◌+◌, ◌-◌, ◌%◌, if◌then◌else◌, ◌&&◌, ◌==◌, nat_lt, nat_le, [], ◌∷◌, ◌++◌, length}
+use Rattle.std.specs.Prelude.{Some, slice_set}
 use Rattle.trace_model.specs.Links.{Mark, normal, header, update, Link, normal_link, header_link, same_link}
-use Rattle.trace_model.specs.Ring.{PageRecords, empty_page, TakenFill, Reader, ReaderPhase, loading_head, loading_done, storing_spare_link, swapping, Core, link_into, links_with, page_at}
+use Rattle.trace_model.specs.Ring.{PageRecords, empty_page, TakenFill, Reader, ReaderPhase, loading_head, loading_done}
+use Rattle.trace_model.specs.Ring.{storing_spare_link, swapping, Core, link_into, links_with, page_at}
 use Rattle.trace_model.specs.Events.{reading, empty, moving, page_taken, wished_for, Outcome, only_if}
 use Rattle.trace_model.specs.WriterSteps.{contents_of}
 

@@ -3,7 +3,8 @@ use Rattle.std.specs.Prelude.{◌≡◌, ◌≢◌, ℕ, ◌+◌, ◌<◌, ◌�
 use Rattle.trace_model.specs.declared.limits.TheConstants.{LINK_FILLS}
 use Rattle.trace_model.specs.Words.{encoded_len}
 use Rattle.trace_model.specs.Packing.{tail_of, FitsBehind}
-use Rattle.trace_model.specs.Frames.{Purpose, for_record, for_close, Progress, waiting, reserved, left, Role, owner, helper, idle, Frame}
+use Rattle.trace_model.specs.Frames.{Purpose, for_record, for_close, Progress, waiting, reserved, left, Role, owner}
+use Rattle.trace_model.specs.Frames.{helper, idle, Frame}
 use Rattle.trace_model.specs.Ring.{Core}
 use Rattle.trace_model.specs.Events.{Answer, going}
 use Rattle.trace_model.specs.WriterSteps.{in_phase, closing_phase, leave_answer, after_leave, new_reservation}

@@ -2,18 +2,27 @@
 -- After kernel/trace/ring_buffer.c and docs/FORMATS.md, "Writer frames" and "The reader": each row is one case of
 -- WriterSteps, HeadMove or ReaderSteps.
 use Rattle.std.specs.Prelude.{◌≡◌, ℕ, List, [], ◌∷◌, Some}
-use Rattle.trace_model.specs.Frames.{Phase, idle, looking, claiming, looking_next, marking, clearing, opening, releasing, wishing, Frame, no_frame}
+use Rattle.trace_model.specs.Frames.{Phase, idle, looking, claiming, looking_next, marking, clearing, opening}
+use Rattle.trace_model.specs.Frames.{releasing, wishing, Frame, no_frame}
 use Rattle.trace_model.specs.Ring.{ReaderPhase, loading_head, loading_done, storing_spare_link, swapping, Core}
 use Rattle.trace_model.specs.Events.{Event, pushes, pushes_close, steps, ends, reads, wishes, Answer, refused, Outcome}
-use Rattle.trace_model.specs.WriterSteps.{push_record, push_close_frame, idle_step, load_link, open_fill, end_top, release_fill, load_wish}
+use Rattle.trace_model.specs.WriterSteps.{push_record, push_close_frame, idle_step, load_link, open_fill, end_top}
+use Rattle.trace_model.specs.WriterSteps.{release_fill, load_wish}
 use Rattle.trace_model.specs.HeadMove.{claim_head, load_next, mark_head, clear_update}
 use Rattle.trace_model.specs.ReaderSteps.{load_head, load_done, store_spare_link, swap_head, store_wish}
 -- what is said of steps, by one name
-pub use Rattle.trace_model.specs.Events.{Event, pushes, pushes_close, steps, ends, reads, wishes, Answer, pushed, going, reserved_as, pending, full, gone, refused, reading, empty, moving, page_taken, wished_for}
-pub use Rattle.trace_model.specs.WriterSteps.{with_history_event, in_phase, with_link, with_held, contents_of, tail_page, closing_phase, frames_after_leave, leave_answer, held_with_payload, own_number, after_leave, with_frame, new_reservation, with_reservation, in_reserved, with_new_tail, end_answer, with_released}
+pub use Rattle.trace_model.specs.Events.{Event, pushes, pushes_close, steps, ends, reads, wishes, Answer, pushed, going}
+pub use Rattle.trace_model.specs.Events.{reserved_as, pending, full, gone, refused, reading, empty, moving, page_taken}
+pub use Rattle.trace_model.specs.Events.{wished_for}
+pub use Rattle.trace_model.specs.WriterSteps.{with_history_event, in_phase, with_link, with_held, contents_of}
+pub use Rattle.trace_model.specs.WriterSteps.{tail_page, closing_phase, frames_after_leave, leave_answer}
+pub use Rattle.trace_model.specs.WriterSteps.{held_with_payload, own_number, after_leave, with_frame, new_reservation}
+pub use Rattle.trace_model.specs.WriterSteps.{with_reservation, in_reserved, with_new_tail, end_answer, with_released}
 pub use Rattle.trace_model.specs.HeadMove.{with_head_claimed, after_next}
-pub use Rattle.trace_model.specs.ReaderSteps.{reader_at, reader_saw, next_header, taken_fill, reader_after, after_swap, with_wish}
-pub use Rattle.trace_model.specs.StepConditions.{MayContinue, NeedsPage, IsGranted, IsTooLong, begin_answer, after_begin}
+pub use Rattle.trace_model.specs.ReaderSteps.{reader_at, reader_saw, next_header, taken_fill, reader_after, after_swap}
+pub use Rattle.trace_model.specs.ReaderSteps.{with_wish}
+pub use Rattle.trace_model.specs.StepConditions.{MayContinue, NeedsPage, IsGranted, IsTooLong, begin_answer}
+pub use Rattle.trace_model.specs.StepConditions.{after_begin}
 
 -- the step of the frame on top, in its phase
 abbrev pub frame_step_of : (n size : ℕ) → Core → Frame → List Frame → Phase → Outcome

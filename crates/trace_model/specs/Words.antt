@@ -2,7 +2,9 @@
 -- After include/linux/ring_buffer.h (enum ring_buffer_type, struct ring_buffer_event) and
 -- kernel/trace/ring_buffer.c (rb_update_event, rb_add_timestamp, rb_update_read_stamp); what is
 -- this project's own is stated in docs/FORMATS.md, "Record words".
-use Rattle.std.specs.Prelude.{◌≡◌, ℕ, ◌+◌, ◌-◌, ◌*◌, ◌/◌, ◌%◌, ◌^◌, ◌<◌, ◌≤◌, max, ◌⊎◌, ⊤, Bool, true, false, if◌then◌else◌, nat_lt, nat_le, List, [], ◌∷◌, ◌++◌, length, replicate, flat_map, sum_by, Option, Some, None, unwrap_or}
+use Rattle.std.specs.Prelude.{◌≡◌, ℕ, ◌+◌, ◌-◌, ◌*◌, ◌/◌, ◌%◌, ◌^◌, ◌<◌, ◌≤◌, max, ◌⊎◌, ⊤, Bool, true, false}
+use Rattle.std.specs.Prelude.{if◌then◌else◌, nat_lt, nat_le, List, [], ◌∷◌, ◌++◌, length, replicate, flat_map, sum_by}
+use Rattle.std.specs.Prelude.{Option, Some, None, unwrap_or}
 use Rattle.std.specs.Int.{to_le_bytes, w32}
 use Rattle.std.specs.List.{AllByRecursion, list_any}
 use Rattle.trace_model.specs.Record.{Record}

@@ -1,13 +1,18 @@
 -- The steps of a writer's frame but for the move of the head: docs/FORMATS.md, "Writer frames", row by row.
 -- After kernel/trace/ring_buffer.c (rb_reserve_next_event, rb_move_tail, rb_end_commit, rb_set_commit_to_write). A step
 -- reads or writes one word of the ring at most, with what goes with it in the frame.
-use Rattle.std.specs.Prelude.{ℕ, ◌+◌, ◌-◌, Bool, true, if◌then◌else◌, ◌&&◌, ◌||◌, ◌==◌, nat_lt, nat_le, List, [], ◌∷◌, ◌++◌, length, map, Option, Some, None, drop, slice_index_or, slice_set}
+use Rattle.std.specs.Prelude.{ℕ, ◌+◌, ◌-◌, Bool, true, if◌then◌else◌, ◌&&◌, ◌||◌, ◌==◌, nat_lt, nat_le, List, [], ◌∷◌}
+use Rattle.std.specs.Prelude.{◌++◌, length, map, Option, Some, None, drop, slice_index_or, slice_set}
 use Rattle.trace_model.specs.declared.limits.TheConstants.{MAX_FRAMES, MOMENT_LIMIT, LINK_FILLS}
 use Rattle.trace_model.specs.Words.{slot_len, encoded_len}
-use Rattle.trace_model.specs.History.{HistoryEvent, push, push_close, leave, wished, Reservation, reservation_for, reserved_records, records_with_payload}
+use Rattle.trace_model.specs.History.{HistoryEvent, push, push_close, leave, wished, Reservation, reservation_for}
+use Rattle.trace_model.specs.History.{reserved_records, records_with_payload}
 use Rattle.trace_model.specs.Packing.{fill_len, tail_of}
 use Rattle.trace_model.specs.Links.{Mark, normal, header, update, Link}
-use Rattle.trace_model.specs.Frames.{Purpose, for_record, for_close, Progress, waiting, reserved, left, number_of, helper, Phase, idle, looking, claiming, looking_next, opening, releasing, wishing, Frame, WriteFault, too_deep, too_long, late_moment, crowded, worn, no_frame, not_reserved}
+use Rattle.trace_model.specs.Frames.{Purpose, for_record, for_close, Progress, waiting, reserved, left, number_of}
+use Rattle.trace_model.specs.Frames.{helper, Phase, idle, looking, claiming, looking_next, opening, releasing, wishing}
+use Rattle.trace_model.specs.Frames.{Frame, WriteFault, too_deep, too_long, late_moment, crowded, worn, no_frame}
+use Rattle.trace_model.specs.Frames.{not_reserved}
 use Rattle.trace_model.specs.Ring.{PageRecords, empty_page, Core, link_into, links_with}
 use Rattle.trace_model.specs.Events.{Answer, pushed, going, reserved_as, pending, full, gone, refused, Outcome, only_if}
 

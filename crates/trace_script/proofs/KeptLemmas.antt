@@ -1,5 +1,6 @@
 -- The commands of a script as they are kept, one more and one of them.
-use Rattle.std.proofs.Common.{◌≡◌, ℕ, suc, zero, ◌+◌, ◌-◌, ◌^◌, ◌<◌, ◌≤◌, List, [], ◌∷◌, ◌++◌, length, take, drop, Some, refl, sym, ◌∙◌, ap, subst, arith, length-append, length-drop, append-nil}
+use Rattle.std.proofs.Common.{◌≡◌, ℕ, suc, zero, ◌+◌, ◌-◌, ◌^◌, ◌<◌, ◌≤◌, List, [], ◌∷◌, ◌++◌, length, take, drop, Some}
+use Rattle.std.proofs.Common.{refl, sym, ◌∙◌, ap, subst, arith, length-append, length-drop, append-nil}
 use Rattle.std.specs.List.{slice_get}
 use Rattle.std.proofs.Math.Seq.{drop-append_seam}
 use Rattle.std.proofs.lemmas.List.{take-append-le, take_all, drop-append-le}
@@ -26,7 +27,8 @@ part_front : (bytes more : List ℕ) (i j : ℕ) → i ≤ j → j ≤ length by
 part_front bytes more i j low high =
     let first : i ≤ length bytes = omega arith in
     let long : j - i ≤ length (drop i bytes) = omega (arith, length-drop i bytes) in
-    ap (λ (bs : List ℕ). take (j - i) bs) (drop-append-le i bytes more first) ∙ take-append-le (j - i) (drop i bytes) more long
+    ap (λ (bs : List ℕ). take (j - i) bs) (drop-append-le i bytes more first)
+    ∙ take-append-le (j - i) (drop i bytes) more long
 
 part_back : (bytes more : List ℕ) → part (bytes ++ more) (length bytes) (length (bytes ++ more)) ≡ more
 part_back bytes more =
@@ -41,12 +43,16 @@ commands_push : (bytes more : List ℕ) (index start : ℕ) (lines : List Kept) 
 commands_push bytes more index start [] line h end =
     let here : index + line.above ≡ (index + 0) + line.above = omega arith in
     ap (λ (bs : List ℕ). (index + line.above, shown bs line) ∷ [])
-    (ap (λ (n : ℕ). part (bytes ++ more) start n) end ∙ ap (λ (n : ℕ). part (bytes ++ more) n (length (bytes ++ more))) h ∙ part_back bytes more)
+    (ap (λ (n : ℕ). part (bytes ++ more) start n) end
+    ∙ ap (λ (n : ℕ). part (bytes ++ more) n (length (bytes ++ more))) h ∙ part_back bytes more)
     ∙ ap (λ (n : ℕ). (n, shown more line) ∷ []) here
 commands_push bytes more index start (l ∷ lines) line h end =
     let within = kept_within (suc index) l.end (length bytes) lines h.2 in
     let there : (suc index + length lines) + line.above ≡ (index + suc (length lines)) + line.above = omega arith in
-    ap (λ (bs : List ℕ). (index + l.above, shown bs l) ∷ commands_kept (bytes ++ more) (suc index) l.end (lines ++ line ∷ [])) (part_front bytes more start l.end h.0 within)
+    ap
+    (λ (bs : List ℕ).
+    (index + l.above, shown bs l) ∷ commands_kept (bytes ++ more) (suc index) l.end (lines ++ line ∷ []))
+    (part_front bytes more start l.end h.0 within)
     ∙ ap (λ rest. (index + l.above, shown (part bytes start l.end) l) ∷ rest)
     (commands_push bytes more (suc index) l.end lines line h.2 end
     ∙ ap (λ (n : ℕ). commands_kept bytes (suc index) l.end lines ++ (n, shown more line) ∷ []) there)

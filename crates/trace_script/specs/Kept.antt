@@ -1,13 +1,16 @@
 -- The commands of a script as they are kept: their numbers each, and their bytes one after the other.
-use Rattle.std.specs.Prelude.{◌≡◌, ℕ, zero, suc, ◌+◌, ◌-◌, ◌^◌, ◌<◌, ◌≤◌, ⊤, List, [], ◌∷◌, ◌++◌, length, take, drop, Option, Some, None, Result, Ok, Err}
+use Rattle.std.specs.Prelude.{◌≡◌, ℕ, zero, suc, ◌+◌, ◌-◌, ◌^◌, ◌<◌, ◌≤◌, ⊤, List, [], ◌∷◌, ◌++◌, length, take, drop}
+use Rattle.std.specs.Prelude.{Option, Some, None, Result, Ok, Err}
 use Rattle.text_model.specs.ScriptLines as text
 use Rattle.text_model.specs.ScriptLines.{NumberedLine}
 use Rattle.text_model.specs.HeaderReading.{numbered_reading}
 use Rattle.text_model.specs.Script as model
-use Rattle.text_model.specs.Script.{command_in, SpellCommands, begin_frame, step_frame, finish_frame, write, close, step_reader, take_page, wish, deliver}
+use Rattle.text_model.specs.Script.{command_in, SpellCommands, begin_frame, step_frame, finish_frame, write, close}
+use Rattle.text_model.specs.Script.{step_reader, take_page, wish, deliver}
 use Rattle.trace_script.specs.declared.fault.LineFault.{LineFault}
 use Rattle.trace_script.specs.declared.kept.Kind.{Kind}
-use Rattle.trace_script.specs.declared.kept.Kind.TheVariants.{Begin, Step, Finish, Write, Close, StepReader, Take, Wish, Deliver}
+use Rattle.trace_script.specs.declared.kept.Kind.TheVariants.{Begin, Step, Finish, Write, Close, StepReader, Take, Wish}
+use Rattle.trace_script.specs.declared.kept.Kind.TheVariants.{Deliver}
 use Rattle.trace_script.specs.declared.kept.KeptLine.{KeptLine}
 use Rattle.trace_script.specs.declared.fault.ScriptFault.{ScriptFault}
 use Rattle.trace_script.specs.ScriptFaults.{Fails, FailsAtLine}

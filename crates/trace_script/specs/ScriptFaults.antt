@@ -1,7 +1,8 @@
 -- What the script's reader says of a fault, in the words of text_model.
 use Rattle.std.specs.Prelude.{◌≡◌, ℕ, ◌<◌, ⊤, List, ◌++◌, length, codes, Result, Ok, Err}
 use Rattle.text_model.specs.ScriptLines as model
-use Rattle.text_model.specs.ScriptLines.{NumberedLine, significant_lines, bad_line, bad_number, bad_hex, out_of_range, fault_text}
+use Rattle.text_model.specs.ScriptLines.{NumberedLine, significant_lines, bad_line, bad_number, bad_hex, out_of_range}
+use Rattle.text_model.specs.ScriptLines.{fault_text}
 use Rattle.text_model.specs.Script.{Script, SpellScript, FirstScriptFault}
 use Rattle.trace_script.specs.declared.fault.LineFault.{LineFault}
 use Rattle.trace_script.specs.declared.fault.LineFault.TheVariants as line

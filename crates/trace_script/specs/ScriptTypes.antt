@@ -3,9 +3,11 @@ use Rattle.std.specs.Prelude.{ℕ, List, [], ◌∷◌}
 use Rattle.text_model.specs.ScriptLines as text
 use Rattle.text_model.specs.ScriptLines.{pages_setting, size_setting}
 use Rattle.text_model.specs.Script as model
-use Rattle.text_model.specs.Script.{begin_frame, step_frame, finish_frame, write, close, step_reader, take_page, wish, deliver, cpus_setting, collectors_setting, start_setting}
+use Rattle.text_model.specs.Script.{begin_frame, step_frame, finish_frame, write, close, step_reader, take_page, wish}
+use Rattle.text_model.specs.Script.{deliver, cpus_setting, collectors_setting, start_setting}
 use Rattle.trace_script.specs.declared.command.Command.{Command}
-use Rattle.trace_script.specs.declared.command.Command.TheVariants.{Begin, Step, Finish, Write, Close, StepReader, Take, Wish, Deliver}
+use Rattle.trace_script.specs.declared.command.Command.TheVariants.{Begin, Step, Finish, Write, Close, StepReader, Take}
+use Rattle.trace_script.specs.declared.command.Command.TheVariants.{Wish, Deliver}
 use Rattle.trace_script.specs.declared.command.ScriptLine.{ScriptLine}
 use Rattle.trace_script.specs.declared.header.Header.{Header}
 use Rattle.trace_script.specs.declared.header.Setting.{Setting}

@@ -2,10 +2,13 @@
 
 -- pieces, as bytes
 pub use Rattle.parcel_streams.specs.Pieces.{BeginsWith, IsMark, IsPiece, IsStream, Packed, bytes_of_piece, mark_piece}
-pub use Rattle.parcel_streams.specs.Answers.{HasPiece, HasPieceAt, piece_fault, piece_of_parcel, piece_seen, pieces_seen, stream_fault}
-pub use Rattle.parcel_streams.specs.Faults.{FirstPieceFault, FirstStreamFault, HasMagic, IsDecided, IsWanted, PieceCause}
+pub use Rattle.parcel_streams.specs.Answers.{HasPiece, HasPieceAt, piece_fault, piece_of_parcel, piece_seen}
+pub use Rattle.parcel_streams.specs.Answers.{pieces_seen, stream_fault}
+pub use Rattle.parcel_streams.specs.Faults.{FirstPieceFault, FirstStreamFault, HasMagic, IsDecided, IsWanted}
+pub use Rattle.parcel_streams.specs.Faults.{PieceCause}
 -- what is known of a stream
-pub use Rattle.stream_collector.specs.Stream.{HasRecord, HasOutcome, IsMissing, IsOpen, IsUndelivered, IsUnknownYet, IsUpToEnd, bound_of, end_of}
+pub use Rattle.stream_collector.specs.Stream.{HasRecord, HasOutcome, IsMissing, IsOpen, IsUndelivered, IsUnknownYet}
+pub use Rattle.stream_collector.specs.Stream.{IsUpToEnd, bound_of, end_of}
 pub use Rattle.stream_collector.specs.Marks.{AreMarkedCpus}
 pub use Rattle.trace_model.specs.Runs.{AreRuns}
 -- what a call does

@@ -3,4 +3,4 @@ pub use collector::{
     AddFault, Added, Collector, CpuRecords, KnownCpus, MissingRuns, NumberRuns, UnknownRuns,
     first_difference,
 };
-pub use time_merge::{Line, TakesLines, listing, walk_lines};
+pub use time_merge::{Line, LinesByTime, TakesLines, lines_by_time, listing, walk_lines};

@@ -1,8 +1,10 @@
 -- The numbers of refusals.
-use Rattle.std.proofs.Common.{◌≡◌, ◌⊎◌, inl, inr, ⊎_elim, ◌↔◌, ℕ, ℤ, pos, negsuc, arith, List, [], ◌∷◌, Result, Ok, Err, IsOk, refl, sym, ap, ◌∙◌, subst, w32, to_z, of_z}
+use Rattle.std.proofs.Common.{◌≡◌, ◌⊎◌, inl, inr, ⊎_elim, ◌↔◌, ℕ, ℤ, pos, negsuc, arith, List, [], ◌∷◌, Result, Ok, Err}
+use Rattle.std.proofs.Common.{IsOk, refl, sym, ap, ◌∙◌, subst, w32, to_z, of_z}
 use Rattle.std.proofs.lemmas.Bool.{false≢true}
 use Rattle.nested_writer.specs.declared.fault.WriteFault.{WriteFault}
-use Rattle.nested_writer.specs.declared.fault.WriteFault.TheVariants.{TooDeep, TooLong, LateMoment, Crowded, Worn, NoFrame, NotReserved}
+use Rattle.nested_writer.specs.declared.fault.WriteFault.TheVariants.{TooDeep, TooLong, LateMoment, Crowded, Worn}
+use Rattle.nested_writer.specs.declared.fault.WriteFault.TheVariants.{NoFrame, NotReserved}
 use Rattle.nested_writer.specs.declared.frame.Frame.{Frame}
 use Rattle.nested_writer.specs.declared.frame.Progress.{Progress}
 use Rattle.nested_writer.specs.declared.frame.Progress.TheVariants.{Waiting, Through, Reserved, Left}
@@ -32,7 +34,9 @@ slot_or_none (Reserved slot) = inr (slot, refl)
 slot_or_none (Left noted) = inl tt
 
 -- a payload that isn't lent is refused as one of two
-pub code_of_unlent : {X : Type 0} (frames : List Frame) (result : Result X WriteFault) (fault : WriteFault) → result ≡ Err fault → (result ≡ Err NoFrame) ↔ (frames ≡ []) → (result ≡ Err NotReserved) ↔ LacksSlot frames → ((slot : Slot) → IsTopSlot frames slot → IsOk result)
+pub code_of_unlent : {X : Type 0} (frames : List Frame) (result : Result X WriteFault) (fault : WriteFault)
+    → result ≡ Err fault → (result ≡ Err NoFrame) ↔ (frames ≡ []) → (result ≡ Err NotReserved) ↔ LacksSlot frames
+    → ((slot : Slot) → IsTopSlot frames slot → IsOk result)
     → (fault_code fault ≡ pos 6) ⊎ (fault_code fault ≡ pos 7)
 code_of_unlent [] result fault is none lacks has = inl (ap (λ r. fault_code (fault_in r)) (sym is ∙ none.1 refl))
 code_of_unlent (top ∷ below) result fault is none lacks has = ⊎_elim
@@ -45,10 +49,13 @@ size_of (pos n) = n
 size_of (negsuc n) = n
 
 -- so it isn't refused as too long
-pub never_long : {X : Type 0} (frames : List Frame) (result : Result X WriteFault) (fault : WriteFault) → result ≡ Err fault → (result ≡ Err NoFrame) ↔ (frames ≡ []) → (result ≡ Err NotReserved) ↔ LacksSlot frames → ((slot : Slot) → IsTopSlot frames slot → IsOk result)
+pub never_long : {X : Type 0} (frames : List Frame) (result : Result X WriteFault) (fault : WriteFault)
+    → result ≡ Err fault → (result ≡ Err NoFrame) ↔ (frames ≡ []) → (result ≡ Err NotReserved) ↔ LacksSlot frames
+    → ((slot : Slot) → IsTopSlot frames slot → IsOk result)
     → (code : ℤ) → code ≡ fault_code fault → to_z w32 (of_z w32 code) ≡ pos 2 → ⊥
 never_long frames result fault is none lacks has code code_is two =
-    let long : fault_code fault ≡ pos 2 = sym (code_fits fault) ∙ ap (λ (n : ℤ). to_z w32 (of_z w32 n)) (sym code_is) ∙ two in
+    let long : fault_code fault ≡ pos 2 =
+    sym (code_fits fault) ∙ ap (λ (n : ℤ). to_z w32 (of_z w32 n)) (sym code_is) ∙ two in
     ⊎_elim
     (λ six. let e : 6 ≡ 2 = ap size_of (sym six ∙ long) in omega (arith, e))
     (λ seven. let e : 7 ≡ 2 = ap size_of (sym seven ∙ long) in omega (arith, e))

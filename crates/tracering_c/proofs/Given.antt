@@ -7,7 +7,9 @@ use Rattle.library_values.specs.Used.{used_size, used_page}
 use Rattle.tracering_c.specs.declared.taken.Taken.{Taken}
 use Rattle.tracering_c.specs.Calls.{AreNumbersOf, IsGiven}
 
-pub given_is : (cpu : ℕ) (page : Contents) (missed : ℕ) (out left : List ℕ) (reported : Taken) (len : ℕ) → HasAtFront out (bytes_of_page cpu page missed) left → len ≡ 48 + used_size page missed → take len left ≡ bytes_of_page cpu (used_page page missed) missed
+pub given_is : (cpu : ℕ) (page : Contents) (missed : ℕ) (out left : List ℕ) (reported : Taken) (len : ℕ)
+    → HasAtFront out (bytes_of_page cpu page missed) left → len ≡ 48 + used_size page missed
+    → take len left ≡ bytes_of_page cpu (used_page page missed) missed
     → AreNumbersOf page missed len reported → IsGiven cpu page missed out left reported
 given_is cpu page missed out left reported len bytes len_is used numbers = record {
   bytes = bytes;

@@ -34,7 +34,8 @@ pub collector_named : (o : Option End) (x : HeldCollector) → collector_of o �
 collector_named None x is = absurd (false≢true (ap is_some is))
 collector_named (Some (inl y)) x is = absurd (false≢true (ap is_some is))
 collector_named (Some (inr (inl y))) x is = absurd (false≢true (ap is_some is))
-collector_named (Some (inr (inr (inl y)))) x is = ap (λ (o : Option HeldCollector). as_end (λ z. inr (inr (inl z))) o) is
+collector_named (Some (inr (inr (inl y)))) x is =
+    ap (λ (o : Option HeldCollector). as_end (λ z. inr (inr (inl z))) o) is
 collector_named (Some (inr (inr (inr y)))) x is = absurd (false≢true (ap is_some is))
 
 pub fleet_named : (o : Option End) (x : HeldFleet) → fleet_of o ≡ Some x → o ≡ Some (inr (inr (inr x)))
@@ -45,13 +46,45 @@ fleet_named (Some (inr (inr (inl y)))) x is = absurd (false≢true (ap is_some i
 fleet_named (Some (inr (inr (inr y)))) x is = ap (λ (o : Option HeldFleet). as_end (λ z. inr (inr (inr z))) o) is
 
 abbrev pub writers : Kept
-writers = record { row = writer.the_row; named = λ x. inl x; of = writer_of; of_named = λ x. refl; named_of = writer_named; lies = λ p x. refl }
+writers =
+    record {
+      row = writer.the_row;
+      named = λ x. inl x;
+      of = writer_of;
+      of_named = λ x. refl;
+      named_of = writer_named;
+      lies = λ p x. refl;
+    }
 
 abbrev pub readers : Kept
-readers = record { row = reader.the_row; named = λ x. inr (inl x); of = reader_of; of_named = λ x. refl; named_of = reader_named; lies = λ p x. refl }
+readers =
+    record {
+      row = reader.the_row;
+      named = λ x. inr (inl x);
+      of = reader_of;
+      of_named = λ x. refl;
+      named_of = reader_named;
+      lies = λ p x. refl;
+    }
 
 abbrev pub collectors : Kept
-collectors = record { row = collector.the_row; named = λ x. inr (inr (inl x)); of = collector_of; of_named = λ x. refl; named_of = collector_named; lies = λ p x. refl }
+collectors =
+    record {
+      row = collector.the_row;
+      named = λ x. inr (inr (inl x));
+      of = collector_of;
+      of_named = λ x. refl;
+      named_of = collector_named;
+      lies = λ p x. refl;
+    }
 
 abbrev pub fleets : Kept
-fleets = record { row = fleet.the_row; named = λ x. inr (inr (inr x)); of = fleet_of; of_named = λ x. refl; named_of = fleet_named; lies = λ p x. refl }
+fleets =
+    record {
+      row = fleet.the_row;
+      named = λ x. inr (inr (inr x));
+      of = fleet_of;
+      of_named = λ x. refl;
+      named_of = fleet_named;
+      lies = λ p x. refl;
+    }

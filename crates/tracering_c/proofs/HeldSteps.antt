@@ -34,7 +34,14 @@ abbrev pub one_val : Val → Val
 one_val v = vstruct (vcons v vnil)
 
 abbrev pub al : Al
-al = record { row = Heap.the_row; laws = heap.the_row_laws; g = ghosts; d = impl [] tnil dnil; drops = impl [] tnil dnil }
+al =
+    record {
+      row = Heap.the_row;
+      laws = heap.the_row_laws;
+      g = ghosts;
+      d = impl [] tnil dnil;
+      drops = impl [] tnil dnil;
+    }
 
 -- A type whose values are held: each by a name, under which it is found again, as its box.
 pub record Kept : Type 2 where
@@ -47,24 +54,36 @@ pub record Kept : Type 2 where
 
 module _ {M : Type 1} {𝓤 : Ura M} {𝓛 : Logic 𝓤} {K : Type 0} {Γ : List (Item 𝓤)} {G : Goal 𝓤 𝓛.H} where
   pub none_in : K
-      → Step K 𝓛 (‵ (handle.the_row.own_val (record { at = null_ptr; value = None }) (one_val (vint w64 0) ∷ [])) ∷ Γ) G Γ G
+      → Step K 𝓛 (‵ (handle.the_row.own_val (record { at = null_ptr; value = None }) (one_val (vint w64 0) ∷ [])) ∷ Γ) G
+      Γ G
   none_in t = step (λ s. let v : Val = one_val (vint w64 0) in
-      nothing t $ nothing t $ feq_i t (List Val) (vint w64 0 ∷ []) (vint w64 0 ∷ []) refl $ fjoin t $ feq_i t (List Val) (v ∷ []) (v ∷ []) refl $ fjoin t $
-      fpack t (Valss (RawPtr ∷ [])) (within (shape handle.the_type) (null_ptr, tt) (v ∷ [])) (vint w64 0 ∷ [], tt) $ fjoin t $ s)
+      nothing t $ nothing t $ feq_i t (List Val) (vint w64 0 ∷ []) (vint w64 0 ∷ []) refl $ fjoin t $ feq_i t (List Val)
+      (v ∷ []) (v ∷ []) refl $ fjoin t $
+      fpack t (Valss (RawPtr ∷ [])) (within (shape handle.the_type) (null_ptr, tt) (v ∷ [])) (vint w64 0 ∷ [], tt) $
+      fjoin t $ s)
 
   module _ (E : Kept) where
     pub handle_in : K → (b o : ℕ) (x : E.row.Denot)
-        → Step K 𝓛 (‵ (handle.the_row.own_val (record { at = block_ptr b o; value = Some (E.named x) }) (one_val (vptr b o) ∷ [])) ∷ Γ) G (‵ (boxed E.row (block_ptr b o) x) ∷ Γ) G
+        → Step K 𝓛
+        (‵ (handle.the_row.own_val (record { at = block_ptr b o; value = Some (E.named x) })
+        (one_val (vptr b o) ∷ [])) ∷ Γ) G (‵ (boxed E.row (block_ptr b o) x) ∷ Γ) G
     handle_in t b o x = step (λ s. let v : Val = one_val (vptr b o) in
         rewrite t 0 (λ (F : Fml). ‵ F) (sym (E.lies (block_ptr b o) x)) refl $
-        nothing t $ feq_i t (List Val) (vptr b o ∷ []) (vptr b o ∷ []) refl $ fjoin t $ feq_i t (List Val) (v ∷ []) (v ∷ []) refl $ fjoin t $
-        fpack t (Valss (RawPtr ∷ [])) (within (shape handle.the_type) (block_ptr b o, tt) (v ∷ [])) (vptr b o ∷ [], tt) $ fjoin t $ s)
+        nothing t $ feq_i t (List Val) (vptr b o ∷ []) (vptr b o ∷ []) refl $ fjoin t $ feq_i t (List Val) (v ∷ [])
+        (v ∷ []) refl $ fjoin t $
+        fpack t (Valss (RawPtr ∷ [])) (within (shape handle.the_type) (block_ptr b o, tt) (v ∷ [])) (vptr b o ∷ [], tt)
+        $ fjoin t $ s)
 
     pub handle_out : K → (d : handle.the_row.Denot) (vs : List Val) (x : E.row.Denot) → E.of d.value ≡ Some x
-        → ((b o : ℕ) → d.at ≡ block_ptr b o → vs ≡ one_val (vptr b o) ∷ [] → Seq K 𝓛 (‵ (boxed E.row (block_ptr b o) x) ∷ Γ) G)
+        → ((b o : ℕ) → d.at ≡ block_ptr b o → vs ≡ one_val (vptr b o) ∷ []
+        → Seq K 𝓛 (‵ (boxed E.row (block_ptr b o) x) ∷ Γ) G)
         → Seq K 𝓛 (‵ (handle.the_row.own_val d vs) ∷ Γ) G
     handle_out t d vs x is k =
         fsplit t $ fpick t (λ vss. fsplit t $ feq_l t (λ ev. fsplit t $ feq_l t (λ ep. drop t $
-        rewrite t 0 (λ (o : Option End). ‵ (held d.at o)) (E.named_of d.value x is) refl $ rewrite t 0 (λ (F : Fml). ‵ F) (E.lies d.at x) refl $
-        in_a_block t d.at (λ p. boxed E.row p x) (fst∗ 𝓤 (never 𝓤) (sem 𝓛 (ghosts.dealloc_token the_heap (bare (lone E.row.mir)) null_ptr))) (λ b o e. k b o e
-        (subst (λ (p : Ptr). vs ≡ vstruct (of_list (ptr_val p ∷ [])) ∷ []) e (subst (λ (ps : List Val). vs ≡ vstruct (of_list (ps ++ [])) ∷ []) ep ev))))))
+        rewrite t 0 (λ (o : Option End). ‵ (held d.at o)) (E.named_of d.value x is) refl $ rewrite t 0
+        (λ (F : Fml). ‵ F) (E.lies d.at x) refl $
+        in_a_block t d.at (λ p. boxed E.row p x)
+        (fst∗ 𝓤 (never 𝓤) (sem 𝓛 (ghosts.dealloc_token the_heap (bare (lone E.row.mir)) null_ptr)))
+        (λ b o e. k b o e
+        (subst (λ (p : Ptr). vs ≡ vstruct (of_list (ptr_val p ∷ [])) ∷ []) e
+        (subst (λ (ps : List Val). vs ≡ vstruct (of_list (ps ++ [])) ∷ []) ep ev))))))

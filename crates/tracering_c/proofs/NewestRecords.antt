@@ -25,12 +25,15 @@ module _ (cpu : ℕ) (writer : WriterValue) (page : Contents) (tail : IsTailOf w
   }
 
   pub reads_newest : cpu < MAX_CPUS → page.first + page.count < 2 ^ 64
-      → (IsPage page → IsParcel (parcel_of_page cpu page 0) → DecodesParcel (bytes_of_page cpu page 0) (parcel_of_page cpu page 0))
-      → (IsPage page → IsParcel (parcel_of_page cpu page 0) → DecodesParcel (bytes_of_page cpu (used_page page 0) 0) (parcel_of_page cpu page 0))
+      → (IsPage page → IsParcel (parcel_of_page cpu page 0)
+      → DecodesParcel (bytes_of_page cpu page 0) (parcel_of_page cpu page 0))
+      → (IsPage page → IsParcel (parcel_of_page cpu page 0)
+      → DecodesParcel (bytes_of_page cpu (used_page page 0) 0) (parcel_of_page cpu page 0))
       → ReadsAs cpu page 0 (newest_parcel cpu writer)
   reads_newest known fit reads used_reads =
       let counted = tail.written.page_reads.counted in
-      let sound : IsParcel (parcel_of_page cpu page 0) = record { cpu_known = known; numbers_fit = omega arith; missed_fit = omega arith } in
+      let sound : IsParcel (parcel_of_page cpu page 0) =
+      record { cpu_known = known; numbers_fit = omega arith; missed_fit = omega arith } in
       subst (ReadsAs cpu page 0) parcel_is record {
         whole = reads tail.written.page_reads sound;
         used = used_reads tail.written.page_reads sound;

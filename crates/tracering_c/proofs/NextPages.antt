@@ -8,7 +8,8 @@ use Rattle.tracering_c.specs.declared.ends.HeldReader.{HeldReader}
 use Rattle.tracering_c.specs.Calls.{IsNext, was_unadded, is_taken}
 
 -- it is still the next one
-pub next_stays : (old : HeldReader) (page : Contents) (missed : ℕ) (between new : HeldReader) → new.reader ≡ between.reader → IsNext old page missed between → IsNext old page missed new
+pub next_stays : (old : HeldReader) (page : Contents) (missed : ℕ) (between new : HeldReader)
+    → new.reader ≡ between.reader → IsNext old page missed between → IsNext old page missed new
 next_stays old page missed between new same (was_unadded is reader) = was_unadded is (same ∙ reader)
 next_stays old page missed between new same (is_taken none taken answers) =
     is_taken none

@@ -1,5 +1,6 @@
 -- What the calls of C make of a ring's ends.
-use Rattle.std.specs.Prelude.{◌≡◌, ◌≢◌, ◌↔◌, ◌+◌, ◌<◌, ◌≤◌, ℕ, ℤ, pos, ◌++◌, List, [], ◌∷◌, take, drop, length, Option, Some, None}
+use Rattle.std.specs.Prelude.{◌≡◌, ◌≢◌, ◌↔◌, ◌+◌, ◌<◌, ◌≤◌, ℕ, ℤ, pos, ◌++◌, List, [], ◌∷◌, take, drop, length, Option}
+use Rattle.std.specs.Prelude.{Some, None}
 use Rattle.trace_model.specs.declared.numbers.FillNo.{FillNo}
 use Rattle.trace_model.specs.Steps as model
 use Rattle.trace_model.specs.Parcel.{Parcel}
@@ -35,7 +36,8 @@ use Rattle.ring_shared.specs.Settling.{IsSettled, unread_page}
 use Rattle.ring_shared.specs.declared.settling.Settled.{Settled}
 use Rattle.tracering_c.specs.declared.ends.HeldReader.{HeldReader}
 use Rattle.tracering_c.specs.declared.ends.Next.{Next}
-use Rattle.tracering_c.specs.declared.ends.Next.TheVariants.{Page as NextPage, Empty as NoneUnread, Moving as StillMoving}
+use Rattle.tracering_c.specs.declared.ends.Next.TheVariants.{Page as NextPage, Empty as NoneUnread}
+use Rattle.tracering_c.specs.declared.ends.Next.TheVariants.{Moving as StillMoving}
 use Rattle.tracering_c.specs.Ends.{IsUnadded, IsHeldReader}
 use Rattle.tracering_c.specs.declared.taken.Taken.{Taken}
 use Rattle.tracering_c.specs.Codes.{fault_code, answer_code, finish_code}

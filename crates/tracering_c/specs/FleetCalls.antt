@@ -1,5 +1,6 @@
 -- What the calls of C make of a fleet.
-use Rattle.std.specs.Prelude.{◌≡◌, ℕ, ℤ, pos, List, length, ltb, cond, [], Option, IfSome, IfNone, unwrap_or, Result, Ok, OnErr}
+use Rattle.std.specs.Prelude.{◌≡◌, ℕ, ℤ, pos, List, length, ltb, cond, [], Option, IfSome, IfNone, unwrap_or, Result}
+use Rattle.std.specs.Prelude.{Ok, OnErr}
 use Rattle.trace_model.specs.declared.numbers.Moment.{Moment}
 use Rattle.library_values.specs.declared.runs.Run.{Run}
 use Rattle.stream_collector.specs.declared.added.Marked.{Marked}
@@ -22,7 +23,8 @@ use Rattle.library_values.specs.Merging as merging
 use Rattle.library_values.specs.Runs.{PutsRuns}
 use Rattle.tracering_c.specs.declared.fleet_codes.StreamFault.{StreamFault}
 use Rattle.tracering_c.specs.declared.fleet_codes.FleetLine.{FleetLine}
-use Rattle.tracering_c.specs.FleetCodes.{answer_code, answer_used, answer_at, marked_code, marked_at, merged_code, merged_at, found_code, frontier_code, frontier_moment, given_code, next_line}
+use Rattle.tracering_c.specs.FleetCodes.{answer_code, answer_used, answer_at, marked_code, marked_at, merged_code}
+use Rattle.tracering_c.specs.FleetCodes.{merged_at, found_code, frontier_code, frontier_moment, given_code, next_line}
 
 -- No stream is there, and no line is to be given.
 pub record IsEmpty (listed : ListedFleet) : Type 0 where

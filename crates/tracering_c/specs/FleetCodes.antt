@@ -4,27 +4,36 @@ use Rattle.trace_model.specs.declared.numbers.Moment.{Moment}
 use Rattle.collector.specs.declared.fault.AddFault.TheVariants.{Clash, TakenAndMissing, NoMemory as NoMemoryToAdd}
 use Rattle.page_numbers.specs.declared.fault.ParcelFault.{ParcelFault}
 use Rattle.parcel_streams.specs.declared.fault.PieceFault.{PieceFault}
-use Rattle.parcel_streams.specs.declared.fault.PieceFault.TheVariants.{NotPacked, Cut, BadVersion, BadLength, BadSum, BadKind, Parcel as NoParcel, Loose, BadMark, NoMemory as NoPieceMemory}
+use Rattle.parcel_streams.specs.declared.fault.PieceFault.TheVariants.{NotPacked, Cut, BadVersion, BadLength, BadSum}
+use Rattle.parcel_streams.specs.declared.fault.PieceFault.TheVariants.{BadKind, Parcel as NoParcel, Loose, BadMark}
+use Rattle.parcel_streams.specs.declared.fault.PieceFault.TheVariants.{NoMemory as NoPieceMemory}
 use Rattle.stream_collector.specs.declared.added.Added.{Added}
 use Rattle.stream_collector.specs.declared.added.Added.TheVariants.{New, Known, Forgotten}
 use Rattle.stream_collector.specs.declared.added.Marked.{Marked}
 use Rattle.stream_collector.specs.declared.added.Marked.TheVariants.{New as NewMark, Known as KnownMark}
 use Rattle.stream_collector.specs.declared.fault.AddFault.{AddFault}
-use Rattle.stream_collector.specs.declared.fault.AddFault.TheVariants.{BeyondEnd as ParcelBeyondEnd, Refused as ParcelRefused}
+use Rattle.stream_collector.specs.declared.fault.AddFault.TheVariants.{BeyondEnd as ParcelBeyondEnd}
+use Rattle.stream_collector.specs.declared.fault.AddFault.TheVariants.{Refused as ParcelRefused}
 use Rattle.stream_collector.specs.declared.fault.MarkFault.{MarkFault}
 use Rattle.stream_collector.specs.declared.fault.MarkFault.TheVariants.{OtherEnd, BeyondEnd, NotFinal, NoMemory}
 use Rattle.stream_collector.specs.declared.fault.MergeFault.{MergeFault}
-use Rattle.stream_collector.specs.declared.fault.MergeFault.TheVariants.{OtherEnd as EndsDiffer, BeyondEnd as MergeBeyondEnd, Clash as MergeClash, TakenAndMissing as MergeTakenAndMissing, NoMemory as NoMergeMemory}
+use Rattle.stream_collector.specs.declared.fault.MergeFault.TheVariants.{OtherEnd as EndsDiffer}
+use Rattle.stream_collector.specs.declared.fault.MergeFault.TheVariants.{BeyondEnd as MergeBeyondEnd}
+use Rattle.stream_collector.specs.declared.fault.MergeFault.TheVariants.{Clash as MergeClash}
+use Rattle.stream_collector.specs.declared.fault.MergeFault.TheVariants.{TakenAndMissing as MergeTakenAndMissing}
+use Rattle.stream_collector.specs.declared.fault.MergeFault.TheVariants.{NoMemory as NoMergeMemory}
 use Rattle.fleet_collector.specs.declared.merge_fault.FleetMergeFault.{FleetMergeFault}
 use Rattle.fleet_collector.specs.declared.refusal.PieceRefusal.{PieceRefusal}
 use Rattle.fleet_collector.specs.declared.refusal.PieceRefusal.TheVariants.{Parcel, Mark}
 use Rattle.library_values.specs.declared.listed_fleet.adding.AddAnswer.{AddAnswer}
-use Rattle.library_values.specs.declared.listed_fleet.adding.AddAnswer.TheVariants.{Added as IsAdded, Refused as IsRefused, NoPiece}
+use Rattle.library_values.specs.declared.listed_fleet.adding.AddAnswer.TheVariants.{Added as IsAdded}
+use Rattle.library_values.specs.declared.listed_fleet.adding.AddAnswer.TheVariants.{Refused as IsRefused, NoPiece}
 use Rattle.library_values.specs.declared.buffer.Put.{Put}
 use Rattle.library_values.specs.declared.buffer.Put.TheVariants.{Done, NoRoom}
 use Rattle.library_values.specs.declared.listed_fleet.listed.LineNumbers.{LineNumbers}
 use Rattle.library_values.specs.declared.listed_fleet.listed.Given.{Given}
-use Rattle.library_values.specs.declared.listed_fleet.listed.Given.TheVariants.{Line as IsLine, NoRoom as LacksRoom, End as AtEnd}
+use Rattle.library_values.specs.declared.listed_fleet.listed.Given.TheVariants.{Line as IsLine, NoRoom as LacksRoom}
+use Rattle.library_values.specs.declared.listed_fleet.listed.Given.TheVariants.{End as AtEnd}
 use Rattle.tracering_c.specs.declared.fleet_codes.StreamFault.{StreamFault}
 use Rattle.tracering_c.specs.declared.fleet_codes.FleetLine.{FleetLine}
 use Rattle.tracering_c.specs.Codes.{parcel_code}

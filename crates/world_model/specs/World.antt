@@ -8,7 +8,8 @@ use Rattle.trace_model.specs.Steps.{Answer, page_taken, Exchange}
 use Rattle.trace_model.specs.Parcel.{Parcel}
 use Rattle.trace_model.specs.Collection.{IsBelow}
 use Rattle.text_model.specs.Log.{LogLine, Delivery, new_page, known_page, no_page, delivery_line}
-use Rattle.text_model.specs.Script.{Command, begin_frame, step_frame, finish_frame, write, close, step_reader, take_page, wish, deliver, Script}
+use Rattle.text_model.specs.Script.{Command, begin_frame, step_frame, finish_frame, write, close, step_reader}
+use Rattle.text_model.specs.Script.{take_page, wish, deliver, Script}
 use Rattle.world_model.specs.Lanes.{Lane, IsNewLane, LineRun}
 use Rattle.world_model.specs.Log.{log_of}
 

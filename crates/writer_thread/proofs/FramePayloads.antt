@@ -1,7 +1,9 @@
 -- The payloads of frames, which are kept with the bottom frame's first and shown with the top one's first.
-use Rattle.std.proofs.Common.{◌≡◌, ℕ, suc, ◌+◌, ◌-◌, ◌<◌, ◌≤◌, List, [], ◌∷◌, length, take, drop, get_or, reverse, map, sym, ap, ◌∙◌, arith}
+use Rattle.std.proofs.Common.{◌≡◌, ℕ, suc, ◌+◌, ◌-◌, ◌<◌, ◌≤◌, List, [], ◌∷◌, length, take, drop, get_or, reverse, map}
+use Rattle.std.proofs.Common.{sym, ap, ◌∙◌, arith}
 use Rattle.std.specs.Prelude.{slice_set}
-use Rattle.std.proofs.lemmas.List.{map-append, reverse-append, length-map, length-take-le, take-take, take_more_set, get_or-take, get_or-map, get_or-reverse}
+use Rattle.std.proofs.lemmas.List.{map-append, reverse-append, length-map, length-take-le, take-take, take_more_set}
+use Rattle.std.proofs.lemmas.List.{get_or-take, get_or-map, get_or-reverse}
 use Rattle.ring_frames.proofs.FramePayloads.{left_first}
 
 -- ---- one more

@@ -1,14 +1,18 @@
 -- Calls for the frame on top, one after the other; and the lines that are made of them.
-use Rattle.std.proofs.Common.{◌≡◌, ◌≢◌, ℕ, suc, ◌+◌, ◌-◌, ◌<◌, ◌≤◌, ◌⊎◌, ⊎_elim, Bool, true, false, List, [], ◌∷◌, ◌++◌, length, refl, sym, ap, ◌∙◌, subst, inl, inr, arith, length-append, append_assoc, append-nil}
+use Rattle.std.proofs.Common.{◌≡◌, ◌≢◌, ℕ, suc, ◌+◌, ◌-◌, ◌<◌, ◌≤◌, ◌⊎◌, ⊎_elim, Bool, true, false, List, [], ◌∷◌, ◌++◌}
+use Rattle.std.proofs.Common.{length, refl, sym, ap, ◌∙◌, subst, inl, inr, arith, length-append, append_assoc}
+use Rattle.std.proofs.Common.{append-nil}
 use Rattle.trace_model.specs.Steps.{Event, pushes, pushed, Exchange}
 use Rattle.text_model.specs.Script.{begin_frame, step_frame, finish_frame}
-use Rattle.line_model.specs.WriterCalls.{LineWriting, IsWriterCall, TopCalls, StepsCalls, steps_top, FinishCalls, finishes_top, begins_frame, begins_none, WholeCalls, writes_frame, writes_none}
+use Rattle.line_model.specs.WriterCalls.{LineWriting, IsWriterCall, TopCalls, StepsCalls, steps_top, FinishCalls}
+use Rattle.line_model.specs.WriterCalls.{finishes_top, begins_frame, begins_none, WholeCalls, writes_frame, writes_none}
 use Rattle.line_model.proofs.PartsJoined.{top_calls_go_on}
 use Rattle.line_model.proofs.CallParts.{call_moves}
 use Rattle.ring_steps.specs.declared.rule.Shape.{Shape}
 use Rattle.ring_shared.specs.Value.{WriterValue, SameWriter}
 use Rattle.writer_thread.specs.declared.writer.LineWriter.{LineWriter}
-use Rattle.writer_thread.specs.LineWriters.{writer_in, made_in, payloads_of, IsLineWriter, HasMade, Pushes, CallsTop, MakesCalls, MakesLine}
+use Rattle.writer_thread.specs.LineWriters.{writer_in, made_in, payloads_of, IsLineWriter, HasMade, Pushes, CallsTop}
+use Rattle.writer_thread.specs.LineWriters.{MakesCalls, MakesLine}
 use Rattle.writer_thread.specs.Runs.{HasMadeCalls}
 use Rattle.writer_thread.proofs.TopCalls.{moved_few}
 
@@ -68,7 +72,8 @@ part_way_more depth count old now next part_way some deep top =
       made = omega (arith, length-append part_way.calls (top.x ∷ []));
       run = subst (λ (l : List (List ℕ)). TopCalls s.pages s.size s.start (depth - 1) (writer_in old.writer.part)
           (payloads_of old) (part_way.calls ++ top.x ∷ []) (writer_in next.writer.part) l) (sym top.lefts_are)
-          (top_calls_go_on s.pages s.size s.start (depth - 1) (writer_in old.writer.part) (payloads_of old) part_way.calls
+          (top_calls_go_on s.pages s.size s.start (depth - 1) (writer_in old.writer.part) (payloads_of old)
+          part_way.calls
           (writer_in now.writer.part) (payloads_of now) top.x (writer_in next.writer.part) part_way.run top_here
           top.event_is call);
       has_made = made_then old now next part_way.calls (top.x ∷ []) part_way.has_made top.has_made;

@@ -1,5 +1,6 @@
 -- One more line, and all of them; and what they make of a new ring.
-use Rattle.std.proofs.Common.{◌≡◌, ℕ, zero, suc, ◌+◌, ◌<◌, ◌≤◌, List, [], ◌∷◌, ◌++◌, length, take, get_or, Some, refl, sym, ap, ◌∙◌, subst, arith}
+use Rattle.std.proofs.Common.{◌≡◌, ℕ, zero, suc, ◌+◌, ◌<◌, ◌≤◌, List, [], ◌∷◌, ◌++◌, length, take, get_or, Some, refl}
+use Rattle.std.proofs.Common.{sym, ap, ◌∙◌, subst, arith}
 use Rattle.std.specs.Prelude.{All}
 use Rattle.std.specs.List.{slice_get, AllZip}
 use Rattle.std.proofs.lemmas.List.{take_all}
@@ -11,7 +12,8 @@ use Rattle.trace_model.proofs.collections.Elements.{some_is}
 use Rattle.text_model.specs.Script.{Command, finish_frame}
 use Rattle.line_model.specs.Lines.{writer_lines, IsMadeByLines}
 use Rattle.line_model.specs.ReplayedLines.{commands_of}
-use Rattle.line_model.specs.WriterCalls.{LineWriting, first_writer, LineCalls, LinesCalls, RestCalls, FinishCalls, IsReachedByLines, exchanges_to}
+use Rattle.line_model.specs.WriterCalls.{LineWriting, first_writer, LineCalls, LinesCalls, RestCalls, FinishCalls}
+use Rattle.line_model.specs.WriterCalls.{IsReachedByLines, exchanges_to}
 use Rattle.line_model.proofs.PartsJoined.{lines_calls_go_on, rest_calls_go_on}
 use Rattle.line_model.proofs.LineCallsMade.{writer_makes_lines}
 use Rattle.line_model.proofs.WrittenLines.{whole_lines_commit}
@@ -20,7 +22,8 @@ use Rattle.ring_steps.specs.NewRings.{first_writing}
 use Rattle.ring_shared.specs.Value.{WriterValue}
 use Rattle.ring_shared.proofs.WholeAppends.{writers_have_histories}
 use Rattle.writer_thread.specs.declared.writer.LineWriter.{LineWriter}
-use Rattle.writer_thread.specs.LineWriters.{writer_in, made_in, payloads_of, IsLineWriter, MakesLine, MakesLines, MakesRest, FinishesRest}
+use Rattle.writer_thread.specs.LineWriters.{writer_in, made_in, payloads_of, IsLineWriter, MakesLine, MakesLines}
+use Rattle.writer_thread.specs.LineWriters.{MakesRest, FinishesRest}
 use Rattle.writer_thread.specs.Obeying.{IsLineAt, HasObeyed}
 use Rattle.ring_shared.specs.Calls.{IsWriter}
 use Rattle.writer_thread.proofs.LineRuns.{same_then, made_then, made_none}
@@ -88,7 +91,8 @@ pub next_line : (commands : List (ℕ × Command)) (indexes : List ℕ) (lines :
     → IsNextLine commands lines index (get_or indexes index d)
 next_line commands [] lines index d are low = absurd (omega arith)
 next_line commands (line_index ∷ indexes) [] index d are low = absurd are
-next_line commands (line_index ∷ indexes) (line ∷ lines) zero d are low = record { line = line; at = are.0; next = refl }
+next_line commands (line_index ∷ indexes) (line ∷ lines) zero d are low =
+    record { line = line; at = are.0; next = refl }
 next_line commands (line_index ∷ indexes) (line ∷ lines) (suc index) d are low =
     let n = next_line commands indexes lines index d are.1 (omega arith) in
     record { line = n.line; at = n.at; next = ap (λ (l : List Command). line ∷ l) n.next }

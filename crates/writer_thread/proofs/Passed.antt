@@ -7,7 +7,8 @@ use Rattle.trace_model.specs.declared.numbers.FillNo.{FillNo}
 use Rattle.trace_model.specs.Steps.{Event, Exchange}
 use Rattle.ring_model.proofs.histories.StepsAsEvents.{counts_rise}
 use Rattle.ring_model.proofs.partition.RingsKept.{reached_kept}
-use Rattle.line_model.specs.WriterCalls.{LineWriting, IsWriterCall, TopCalls, FinishCalls, none_to_finish, finishes_top, WholeCalls, writes_frame, writes_none}
+use Rattle.line_model.specs.WriterCalls.{LineWriting, IsWriterCall, TopCalls, FinishCalls, none_to_finish, finishes_top}
+use Rattle.line_model.specs.WriterCalls.{WholeCalls, writes_frame, writes_none}
 use Rattle.ring_shared.specs.Value.{WriterValue}
 use Rattle.writer_thread.specs.declared.gate.Who.{Who}
 use Rattle.writer_thread.specs.declared.writer.LineWriter.{LineWriter}
@@ -69,7 +70,8 @@ whole_forward moment payload old new w =
 
 module _ {Gate : Type 0} (answers : Gate → Who → (cpu fill : ℕ) → Bool → Type 0) (gate : Gate) (cpu : ℕ) where
   pub passed_none : (done : ℕ) → HavePassed answers gate cpu done done
-  passed_none done = record { forward = omega arith; each = λ closed low high. absurd (let no : ⊥ = omega (arith, low, high) in no) }
+  passed_none done =
+      record { forward = omega arith; each = λ closed low high. absurd (let no : ⊥ = omega (arith, low, high) in no) }
 
   pub passed_then : (from mid to : ℕ)
       → HavePassed answers gate cpu from mid

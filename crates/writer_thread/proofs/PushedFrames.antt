@@ -1,5 +1,6 @@
 -- A frame that is pushed is on top with its payload; one that is refused changes nothing.
-use Rattle.std.proofs.Common.{◌≡◌, ◌≢◌, ℕ, ◌<◌, ◌≤◌, true, false, List, [], ◌∷◌, ◌++◌, length, map, reverse, take, refl, sym, ap, ◌∙◌, subst, inl, inr, arith, Bor}
+use Rattle.std.proofs.Common.{◌≡◌, ◌≢◌, ℕ, ◌<◌, ◌≤◌, true, false, List, [], ◌∷◌, ◌++◌, length, map, reverse, take, refl}
+use Rattle.std.proofs.Common.{sym, ap, ◌∙◌, subst, inl, inr, arith, Bor}
 use Rattle.std.specs.Prelude.{slice_set}
 use Rattle.std.proofs.lemmas.List.{length-set, map-append}
 use Rattle.trace_model.specs.declared.limits.TheConstants.{MAX_FRAMES}
@@ -47,7 +48,8 @@ logged shape before event result after c =
 
 -- ---- what a push makes of the frames
 
-pub data IsPushOutcome (payload : List ℕ) (before : LineWriting) (reported : model.Answer) (after : LineWriting) : Type 0 where
+pub data IsPushOutcome (payload : List ℕ) (before : LineWriting) (reported : model.Answer) (after : LineWriting) : Type
+    0 where
   stands : (frame : Frame)
       → reported ≡ pushed
       → after.frames ≡ frame ∷ before.frames
@@ -91,7 +93,8 @@ module _ (shape : Shape) (before : Writing) (result : Answer) (after : Writing) 
 
 -- ---- what the answer means
 
-pushed_reported : (size : ℕ) (a : Answer) (reported : model.Answer) → IsAnswerOf size a reported → a ≡ answer.Pushed → reported ≡ pushed
+pushed_reported : (size : ℕ) (a : Answer) (reported : model.Answer) → IsAnswerOf size a reported → a ≡ answer.Pushed
+    → reported ≡ pushed
 pushed_reported size a reported t is = subst (λ (x : Answer). IsAnswerOf size x reported) is t
 
 -- ---- the writer after it
@@ -112,7 +115,9 @@ module _ (old : LineWriter) (is : IsLineWriter old) (v : WriterValue) (event : E
       → makes.call.answer ≡ reported
       → made_in v.part ≡ made_in old.writer.part ++ record { event = event; answer = reported } ∷ []
   log reported e =
-      subst (λ (a : model.Answer). made_in v.part ≡ made_in old.writer.part ++ record { event = event; answer = a } ∷ []) e
+      subst
+      (λ (a : model.Answer). made_in v.part ≡ made_in old.writer.part ++ record { event = event; answer = a } ∷ [])
+      e
       (logged old.writer.shape old.writer.part event result v.part makes.call)
 
   -- it is refused
@@ -142,18 +147,6 @@ module _ (old : LineWriter) (is : IsLineWriter old) (v : WriterValue) (event : E
   pub refused_push : result ≢ answer.Pushed
       → Pushes event payload old false record { writer = v; payloads = old.payloads }
   refused_push not = behind_refused answered not
-
-  -- it is pushed
-  room_behind : IsPushOutcome payload (writer_in old.writer.part) makes.call.answer (writer_in v.part)
-      → result ≡ answer.Pushed
-      → length old.writer.part.frames < length old.payloads
-  room_behind (stands frame e top fits few done) pushed_is = let room = is.room in omega arith
-  room_behind (fails why e same) pushed_is =
-      let reported = pushed_reported old.writer.shape.size result makes.call.answer makes.call.reports pushed_is in
-      absurd (let both : pushed ≡ refused why = sym reported ∙ e in cc)
-
-  pub has_room : result ≡ answer.Pushed → length old.writer.part.frames < length old.payloads
-  has_room pushed_is = room_behind answered pushed_is
 
   module _ (item : Bor (List ℕ)) (item_is : item.now ≡ payload) where
     behind_pushed : IsPushOutcome payload (writer_in old.writer.part) makes.call.answer (writer_in v.part)

@@ -1,6 +1,7 @@
 -- A record that is written whole: the calls that this is made of are those of its line.
 use Rattle.std.specs.Prelude.{Result, Ok, Err, None}
-use Rattle.std.proofs.Common.{◌≡◌, ℕ, ◌-◌, ◌⊎◌, inl, inr, false, List, [], ◌∷◌, ◌++◌, length, map, reverse, take, drop, refl, sym, ap, ◌∙◌, subst, arith, Bor, append_assoc, append-nil}
+use Rattle.std.proofs.Common.{◌≡◌, ℕ, ◌-◌, ◌⊎◌, inl, inr, false, List, [], ◌∷◌, ◌++◌, length, map, reverse, take, drop}
+use Rattle.std.proofs.Common.{refl, sym, ap, ◌∙◌, subst, arith, Bor, append_assoc, append-nil}
 use Rattle.trace_model.specs.Words.{padded}
 use Rattle.trace_model.specs.Frames.{Purpose, for_record, Progress, waiting, reserved, left, Frame}
 use Rattle.trace_model.specs.Steps.{Event, pushes, steps, ends, Exchange}
@@ -21,7 +22,8 @@ use Rattle.ring_shared.specs.Value.{WriterValue, SameWriter}
 use Rattle.ring_shared.specs.Calls.{IsWriter, IsCall}
 use Rattle.ring_shared.specs.Finishing.{MakesSteps, at_once, one_more, Leaves, is_gone, was_refused}
 use Rattle.ring_shared.specs.WholeWrites.{GoesAway, IsWritten, IsRefusedPartWay, IsRefusedWrite}
-use Rattle.ring_shared.proofs.Finishes.{IsStillReserving, reserving_first, reserving_on, IsStillLeaving, leaving_first, leaving_going}
+use Rattle.ring_shared.proofs.Finishes.{IsStillReserving, reserving_first, reserving_on, IsStillLeaving, leaving_first}
+use Rattle.ring_shared.proofs.Finishes.{leaving_going}
 use Rattle.ring_shared.proofs.WholeWrites.{HasBegun, has_begun, HasTopRecord, reserved_so, left_full, leaves_below}
 use Rattle.ring_shared.proofs.WholeAppends.{refused_writes_keep_frames}
 use Rattle.writer_thread.specs.declared.writer.LineWriter.{LineWriter}
@@ -122,7 +124,8 @@ module _ (shape : Shape) (below : List Frame) (payload : List ℕ) (payloads : L
       let b = reserving_on shape frame.kind below from between after Going a call refl in (
         b,
         stands_then from between after steps Going a.frame s a.top
-            (other_steps (IsReserving a.frame.kind) a.frame.state (payload ∷ payloads) (λ number is. is) a.reserves) call b.frame b.top,
+            (other_steps (IsReserving a.frame.kind) a.frame.state (payload ∷ payloads) (λ number is. is) a.reserves)
+            call b.frame b.top,
       )
 
   -- ---- until it is popped
@@ -139,7 +142,8 @@ module _ (shape : Shape) (below : List Frame) (payload : List ℕ) (payloads : L
       let b = leaving_going shape below start None between after Going a call refl in (
         b,
         stands_then from between after steps Going a.frame t a.top
-            (other_steps (IsLeaving a.frame.kind) a.frame.state (payload ∷ payloads) (λ number is. is) a.leaves) call b.frame b.top,
+            (other_steps (IsLeaving a.frame.kind) a.frame.state (payload ∷ payloads) (λ number is. is) a.leaves) call
+            b.frame b.top,
       )
 
   leaves : (from start : Writing) (answer : Answer) (after : Writing) (frame : Frame)
@@ -157,7 +161,8 @@ module _ (shape : Shape) (below : List Frame) (payload : List ℕ) (payloads : L
       let (a, t) = leaving frame from start mid s top is goes in
       leaves from next last after other
       (stands_then from mid next steps (Refused fault) a.frame t a.top
-      (other_steps (IsLeaving a.frame.kind) a.frame.state (payload ∷ payloads) (λ number is. is) a.leaves) call other above)
+      (other_steps (IsLeaving a.frame.kind) a.frame.state (payload ∷ payloads) (λ number is. is) a.leaves) call other
+      above)
       above is_leaving rest
 
 -- ---- a whole write
@@ -209,7 +214,8 @@ module _ (shape : Shape) (before : Writing) (moment : ℕ) (payload : List ℕ) 
       ended_then w.pushed w.reserved w.ended w.how
       (stands_then shape before.frames payload payloads many w.pushed w.reserve.between w.reserved steps
       (Reserved w.number) a.frame s a.top
-      (other_steps (IsReserving a.frame.kind) a.frame.state (payload ∷ payloads) (λ number is. is) a.reserves) w.reserve.last t.next t.top)
+      (other_steps (IsReserving a.frame.kind) a.frame.state (payload ∷ payloads) (λ number is. is) a.reserves)
+      w.reserve.last t.next t.top)
       t w.end w.goes w.frames
 
   refused_calls : (fault : WriteFault) (r : IsRefusedPartWay shape before moment (length payload) fault after)
@@ -233,13 +239,15 @@ module _ (shape : Shape) (before : Writing) (moment : ℕ) (payload : List ℕ) 
           subst (Popped r.pushed) (sym same)
           (popped_then shape before.frames payload payloads many r.pushed r.reserve.between r.refused steps
           (Refused fault) a.frame s a.top
-          (other_steps (IsReserving a.frame.kind) a.frame.state (payload ∷ payloads) (λ number is. is) a.reserves) r.reserve.last
+          (other_steps (IsReserving a.frame.kind) a.frame.state (payload ∷ payloads) (λ number is. is) a.reserves)
+          r.reserve.last
           (ap (λ (w : Writing). w.frames) (sym same) ∙ r.frames))
       rest a s (inr (frame, answer, top, is, all)) =
           leaves shape before.frames payload payloads many r.pushed r.refused answer after frame
           (stands_then shape before.frames payload payloads many r.pushed r.reserve.between r.refused steps
           (Refused fault) a.frame s a.top
-          (other_steps (IsReserving a.frame.kind) a.frame.state (payload ∷ payloads) (λ number is. is) a.reserves) r.reserve.last frame top)
+          (other_steps (IsReserving a.frame.kind) a.frame.state (payload ∷ payloads) (λ number is. is) a.reserves)
+          r.reserve.last frame top)
           top is all
 
 -- ---- the line

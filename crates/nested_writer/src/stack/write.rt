@@ -14,7 +14,8 @@ pub enum Wrote {
 }
 
 impl WriterStack {
-    ghost use Rattle.std.specs.Prelude.{◌≡◌, ◌≢◌, ◌↔◌, ℕ, max, [], ◌∷◌, ◌++◌, List, Some, length, IsTrue, false};
+    ghost use Rattle.std.specs.Prelude.{◌≡◌, ◌≢◌, ◌↔◌, ℕ, max, [], ◌∷◌, ◌++◌, List, Some, length, IsTrue, true, false};
+    ghost use Rattle.page_image.specs.Contents.{is_blank};
     ghost use Rattle.trace_model.specs.History.{HistoryEvent, push, reserve, leave, wished};
     ghost use Rattle.trace_model.specs.Packing.{tail_of};
     ghost use Rattle.trace_model.specs.Words.{padded};
@@ -27,10 +28,11 @@ impl WriterStack {
     ghost use Rattle.nested_writer.specs.Kept.{SamePages};
     ghost use Rattle.nested_writer.specs.IsStack.{IsStack, IsReachedStack};
 
-    /// Writes a record whose moment is raised to `raised`.
+    /// Writes a record whose moment is raised to `raised`, in a tail that is known to hold a record, or not.
     #[inline(always)]
-    fn write_raised(&mut self, moment: u64, raised: u64, payload: &[u8])
+    fn write_raised(&mut self, holds_record: bool, moment: u64, raised: u64, payload: &[u8])
         requires stack { IsReachedStack self.old }
+        requires behind { holds_record ≡ true → is_blank self.old.tail.bytes ≡ false }
         requires fits { FitsAtOnce self.old moment (length payload.now) }
         requires raised { raised ≡ max moment self.old.last_moment }
         ensures written { self.new ≡ with_written self.old moment payload.now }
@@ -42,13 +44,13 @@ impl WriterStack {
     {
         let prev = self.last_moment;
         self.last_moment = raised;
-        self.tail.put_payload(prev, raised, payload);
+        self.tail.put_payload(holds_record, prev, raised, payload);
         self.tail.store_commit();
     }
 
-    /// `write_alone`, whatever the record.
+    /// `write_alone`, for a record that may have room in the tail.
     #[inline(never)]
-    fn write_any(&mut self, moment: u64, payload: &[u8]) -> Wrote
+    fn write_with_room(&mut self, moment: u64, payload: &[u8]) -> Wrote
         requires stack { IsReachedStack self.old }
         ensures at_once { WritesWhatFits moment payload.now self.old result self.new }
         ensures written { result ≡ Wrote.Record → self.new ≡ with_written self.old moment payload.now }
@@ -67,8 +69,23 @@ impl WriterStack {
         if self.size < end + size_of(len, raised - self.last_moment, end == 0) {
             return Wrote::Nothing;
         }
-        self.write_raised(moment, raised, payload);
+        self.write_raised(false, moment, raised, payload);
         Wrote::Record
+    }
+
+    /// `write_alone`, for a record that `write_if_short` left: most of these have no room in the tail.
+    #[inline(always)]
+    pub fn write_any(&mut self, moment: u64, payload: &[u8]) -> Wrote
+        requires stack { IsReachedStack self.old }
+        ensures at_once { WritesWhatFits moment payload.now self.old result self.new }
+        ensures written { result ≡ Wrote.Record → self.new ≡ with_written self.old moment payload.now }
+        ensures frames { self.new.frames ≡ self.old.frames }
+    {
+        // A record has at least a word before its payload.
+        if self.size < self.tail.end() + 4 + payload.len() {
+            return Wrote::Nothing;
+        }
+        self.write_with_room(moment, payload)
     }
 
     /// `write_alone`, for a record as nearly all are.
@@ -84,7 +101,7 @@ impl WriterStack {
         if self.size < self.tail.end() + size {
             return Wrote::Nothing;
         }
-        self.write_raised(moment, moment, payload);
+        self.write_raised(true, moment, moment, payload);
         Wrote::Record
     }
 
@@ -107,10 +124,7 @@ impl WriterStack {
         if payload.len().wrapping_sub(1) >= SHORT_LIMIT {
             return Wrote::Nothing;
         }
-        if self.tail.end() == 0 {
-            return Wrote::Nothing;
-        }
-        if moment >= MOMENT_LIMIT {
+        if !self.tail.may_follow(moment) {
             return Wrote::Nothing;
         }
         if moment.wrapping_sub(self.last_moment) >= EXTEND_FROM {

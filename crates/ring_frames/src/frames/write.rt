@@ -47,7 +47,7 @@ impl Frames {
         ensures payloads { KeepsPayloads self.old.stack self.new.stack }
     {
         match kind {
-            WriteKind::Any => self.stack.write_alone(moment, payload),
+            WriteKind::Any => self.stack.write_any(moment, payload),
             WriteKind::Short => self.stack.write_if_short(moment, payload),
         }
     }

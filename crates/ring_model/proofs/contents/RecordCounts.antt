@@ -15,12 +15,14 @@ module _ (n size start : ℕ) (c : Core) (kept : IsRingKept n size start c) wher
   joined = joined_all 0 (opens_of c.history) (reserved_records c.history) kept.contents.rising
 
   begun : length (fills_of c.history) ≡ c.opened - start
-  begun = let count = kept.contents.begun in omega (arith, length-cut_from 0 (opens_of c.history) (reserved_records c.history))
+  begun = let count = kept.contents.begun in
+      omega (arith, length-cut_from 0 (opens_of c.history) (reserved_records c.history))
 
   few_for : (room : ℕ) → size ≤ room → 8 * length (reserved_records c.history) ≤ room * (c.opened - start)
   few_for room le = subst (λ (k : ℕ). 8 * length (reserved_records c.history) ≤ room * k) begun
       (subst (λ (l : List Reservation). 8 * length l ≤ room * length (fills_of c.history)) joined
-      (fills_hold room (fills_of c.history) (λ k low. let fits = (runs_packed n size start c kept).rooms k low in omega arith)))
+      (fills_hold room (fills_of c.history)
+      (λ k low. let fits = (runs_packed n size start c kept).rooms k low in omega arith)))
 
   pub records_few : 8 * length (reserved_records c.history) ≤ size * (c.opened - start)
   records_few = few_for size (omega arith)

@@ -1,11 +1,15 @@
 -- The worked examples, computed from new rings of two and of four pages.
-use Rattle.std.proofs.Common.{◌≡◌, ℕ, zero, suc, ◌+◌, ◌%◌, ◌<◌, List, [], ◌∷◌, map, Option, Some, None, get_or, refl, arith, subst, ◌≤◌}
+use Rattle.std.proofs.Common.{◌≡◌, ℕ, zero, suc, ◌+◌, ◌%◌, ◌<◌, List, [], ◌∷◌, map, Option, Some, None, get_or, refl}
+use Rattle.std.proofs.Common.{arith, subst, ◌≤◌}
 use Rattle.trace_model.specs.Record.{Record}
 use Rattle.trace_model.specs.Links.{normal_link, header_link}
 use Rattle.trace_model.specs.Ring.{PageRecords, Core, IsStart, link_into, loading_head}
 use Rattle.trace_model.specs.History.{committed_records}
 use Rattle.trace_model.specs.Steps.{Exchange, Run}
-use Rattle.ring_model.specs.Examples.{at, all, four, IsExample, first_record, FirstRecord, nested_writer, NestedWriter, inner_reserves_first, InnerReservesFirst, halted_head_move, HaltedHeadMove, helpers_at_the_head, HelpersAtTheHead, late_swap, LateSwap, wish_answered, WishAnswered, wish_waits_for_the_outermost, WishWaitsForTheOutermost}
+use Rattle.ring_model.specs.Examples.{at, all, four, IsExample, first_record, FirstRecord, nested_writer, NestedWriter}
+use Rattle.ring_model.specs.Examples.{inner_reserves_first, InnerReservesFirst, halted_head_move, HaltedHeadMove}
+use Rattle.ring_model.specs.Examples.{helpers_at_the_head, HelpersAtTheHead, late_swap, LateSwap, wish_answered}
+use Rattle.ring_model.specs.Examples.{WishAnswered, wish_waits_for_the_outermost, WishWaitsForTheOutermost}
 use Rattle.ring_model.proofs.steps.RunFunction.{Ran, run_of, event_in, answer_in, Gives, run_sound}
 use Rattle.ring_model.proofs.partition.OneNewRing.{same_ring}
 
@@ -103,30 +107,46 @@ tried : (n size : ℕ) (new : Core) (exchanges : List Exchange) (committed : Lis
     → committed_records (last_from n size new exchanges).history ≡ committed
     → IsExample n size exchanges committed
 tried n size new exchanges committed some is gives records = λ start it.
-    subst (λ (s : Core). (after : Core) × Run n size s exchanges after × (committed_records after.history ≡ committed)) (same_ring n 0 some new start is it)
+    subst (λ (s : Core). (after : Core) × Run n size s exchanges after × (committed_records after.history ≡ committed))
+    (same_ring n 0 some new start is it)
     (last_from n size new exchanges, run_sound n size new (last_from n size new exchanges) exchanges gives, records)
 
 pub first_record_tried : FirstRecord
-first_record_tried = tried 2 32 two_pages first_record (at 100 (1 ∷ 2 ∷ 3 ∷ 4 ∷ []) ∷ []) (omega arith) two_start (refl, refl) refl
+first_record_tried =
+    tried 2 32 two_pages first_record (at 100 (1 ∷ 2 ∷ 3 ∷ 4 ∷ []) ∷ []) (omega arith) two_start (refl, refl) refl
 
 pub nested_writer_tried : NestedWriter
-nested_writer_tried = tried 2 32 two_pages nested_writer (at 10 (four 170) ∷ at 20 (four 187) ∷ []) (omega arith) two_start (refl, refl) refl
+nested_writer_tried =
+    tried 2 32 two_pages nested_writer (at 10 (four 170) ∷ at 20 (four 187) ∷ []) (omega arith) two_start (refl, refl)
+    refl
 
 pub inner_reserves_first_tried : InnerReservesFirst
-inner_reserves_first_tried = tried 2 32 two_pages inner_reserves_first (at 20 (four 187) ∷ at 20 (four 170) ∷ []) (omega arith) two_start (refl, refl) refl
+inner_reserves_first_tried =
+    tried 2 32 two_pages inner_reserves_first (at 20 (four 187) ∷ at 20 (four 170) ∷ []) (omega arith) two_start
+    (refl, refl) refl
 
 pub halted_head_move_tried : HaltedHeadMove
-halted_head_move_tried = tried 2 32 two_pages halted_head_move (at 1 (all 1) ∷ at 2 (all 2) ∷ at 3 (all 3) ∷ []) (omega arith) two_start (refl, refl) refl
+halted_head_move_tried =
+    tried 2 32 two_pages halted_head_move (at 1 (all 1) ∷ at 2 (all 2) ∷ at 3 (all 3) ∷ []) (omega arith) two_start
+    (refl, refl) refl
 
 pub helpers_at_the_head_tried : HelpersAtTheHead
 helpers_at_the_head_tried =
-    tried 4 32 four_pages helpers_at_the_head (at 1 (all 1) ∷ at 2 (all 2) ∷ at 3 (all 3) ∷ at 4 (all 4) ∷ at 6 (all 6) ∷ at 7 (all 7) ∷ at 7 (all 5) ∷ []) (omega arith) four_start (refl, refl) refl
+    tried 4 32 four_pages helpers_at_the_head
+    (at 1 (all 1) ∷ at 2 (all 2) ∷ at 3 (all 3) ∷ at 4 (all 4) ∷ at 6 (all 6) ∷ at 7 (all 7) ∷ at 7 (all 5) ∷ [])
+    (omega arith) four_start (refl, refl) refl
 
 pub late_swap_tried : LateSwap
-late_swap_tried = tried 2 32 two_pages late_swap (at 1 (all 1) ∷ at 2 (all 2) ∷ at 3 (all 3) ∷ at 4 (all 4) ∷ []) (omega arith) two_start (refl, refl) refl
+late_swap_tried =
+    tried 2 32 two_pages late_swap (at 1 (all 1) ∷ at 2 (all 2) ∷ at 3 (all 3) ∷ at 4 (all 4) ∷ []) (omega arith)
+    two_start (refl, refl) refl
 
 pub wish_answered_tried : WishAnswered
-wish_answered_tried = tried 2 32 two_pages wish_answered (at 1 (1 ∷ 2 ∷ 3 ∷ 4 ∷ []) ∷ at 2 (5 ∷ 6 ∷ 7 ∷ 8 ∷ []) ∷ []) (omega arith) two_start (refl, refl) refl
+wish_answered_tried =
+    tried 2 32 two_pages wish_answered (at 1 (1 ∷ 2 ∷ 3 ∷ 4 ∷ []) ∷ at 2 (5 ∷ 6 ∷ 7 ∷ 8 ∷ []) ∷ []) (omega arith)
+    two_start (refl, refl) refl
 
 pub wish_waits_for_the_outermost_tried : WishWaitsForTheOutermost
-wish_waits_for_the_outermost_tried = tried 2 32 two_pages wish_waits_for_the_outermost (at 1 (1 ∷ 2 ∷ 3 ∷ 4 ∷ []) ∷ at 2 (5 ∷ 6 ∷ 7 ∷ 8 ∷ []) ∷ []) (omega arith) two_start (refl, refl) refl
+wish_waits_for_the_outermost_tried =
+    tried 2 32 two_pages wish_waits_for_the_outermost (at 1 (1 ∷ 2 ∷ 3 ∷ 4 ∷ []) ∷ at 2 (5 ∷ 6 ∷ 7 ∷ 8 ∷ []) ∷ [])
+    (omega arith) two_start (refl, refl) refl

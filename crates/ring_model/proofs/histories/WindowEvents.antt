@@ -7,7 +7,9 @@ use Rattle.ring_model.specs.WindowLaws.{MovesWindow}
 
 -- a list isn't longer than itself
 pushed : (xs ys : List TakenFill) (t : TakenFill) → ys ≡ xs ++ t ∷ [] → ys ≡ xs → ⊥
-pushed xs ys t more same = let long = ap (length {A = TakenFill}) more in let short = ap (length {A = TakenFill}) same in omega (arith, length-append xs (t ∷ []))
+pushed xs ys t more same = let long = ap (length {A = TakenFill}) more in
+    let short = ap (length {A = TakenFill}) same in
+    omega (arith, length-append xs (t ∷ []))
 
 heads : (w v x : Window) → x ≡ w → x ≡ v → w.head ≡ v.head
 heads w v x a b = ap (λ (y : Window). y.head) (sym a ∙ b)
@@ -16,14 +18,22 @@ dones : (w v x : Window) → x ≡ w → x ≡ v → w.done ≡ v.done
 dones w v x a b = ap (λ (y : Window). y.done) (sym a ∙ b)
 
 module _ (n : ℕ) (c after : Core) where
-  same_heads : (what other : RingEvent) → MovesWindow n c what after → MovesWindow n c other after → (window_after (window_of c) what).head ≡ (window_after (window_of c) other).head
-  same_heads what other h g = heads (window_after (window_of c) what) (window_after (window_of c) other) (window_of after) h.step.after_is g.step.after_is
+  same_heads : (what other : RingEvent) → MovesWindow n c what after → MovesWindow n c other after
+      → (window_after (window_of c) what).head ≡ (window_after (window_of c) other).head
+  same_heads what other h g =
+      heads (window_after (window_of c) what) (window_after (window_of c) other) (window_of after) h.step.after_is
+      g.step.after_is
 
-  same_dones : (what other : RingEvent) → MovesWindow n c what after → MovesWindow n c other after → (window_after (window_of c) what).done ≡ (window_after (window_of c) other).done
-  same_dones what other h g = dones (window_after (window_of c) what) (window_after (window_of c) other) (window_of after) h.step.after_is g.step.after_is
+  same_dones : (what other : RingEvent) → MovesWindow n c what after → MovesWindow n c other after
+      → (window_after (window_of c) what).done ≡ (window_after (window_of c) other).done
+  same_dones what other h g =
+      dones (window_after (window_of c) what) (window_after (window_of c) other) (window_of after) h.step.after_is
+      g.step.after_is
 
   took_is_not_lost : MovesWindow n c takes after → MovesWindow n c loses after → ⊥
-  took_is_not_lost h g = let (same, t, here, more) = h.shown in let (alike, reader) = g.shown in pushed c.reader.taken after.reader.taken t more (ap (λ (r : Reader). r.taken) reader)
+  took_is_not_lost h g = let (same, t, here, more) = h.shown in
+      let (alike, reader) = g.shown in
+      pushed c.reader.taken after.reader.taken t more (ap (λ (r : Reader). r.taken) reader)
 
   -- of the history events only the begin of a fill moves the window
   only_opens : (P : HistoryEvent → Type 0) (a : HistoryEvent) → MovesWindow n c (acts a) after → P open_fill → P a
@@ -34,17 +44,21 @@ module _ (n : ℕ) (c after : Core) where
   only_opens P (leave payload) h p = absurd h.shown
   only_opens P wished h p = absurd h.shown
 
-  opens_alone : (other : RingEvent) → MovesWindow n c (acts open_fill) after → MovesWindow n c other after → acts open_fill ≡ other
+  opens_alone : (other : RingEvent) → MovesWindow n c (acts open_fill) after → MovesWindow n c other after
+      → acts open_fill ≡ other
   opens_alone (acts b) h g = only_opens (λ y. acts open_fill ≡ acts y) b g refl
   opens_alone closes h g = let e = same_dones (acts open_fill) closes h g in absurd (omega arith)
   opens_alone takes h g = let e = same_heads (acts open_fill) takes h g in absurd (omega arith)
   opens_alone loses h g = let e = same_heads (acts open_fill) loses h g in absurd (omega arith)
 
   -- the same, whichever history event it is
-  acts_alone : (a : HistoryEvent) (other : RingEvent) → MovesWindow n c (acts a) after → MovesWindow n c other after → acts a ≡ other
-  acts_alone a other h g = only_opens (λ x. MovesWindow n c (acts x) after → acts x ≡ other) a h (λ begun. opens_alone other begun g) h
+  acts_alone : (a : HistoryEvent) (other : RingEvent) → MovesWindow n c (acts a) after → MovesWindow n c other after
+      → acts a ≡ other
+  acts_alone a other h g =
+      only_opens (λ x. MovesWindow n c (acts x) after → acts x ≡ other) a h (λ begun. opens_alone other begun g) h
 
-  pub one_window_event : (what other : RingEvent) → MovesWindow n c what after → MovesWindow n c other after → what ≡ other
+  pub one_window_event : (what other : RingEvent) → MovesWindow n c what after → MovesWindow n c other after
+      → what ≡ other
   one_window_event (acts a) other h g = acts_alone a other h g
   one_window_event closes (acts a) h g = sym (acts_alone a closes g h)
   one_window_event closes closes h g = refl

@@ -1,6 +1,8 @@
 -- What is left of the committed records if the stack is empty and no closed fill is unread: those in the tail, and none
 -- is skipped before them.
-use Rattle.std.proofs.Common.{◌≡◌, ⊎_elim, inl, inr, ℕ, zero, suc, ◌+◌, ◌-◌, ◌<◌, ◌≤◌, List, [], ◌∷◌, ◌++◌, length, take, drop, map, flat_map, get_or, Some, refl, ap, ◌∙◌, subst, arith, append-nil, length-append, length-take-le}
+use Rattle.std.proofs.Common.{◌≡◌, ⊎_elim, inl, inr, ℕ, zero, suc, ◌+◌, ◌-◌, ◌<◌, ◌≤◌, List, [], ◌∷◌, ◌++◌, length}
+use Rattle.std.proofs.Common.{take, drop, map, flat_map, get_or, Some, refl, ap, ◌∙◌, subst, arith, append-nil}
+use Rattle.std.proofs.Common.{length-append, length-take-le}
 use Rattle.std.proofs.lemmas.Bool.{cases_lt}
 use Rattle.std.proofs.lemmas.List.{length-map}
 use Rattle.std.specs.List.{slice_get}
@@ -19,7 +21,8 @@ use Rattle.ring_model.proofs.partition.RingsKept.{is_ring}
 use Rattle.ring_model.proofs.partition.UnreadRest.{rest_is_unread}
 
 -- the records of a piece end no later than what all pieces cover
-piece_within : (number : ℕ) (taken : List TakenFill) (k first : ℕ) (t : TakenFill) → slice_get taken k ≡ Some t → first_from number (pieces_of taken) k ≡ Some first
+piece_within : (number : ℕ) (taken : List TakenFill) (k first : ℕ) (t : TakenFill) → slice_get taken k ≡ Some t
+    → first_from number (pieces_of taken) k ≡ Some first
     → first + length t.held.records ≤ number + covered_total (pieces_of taken)
 piece_within number [] k first t at is = absurd (none_some at)
 piece_within number (x ∷ taken) zero first t at is =
@@ -37,7 +40,8 @@ piece_within number (x ∷ taken) (suc k) first t at is =
     let rest = piece_within (number + covered_count (piece_of x)) taken k first t at is in omega arith
 
 -- what pieces and a rest cover
-partition_long : (records : List Record) (taken : List TakenFill) (rest : List Record) → IsPartition records (pieces_of taken) rest
+partition_long : (records : List Record) (taken : List TakenFill) (rest : List Record)
+    → IsPartition records (pieces_of taken) rest
     → length records ≡ covered_total (pieces_of taken) + length rest
 partition_long records [] rest is = let same = ap (length {A = Record}) is in omega arith
 partition_long records (x ∷ taken) rest (lost, behind, skips, cut, more) =
@@ -48,17 +52,20 @@ partition_long records (x ∷ taken) rest (lost, behind, skips, cut, more) =
     let two = length-append own behind in omega arith
 
 -- the last of some lists, as what is left of them joined
-last_joined : {A : Type 0} (xs : List A) (more : List (List A)) → flat_map (λ (fill : List A). fill) (drop (length more) (xs ∷ more)) ≡ get_or (xs ∷ more) (length more) []
+last_joined : {A : Type 0} (xs : List A) (more : List (List A))
+    → flat_map (λ (fill : List A). fill) (drop (length more) (xs ∷ more)) ≡ get_or (xs ∷ more) (length more) []
 last_joined xs [] = append-nil xs
 last_joined xs (ys ∷ more) = last_joined ys more
 
-joined_last : {A : Type 0} (lists : List (List A)) (i : ℕ) → i + 1 ≡ length lists → flat_map (λ (fill : List A). fill) (drop i lists) ≡ get_or lists (length lists - 1) []
+joined_last : {A : Type 0} (lists : List (List A)) (i : ℕ) → i + 1 ≡ length lists
+    → flat_map (λ (fill : List A). fill) (drop i lists) ≡ get_or lists (length lists - 1) []
 joined_last [] i e = absurd (omega arith)
 joined_last {A = A} (xs ∷ more) i e = let here : i ≡ length more = omega arith in
     ap (λ (k : ℕ). flat_map (λ (fill : List A). fill) (drop k (xs ∷ more))) here ∙ last_joined xs more
     ∙ ap (λ (k : ℕ). get_or (xs ∷ more) k []) (let e : length more ≡ length (xs ∷ more) - 1 = omega arith in e)
 
-module _ (n size start : ℕ) (c : Core) (r : IsRingKept n size start c) (at_rest : c.frames ≡ []) (all_read : c.head ≡ c.done) where
+module _ (n size start : ℕ) (c : Core) (r : IsRingKept n size start c) (at_rest : c.frames ≡ [])
+    (all_read : c.head ≡ c.done) where
   -- the fill before the head was taken, since none that near may be lost
   last_taken : start < c.head → IsTaken c (c.head - 1)
   last_taken some =
@@ -73,7 +80,8 @@ module _ (n size start : ℕ) (c : Core) (r : IsRingKept n size start c) (at_res
   xs = reserved_records c.history
 
   -- the next fill's first record comes after those of a fill
-  next_first : (i : ℕ) → i < length cuts → get_or (0 ∷ cuts) (suc i) 0 ≡ get_or (0 ∷ cuts) i 0 + length (get_or (fills_of c.history) i [])
+  next_first : (i : ℕ) → i < length cuts
+      → get_or (0 ∷ cuts) (suc i) 0 ≡ get_or (0 ∷ cuts) i 0 + length (get_or (fills_of c.history) i [])
   next_first i low =
       let rising = r.contents.rising in
       let up = ap (length {A = Reservation}) (fill_behind 0 cuts xs i low rising) in
@@ -92,10 +100,14 @@ module _ (n size start : ℕ) (c : Core) (r : IsRingKept n size start c) (at_res
       let within = piece_within 0 c.reader.taken k t.held.first t at (r.partition.firsts k t at) in
       let total = r.partition.total in
       let i : ℕ = c.head - 1 - start in
-      let first_is : t.held.first ≡ get_or (0 ∷ cuts) i 0 = ap (λ (h : PageRecords). h.first) fill.held ∙ ap (λ (f : ℕ). get_or (0 ∷ cuts) (f - start) 0) fill_is in
-      let wide : length t.held.records ≡ length (get_or (fills_of c.history) i []) = ap (λ (h : PageRecords). length h.records) fill.held ∙ ap (λ (f : ℕ). length (get_or (fills_of c.history) (f - start) [])) fill_is in
+      let first_is : t.held.first ≡ get_or (0 ∷ cuts) i 0 =
+      ap (λ (h : PageRecords). h.first) fill.held ∙ ap (λ (f : ℕ). get_or (0 ∷ cuts) (f - start) 0) fill_is in
+      let wide : length t.held.records ≡ length (get_or (fills_of c.history) i []) =
+      ap (λ (h : PageRecords). length h.records) fill.held
+      ∙ ap (λ (f : ℕ). length (get_or (fills_of c.history) (f - start) [])) fill_is in
       let next = next_first i (omega arith) in
-      let head_is = ap (λ (m : ℕ). get_or (0 ∷ cuts) m 0) (let e : suc i ≡ c.head - start = omega arith in e) in omega arith
+      let head_is = ap (λ (m : ℕ). get_or (0 ∷ cuts) m 0) (let e : suc i ≡ c.head - start = omega arith in e) in
+      omega arith
 
   expects_tail : c.reader.expected ≡ first_of_fill c.history start c.head
   expects_tail =
@@ -103,7 +115,9 @@ module _ (n size start : ℕ) (c : Core) (r : IsRingKept n size start c) (at_res
       let le = r.partition.expected_le in
       elim (cases_lt start c.head) [
         | inl less ↦ expects_behind less
-        | inr not_less ↦ let none = ap (λ (m : ℕ). get_or (0 ∷ cuts) m 0) (let e : c.head - start ≡ 0 = omega arith in e) in omega arith
+        | inr not_less ↦ let none =
+            ap (λ (m : ℕ). get_or (0 ∷ cuts) m 0) (let e : c.head - start ≡ 0 = omega arith in e) in
+            omega arith
       ]
 
   tail_left : records_from c.history (c.head - start) ≡ tail_of c.history
@@ -112,7 +126,8 @@ module _ (n size start : ℕ) (c : Core) (r : IsRingKept n size start c) (at_res
       let count = length-cut_from 0 cuts xs in
       joined_last (fills_of c.history) (c.head - start) (omega arith)
 
-  nothing_lost : (lost rest : List Record) → IsRest start c lost rest → IsPartition (committed_records c.history) (pieces_of c.reader.taken) (map as_record (tail_of c.history))
+  nothing_lost : (lost rest : List Record) → IsRest start c lost rest
+      → IsPartition (committed_records c.history) (pieces_of c.reader.taken) (map as_record (tail_of c.history))
   nothing_lost lost rest is =
       let long = partition_long (committed_records c.history) c.reader.taken (lost ++ rest) is.partition in
       let both = length-append lost rest in
@@ -129,4 +144,5 @@ module _ (n size start : ℕ) (c : Core) (r : IsRingKept n size start c) (at_res
 
 pub tail_is_the_rest : TailIsTheRest
 tail_is_the_rest n size start c r at_rest all_read =
-    let (lost, rest, is) = rest_is_unread n size start c r in nothing_lost n size start c r at_rest all_read lost rest is
+    let (lost, rest, is) = rest_is_unread n size start c r in
+    nothing_lost n size start c r at_rest all_read lost rest is

@@ -1,8 +1,10 @@
 -- What is left of the committed records after those that the reader took or the ring lost.
-use Rattle.std.proofs.Common.{◌≡◌, ℕ, ◌+◌, ◌-◌, ◌≤◌, List, [], ◌++◌, length, take, drop, map, sym, ap, ◌∙◌, subst, arith, length-take-le}
+use Rattle.std.proofs.Common.{◌≡◌, ℕ, ◌+◌, ◌-◌, ◌≤◌, List, [], ◌++◌, length, take, drop, map, sym, ap, ◌∙◌, subst}
+use Rattle.std.proofs.Common.{arith, length-take-le}
 use Rattle.std.proofs.lemmas.List.{take-append-drop, map-append, drop-drop, length-map, length-drop, take_all}
 use Rattle.trace_model.specs.Record.{Record}
-use Rattle.trace_model.specs.History.{Reservation, writer_after, reserved_records, settled_prefix, as_record, committed_records}
+use Rattle.trace_model.specs.History.{Reservation, writer_after, reserved_records, settled_prefix, as_record}
+use Rattle.trace_model.specs.History.{committed_records}
 use Rattle.trace_model.specs.Packing.{opens_of, first_of_fill}
 use Rattle.trace_model.specs.Partition.{IsPartition}
 use Rattle.trace_model.specs.Ring.{Core}
@@ -40,7 +42,9 @@ module _ (n size start : ℕ) (c : Core) (r : IsRingKept n size start c) where
       let e = c.reader.expected in
       let le = r.partition.expected_le in
       let ys : List Reservation = drop e (take base xs) in
-      let same : drop gone (take base xs) ≡ drop (gone - e) ys = ap (λ (m : ℕ). drop m (take base xs)) (let s : gone ≡ e + (gone - e) = omega arith in s) ∙ sym (drop-drop (gone - e) e (take base xs)) in
+      let same : drop gone (take base xs) ≡ drop (gone - e) ys =
+      ap (λ (m : ℕ). drop m (take base xs)) (let s : gone ≡ e + (gone - e) = omega arith in s)
+      ∙ sym (drop-drop (gone - e) e (take base xs)) in
       sym (map-append as_record (take (gone - e) ys) (drop gone (take base xs)))
       ∙ ap (λ (l : List Reservation). map as_record (take (gone - e) ys ++ l)) same
       ∙ ap (map as_record) (take-append-drop (gone - e) ys)
@@ -67,14 +71,17 @@ module _ (n size start : ℕ) (c : Core) (r : IsRingKept n size start c) where
   unread none =
       let begun = r.contents.begun in let le = r.links.head_le in let lt = r.links.done_lt in
       ap (λ (l : List Reservation). map as_record (drop gone l)) (all_committed none)
-      ∙ ap (map as_record) (sym (joined_behind 0 (opens_of c.history) xs (c.head - start) (omega arith) r.contents.rising))
+      ∙ ap (map as_record)
+      (sym (joined_behind 0 (opens_of c.history) xs (c.head - start) (omega arith) r.contents.rising))
 
   rest_of : (lost' rest' : List Record) × IsRest start c lost' rest'
   rest_of = (
     lost,
     rest,
     record {
-      partition = subst (IsPartition (committed_records c.history) (pieces_of c.reader.taken)) (sym joined) (taken_partition_at n size start c r);
+      partition =
+          subst (IsPartition (committed_records c.history) (pieces_of c.reader.taken)) (sym joined)
+          (taken_partition_at n size start c r);
       behind = counted;
       at_rest = unread;
     },

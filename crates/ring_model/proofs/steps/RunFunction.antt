@@ -15,7 +15,8 @@ behind answer (Some r) = Some record { answers = answer ∷ r.answers; last = r.
 
 abbrev pub run_of : ℕ → ℕ → Core → List Event → Option Ran
 run_of n size c [] = Some record { answers = []; last = c }
-run_of n size c (event ∷ events) = elim (step_of n size c event) [ None ↦ None | Some o ↦ behind o.0 (run_of n size o.1 events) ]
+run_of n size c (event ∷ events) =
+    elim (step_of n size c event) [ None ↦ None | Some o ↦ behind o.0 (run_of n size o.1 events) ]
 
 abbrev pub event_in : Exchange → Event
 event_in x = x.event
@@ -42,24 +43,33 @@ heads_equal a b xs ys e = ap (head_or a) e
 rests_equal : (a b : Answer) (xs ys : List Answer) → ◌≡◌ {A = List Answer} (a ∷ xs) (b ∷ ys) → xs ≡ ys
 rests_equal a b xs ys e = ap rest_of e
 
-one_more : (n size : ℕ) (c after : Core) (x : Exchange) (xs : List Exchange) (answer : Answer) (between : Core) (r : Option Ran)
-    → Step n size c x.event answer between → (Gives r (map answer_in xs) after → Run n size between xs after) → Gives (behind answer r) (answer_in x ∷ map answer_in xs) after
+one_more : (n size : ℕ) (c after : Core) (x : Exchange) (xs : List Exchange) (answer : Answer) (between : Core)
+    (r : Option Ran)
+    → Step n size c x.event answer between → (Gives r (map answer_in xs) after → Run n size between xs after)
+    → Gives (behind answer r) (answer_in x ∷ map answer_in xs) after
     → (between : Core) × Step n size c x.event x.answer between × Run n size between xs after
 one_more n size c after x xs answer between None step rest e = absurd e
 one_more n size c after x xs answer between (Some r) step rest (same, last) = (
   between,
-  subst (λ (a : Answer). Step n size c x.event a between) (heads_equal answer x.answer r.answers (map answer_in xs) same) step,
+  subst (λ (a : Answer). Step n size c x.event a between)
+      (heads_equal answer x.answer r.answers (map answer_in xs) same) step,
   rest (rests_equal answer x.answer r.answers (map answer_in xs) same, last),
 )
 
 by_step : (n size : ℕ) (c after : Core) (x : Exchange) (xs : List Exchange) (o : Outcome)
-    → step_of n size c x.event ≡ o → ((between : Core) → Gives (run_of n size between (map event_in xs)) (map answer_in xs) after → Run n size between xs after)
-    → Gives (elim o [ None ↦ None | Some o ↦ behind o.0 (run_of n size o.1 (map event_in xs)) ]) (answer_in x ∷ map answer_in xs) after
+    → step_of n size c x.event ≡ o
+    → ((between : Core) → Gives (run_of n size between (map event_in xs)) (map answer_in xs) after
+    → Run n size between xs after)
+    → Gives (elim o [ None ↦ None | Some o ↦ behind o.0 (run_of n size o.1 (map event_in xs)) ])
+    (answer_in x ∷ map answer_in xs) after
     → (between : Core) × Step n size c x.event x.answer between × Run n size between xs after
 by_step n size c after x xs None is rest e = absurd e
-by_step n size c after x xs (Some o) is rest e = one_more n size c after x xs o.0 o.1 (run_of n size o.1 (map event_in xs)) record { is = is } (rest o.1) e
+by_step n size c after x xs (Some o) is rest e =
+    one_more n size c after x xs o.0 o.1 (run_of n size o.1 (map event_in xs)) record { is = is } (rest o.1) e
 
 -- Where the computed answers are these, the exchanges are a run.
-pub run_sound : (n size : ℕ) (c after : Core) (exchanges : List Exchange) → Gives (run_of n size c (map event_in exchanges)) (map answer_in exchanges) after → Run n size c exchanges after
+pub run_sound : (n size : ℕ) (c after : Core) (exchanges : List Exchange)
+    → Gives (run_of n size c (map event_in exchanges)) (map answer_in exchanges) after → Run n size c exchanges after
 run_sound n size c after [] (none, last) = last
-run_sound n size c after (x ∷ xs) e = by_step n size c after x xs (step_of n size c x.event) refl (λ between. run_sound n size between after xs) e
+run_sound n size c after (x ∷ xs) e =
+    by_step n size c after x xs (step_of n size c x.event) refl (λ between. run_sound n size between after xs) e

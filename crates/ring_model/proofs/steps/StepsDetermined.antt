@@ -36,10 +36,17 @@ rests_same a b xs ys e = ap rest_of e
 
 pub runs_are_determined : RunsAreDetermined
 runs_are_determined n size c after after' [] [] e run other = (refl, sym run ∙ other)
-runs_are_determined n size c after after' [] (y ∷ ys) e run other = let z = ap (λ (l : List Event). length l) e in absurd (omega arith)
-runs_are_determined n size c after after' (x ∷ xs) [] e run other = let z = ap (λ (l : List Event). length l) e in absurd (omega arith)
+runs_are_determined n size c after after' [] (y ∷ ys) e run other = let z = ap (λ (l : List Event). length l) e in
+    absurd (omega arith)
+runs_are_determined n size c after after' (x ∷ xs) [] e run other = let z = ap (λ (l : List Event). length l) e in
+    absurd (omega arith)
 runs_are_determined n size c after after' (x ∷ xs) (y ∷ ys) e (between, step, run) (between', step', run') =
     let event = heads_same x.event y.event (events_of xs) (events_of ys) e in
-    let (answer, state) = steps_are_determined n size c x.event x.answer y.answer between between' step (subst (λ (ev : Event). Step n size c ev y.answer between') (sym event) step') in
-    let (rest, last) = runs_are_determined n size between after after' xs ys (rests_same x.event y.event (events_of xs) (events_of ys) e) run (subst (λ (s : Core). Run n size s ys after') (sym state) run') in
+    let (answer, state) =
+    steps_are_determined n size c x.event x.answer y.answer between between' step
+    (subst (λ (ev : Event). Step n size c ev y.answer between') (sym event) step') in
+    let (rest, last) =
+    runs_are_determined n size between after after' xs ys
+    (rests_same x.event y.event (events_of xs) (events_of ys) e) run
+    (subst (λ (s : Core). Run n size s ys after') (sym state) run') in
     (λ i. record { event = event i; answer = answer i } ∷ rest i, last)

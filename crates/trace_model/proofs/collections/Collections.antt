@@ -31,7 +31,8 @@ same_same ps qs rs a b = below_both ps rs (below_below ps qs rs a.below b.below)
 -- ---- the same parcels
 
 element_at : (ps : List Parcel) (p : Parcel) → Contains ps p → (k : ℕ) × (slice_get ps k ≡ Some p)
-element_at ps p (k, within, is) = (k, subst (λ (x : Parcel). slice_get ps k ≡ Some x) is (slice_get-get_or ps k p within))
+element_at ps p (k, within, is) =
+    (k, subst (λ (x : Parcel). slice_get ps k ≡ Some x) is (slice_get-get_or ps k p within))
 
 contains_at : (ps : List Parcel) (k : ℕ) (p : Parcel) → slice_get ps k ≡ Some p → Contains ps p
 contains_at ps k p at = (k, slice_get_within ps k p at, get_or_from_slice_get ps k p p at)
@@ -39,8 +40,12 @@ contains_at ps k p at = (k, slice_get_within ps k p at, get_or_from_slice_get ps
 -- more parcels have and miss more
 pub below_more : (ps qs : List Parcel) → ((p : Parcel) → Contains ps p → Contains qs p) → IsBelow ps qs
 below_more ps qs more = record {
-  has = λ cpu number r h. let (k, at) = element_at qs h.parcel (more h.parcel (contains_at ps h.index h.parcel h.at)) in record { index = k; parcel = h.parcel; at = at; pair = h.pair };
-  misses = λ cpu number h. let (k, at) = element_at qs h.parcel (more h.parcel (contains_at ps h.index h.parcel h.at)) in record { index = k; parcel = h.parcel; at = at; missing = h.missing };
+  has = λ cpu number r h. let (k, at) = element_at qs h.parcel (more h.parcel (contains_at ps h.index h.parcel h.at)) in
+      record { index = k; parcel = h.parcel; at = at; pair = h.pair };
+  misses =
+      λ cpu number h. let (k, at) =
+      element_at qs h.parcel (more h.parcel (contains_at ps h.index h.parcel h.at)) in
+      record { index = k; parcel = h.parcel; at = at; missing = h.missing };
 }
 
 -- the same parcels, in any order and with any repeats
@@ -49,7 +54,8 @@ same_parcels ps qs each = below_both ps qs (below_more ps qs (λ p. (each p).0))
 
 pub repeated : (ps : List Parcel) (p : Parcel) → Contains ps p → IsSame (ps ++ p ∷ []) ps
 repeated ps p there = below_both (ps ++ p ∷ []) ps
-    (below_more (ps ++ p ∷ []) ps (λ q here. ⊎_elim (λ h. h) (λ is. subst (Contains ps) is there) (Contains-push_cases ps p q here)))
+    (below_more (ps ++ p ∷ []) ps
+    (λ q here. ⊎_elim (λ h. h) (λ is. subst (Contains ps) is there) (Contains-push_cases ps p q here)))
     (below_more ps (ps ++ p ∷ []) (λ q here. Contains-append_left ps (p ∷ []) q here))
 
 -- ---- joined
@@ -64,13 +70,18 @@ pub joined_regrouped : (ps qs rs : List Parcel) → IsSame ((ps ++ qs) ++ rs) (p
 joined_regrouped ps qs rs = subst (IsSame ((ps ++ qs) ++ rs)) (append_assoc ps qs rs) (same_itself ((ps ++ qs) ++ rs))
 
 pub joined_twice : (ps : List Parcel) → IsSame (ps ++ ps) ps
-joined_twice ps = below_both (ps ++ ps) ps (joined_below ps ps ps (below_itself ps) (below_itself ps)) (joined_left ps ps)
+joined_twice ps =
+    below_both (ps ++ ps) ps (joined_below ps ps ps (below_itself ps) (below_itself ps)) (joined_left ps ps)
 
 -- the joins of what is below are below
-pub below_joined : (ps qs above others : List Parcel) → IsBelow ps above → IsBelow qs others → IsBelow (ps ++ qs) (above ++ others)
+pub below_joined : (ps qs above others : List Parcel) → IsBelow ps above → IsBelow qs others
+    → IsBelow (ps ++ qs) (above ++ others)
 below_joined ps qs above others a b = joined_below ps qs (above ++ others)
     (below_below ps above (above ++ others) a (joined_left above others))
     (below_below qs others (above ++ others) b (joined_right above others))
 
-pub same_joined : (ps qs like others : List Parcel) → IsSame ps like → IsSame qs others → IsSame (ps ++ qs) (like ++ others)
-same_joined ps qs like others a b = below_both (ps ++ qs) (like ++ others) (below_joined ps qs like others a.below b.below) (below_joined like others ps qs a.above b.above)
+pub same_joined : (ps qs like others : List Parcel) → IsSame ps like → IsSame qs others
+    → IsSame (ps ++ qs) (like ++ others)
+same_joined ps qs like others a b =
+    below_both (ps ++ qs) (like ++ others) (below_joined ps qs like others a.below b.below)
+    (below_joined like others ps qs a.above b.above)

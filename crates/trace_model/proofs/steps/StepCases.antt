@@ -6,10 +6,17 @@ use Rattle.trace_model.specs.Words.{slot_len}
 use Rattle.trace_model.specs.History.{push, push_close, wished, Reservation, reserved_records}
 use Rattle.trace_model.specs.Packing.{tail_of, FitsBehind}
 use Rattle.trace_model.specs.Links.{normal_link, header_link, update_link}
-use Rattle.trace_model.specs.Frames.{for_record, for_close, Progress, waiting, reserved, left, number_of, Role, owner, helper, Phase, idle, looking, claiming, looking_next, marking, clearing, opening, releasing, wishing, Frame, WriteFault, too_deep, too_long, late_moment, crowded, worn, no_frame, not_reserved}
-use Rattle.trace_model.specs.Ring.{link_into, ReaderPhase, loading_head, loading_done, storing_spare_link, swapping, Core}
-use Rattle.trace_model.specs.Events.{Event, pushes, pushes_close, steps, ends, reads, wishes, Answer, pushed, going, reserved_as, gone, refused, reading, empty, moving, page_taken, wished_for}
-use Rattle.trace_model.specs.WriterSteps.{with_history_event, in_phase, with_link, leave_answer, after_leave, with_frame, new_reservation, with_reservation, in_reserved, with_new_tail, end_answer, with_released}
+use Rattle.trace_model.specs.Frames.{for_record, for_close, Progress, waiting, reserved, left, number_of, Role, owner}
+use Rattle.trace_model.specs.Frames.{helper, Phase, idle, looking, claiming, looking_next, marking, clearing, opening}
+use Rattle.trace_model.specs.Frames.{releasing, wishing, Frame, WriteFault, too_deep, too_long, late_moment, crowded}
+use Rattle.trace_model.specs.Frames.{worn, no_frame, not_reserved}
+use Rattle.trace_model.specs.Ring.{link_into, ReaderPhase, loading_head, loading_done, storing_spare_link, swapping}
+use Rattle.trace_model.specs.Ring.{Core}
+use Rattle.trace_model.specs.Events.{Event, pushes, pushes_close, steps, ends, reads, wishes, Answer, pushed, going}
+use Rattle.trace_model.specs.Events.{reserved_as, gone, refused, reading, empty, moving, page_taken, wished_for}
+use Rattle.trace_model.specs.WriterSteps.{with_history_event, in_phase, with_link, leave_answer, after_leave}
+use Rattle.trace_model.specs.WriterSteps.{with_frame, new_reservation, with_reservation, in_reserved, with_new_tail}
+use Rattle.trace_model.specs.WriterSteps.{end_answer, with_released}
 use Rattle.trace_model.specs.HeadMove.{with_head_claimed, after_next}
 use Rattle.trace_model.specs.ReaderSteps.{reader_at, reader_saw, next_header, taken_fill, after_swap, with_wish}
 use Rattle.trace_model.specs.StepConditions.{MayContinue, NeedsPage, IsGranted, IsTooLong, begin_answer, after_begin}
@@ -246,12 +253,15 @@ FrameStep n size c frame below releasing answer after = ReleaseFillStep c frame 
 FrameStep n size c frame below wishing answer after = LoadWishStep n c frame below answer after
 
 -- what follows from each kind of step of a frame follows from its step in each phase
-module _ (n size : ℕ) (c : Core) (frame : Frame) (below : List Frame) (answer : Answer) (after : Core) (P : Phase → Type 0)
+module _ (n size : ℕ) (c : Core) (frame : Frame) (below : List Frame) (answer : Answer) (after : Core)
+    (P : Phase → Type 0)
     (at_idle : IdleStep n size c frame below frame.state answer after → P idle)
     (at_looking : (noted : ℕ) → LoadLinkStep n c frame below noted answer after → P (looking noted))
     (at_claiming : (noted page : ℕ) → ClaimHeadStep n c frame below noted page answer after → P (claiming noted page))
-    (at_looking_next : (role : Role) (noted page : ℕ) → LoadNextStep n c frame below role noted page answer after → P (looking_next role noted page))
-    (at_marking : (role : Role) (noted page next : ℕ) → MarkHeadStep n c frame below role noted page next answer after → P (marking role noted page next))
+    (at_looking_next : (role : Role) (noted page : ℕ) → LoadNextStep n c frame below role noted page answer after
+    → P (looking_next role noted page))
+    (at_marking : (role : Role) (noted page next : ℕ) → MarkHeadStep n c frame below role noted page next answer after
+    → P (marking role noted page next))
     (at_clearing : (noted page : ℕ) → ClearUpdateStep n c frame below noted page answer after → P (clearing noted page))
     (at_opening : (noted page : ℕ) → OpenFillStep n c frame below noted page answer after → P (opening noted page))
     (at_releasing : ReleaseFillStep c frame below answer after → P releasing)

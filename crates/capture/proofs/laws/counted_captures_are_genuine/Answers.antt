@@ -15,7 +15,10 @@ returns c = record {
       let place : 0 + k ≡ k = omega arith in (
         is.0,
         is.1,
-        subst (λ (fill : ℕ). slice_get (parcels_from cpu 0 0 pages) k ≡ Some (parcel_of cpu fill is.0 p.skipped p.records)) place is.2,
+        subst
+            (λ (fill : ℕ).
+            slice_get (parcels_from cpu 0 0 pages) k ≡ Some (parcel_of cpu fill is.0 p.skipped p.records)) place
+            is.2,
       );
   as_many = λ cpu pages pieces reported counts. as-many cpu 0 0 pages pieces reported counts;
 }

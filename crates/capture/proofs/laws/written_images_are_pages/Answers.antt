@@ -7,5 +7,7 @@ returns c = record {
   page = written-page;
   agrees = agrees;
   counts = counts;
-  list = λ times size pieces in_time all limit. (written-pages times size 0 pieces in_time all limit, written-reported size pieces);
+  list =
+      λ times size pieces in_time all limit.
+      (written-pages times size 0 pieces in_time all limit, written-reported size pieces);
 }

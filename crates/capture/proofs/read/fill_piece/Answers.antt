@@ -11,8 +11,16 @@ loop-filled-preserved g c =
     let part : List ℕ = c.read.new.buf in
     let bound : count ≤ length part = c.in_ok-count.ensures.bound.0 in
     record {
-      taken = subst (Consumes _ _) (sym (filled-more c.loop-filled.piece part at _ count c.loop-filled.invariant.within bound))
+      taken =
+          subst (Consumes _ _)
+          (sym (filled-more c.loop-filled.piece part at _ count c.loop-filled.invariant.within bound))
           (Consumes-trans _ _ _ _ _ c.loop-filled.invariant.taken c.in_ok-count.ensures.bytes.0);
-      within = omega (arith, bound, length-filled c.loop-filled.piece part at (length c.loop-filled.piece - at) c.loop-filled.invariant.within);
+      within =
+          omega (
+            arith,
+            bound,
+            length-filled c.loop-filled.piece part at (length c.loop-filled.piece - at)
+                c.loop-filled.invariant.within,
+          );
       sound = c.in_ok-count.ensures.fails;
     }

@@ -14,7 +14,9 @@ returns-in_err-read_on-clause-numbers g c = λ numbers.
     let same : take c.in-Ok.filled c.fill_piece.new.piece ≡ take c.in-Ok.filled piece = grind (arith, common_steps) in
     let long : length piece ≡ c.args.size = grind (arith, common_steps) in
     read-whole-past c.args.size (take c.in-Ok.filled piece) _ _ _ (subst (Consumes _ _) same c.in-Ok.ensures.taken)
-    (subst (λ (n : ℕ). IsReadOnPast n (take c.in-Ok.filled piece) (g.R.Source.remaining c.fill_piece.new.reader) (g.R.Source.remaining c.read_on.new.reader) [])
+    (subst (λ (n : ℕ).
+    IsReadOnPast n (take c.in-Ok.filled piece) (g.R.Source.remaining c.fill_piece.new.reader)
+    (g.R.Source.remaining c.read_on.new.reader) [])
     long (c.read_on.ensures.numbers [] c.new-capture.ensures.none reported))
 
 pub returns-clause-read : goal.returns-clause-read
@@ -22,6 +24,9 @@ returns-clause-read g c =
     let piece : List ℕ = c.as_mut_slice-2.result.now in
     let same : take c.in-Ok.filled c.fill_piece.new.piece ≡ take c.in-Ok.filled piece = grind (arith, common_steps) in
     let long : length piece ≡ c.args.size = grind (arith, common_steps) in
-    read-whole c.args.size (take c.in-Ok.filled piece) _ _ _ c.read_on.new.capture c.in_ok-read_on.field-0 (subst (Consumes _ _) same c.in-Ok.ensures.taken)
-    (subst (λ (n : ℕ). IsReadOn n (take c.in-Ok.filled piece) (g.R.Source.remaining c.fill_piece.new.reader) (g.R.Source.remaining c.read_on.new.reader) [] c.read_on.new.capture c.in_ok-read_on.field-0)
+    read-whole c.args.size (take c.in-Ok.filled piece) _ _ _ c.read_on.new.capture c.in_ok-read_on.field-0
+    (subst (Consumes _ _) same c.in-Ok.ensures.taken)
+    (subst (λ (n : ℕ).
+    IsReadOn n (take c.in-Ok.filled piece) (g.R.Source.remaining c.fill_piece.new.reader)
+    (g.R.Source.remaining c.read_on.new.reader) [] c.read_on.new.capture c.in_ok-read_on.field-0)
     long (c.in_ok-read_on.ensures.read [] c.new-capture.ensures.none))

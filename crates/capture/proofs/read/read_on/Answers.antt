@@ -22,23 +22,34 @@ pub returns-in_err-add_page-clause-numbers : goal.returns-in_err-add_page-clause
 returns-in_err-add_page-clause-numbers g c = λ before is numbers.
     let reported : c.add_page.result ≡ Err Numbers = grind (arith, common_steps) in
     let piece : List ℕ = c.loop-filled.piece in
-    let whole : take c.loop-filled.filled piece ≡ piece = take_all c.loop-filled.filled piece (omega (arith, c.loop-filled-test.true)) in
+    let whole : take c.loop-filled.filled piece ≡ piece =
+    take_all c.loop-filled.filled piece (omega (arith, c.loop-filled-test.true)) in
     reads-past _ _ (take c.loop-filled.filled piece) _ _ _ c.loop-filled.capture c.loop-filled.invariant.reads
     (omega (arith, ap length whole, c.requires.some)) (omega (arith, ap length whole))
-    (λ pages was. subst (λ (xs : List ℕ). PassesNumbers unknown xs pages) (sym whole) (c.add_page.ensures.numbers pages was reported))
+    (λ pages was.
+    subst (λ (xs : List ℕ). PassesNumbers unknown xs pages) (sym whole)
+    (c.add_page.ensures.numbers pages was reported))
     before is
 
 pub loop-filled-preserved : goal.loop-filled-preserved
 loop-filled-preserved g c =
     let piece : List ℕ = c.loop-filled.piece in
-    let whole : take c.loop-filled.filled piece ≡ piece = take_all c.loop-filled.filled piece (omega (arith, c.loop-filled-test.true)) in
+    let whole : take c.loop-filled.filled piece ≡ piece =
+    take_all c.loop-filled.filled piece (omega (arith, c.loop-filled-test.true)) in
     let adds : (pages : List Page) → IsCapture c.loop-filled.capture pages
     → AddsPage unknown (take c.loop-filled.filled piece) pages c.add_page.new.self =
-    λ pages was. subst (λ (xs : List ℕ). AddsPage unknown xs pages c.add_page.new.self) (sym whole) (c.in_ok-add_page.ensures.read pages was) in
-    let more = reads-more _ _ _ _ _ _ c.loop-filled.capture c.add_page.new.self c.loop-filled.invariant.reads c.requires.known.0 c.requires.known.1 adds in
+    λ pages was.
+    subst (λ (xs : List ℕ). AddsPage unknown xs pages c.add_page.new.self) (sym whole)
+    (c.in_ok-add_page.ensures.read pages was) in
+    let more =
+    reads-more _ _ _ _ _ _ c.loop-filled.capture c.add_page.new.self c.loop-filled.invariant.reads
+    c.requires.known.0 c.requires.known.1 adds in
     record {
-      reads = reads-page _ _ (take c.loop-filled.filled piece) (take c.in-Ok.count c.fill_piece.new.piece) _ _ _ _ c.loop-filled.capture c.add_page.new.self
-          c.loop-filled.invariant.reads c.requires.some (omega (arith, ap length whole)) c.in-Ok.ensures.taken c.in_ok-add_page.ensures.cpu adds;
+      reads =
+          reads-page _ _ (take c.loop-filled.filled piece) (take c.in-Ok.count c.fill_piece.new.piece) _ _ _ _
+          c.loop-filled.capture c.add_page.new.self
+          c.loop-filled.invariant.reads c.requires.some (omega (arith, ap length whole)) c.in-Ok.ensures.taken
+          c.in_ok-add_page.ensures.cpu adds;
       low = omega (arith, more, c.loop-filled.invariant.low);
       within = c.in-Ok.ensures.bound;
       at_end = c.in-Ok.ensures.end;
@@ -48,11 +59,16 @@ loop-filled-preserved g c =
 pub loop-filled-smaller : goal.loop-filled-smaller
 loop-filled-smaller g c =
     let piece : List ℕ = c.loop-filled.piece in
-    let whole : take c.loop-filled.filled piece ≡ piece = take_all c.loop-filled.filled piece (omega (arith, c.loop-filled-test.true)) in
+    let whole : take c.loop-filled.filled piece ≡ piece =
+    take_all c.loop-filled.filled piece (omega (arith, c.loop-filled-test.true)) in
     let adds : (pages : List Page) → IsCapture c.loop-filled.capture pages
     → AddsPage unknown (take c.loop-filled.filled piece) pages c.add_page.new.self =
-    λ pages was. subst (λ (xs : List ℕ). AddsPage unknown xs pages c.add_page.new.self) (sym whole) (c.in_ok-add_page.ensures.read pages was) in
-    let more = reads-more _ _ _ _ _ _ c.loop-filled.capture c.add_page.new.self c.loop-filled.invariant.reads c.requires.known.0 c.requires.known.1 adds in
+    λ pages was.
+    subst (λ (xs : List ℕ). AddsPage unknown xs pages c.add_page.new.self) (sym whole)
+    (c.in_ok-add_page.ensures.read pages was) in
+    let more =
+    reads-more _ _ _ _ _ _ c.loop-filled.capture c.add_page.new.self c.loop-filled.invariant.reads
+    c.requires.known.0 c.requires.known.1 adds in
     let w = c.loop-filled.invariant.reads.are c.requires.known.0 c.requires.known.1 in
     omega (arith, more, w.capture_is.count_is, w.capture_is.fit.fills)
 
@@ -61,13 +77,17 @@ returns-in_err-add_rest-clause-numbers g c = λ before is numbers.
     let reported : c.add_rest.result ≡ Err Numbers = grind (arith, common_steps) in
     let w = c.loop-filled.invariant.reads.are before is in
     let passes = c.add_rest.ensures.numbers (before ++ map (told unknown) w.more) w.capture_is reported in
-    reads-past _ _ (take c.loop-filled.filled c.loop-filled.piece) _ _ _ c.loop-filled.capture c.loop-filled.invariant.reads
+    reads-past _ _ (take c.loop-filled.filled c.loop-filled.piece) _ _ _ c.loop-filled.capture
+    c.loop-filled.invariant.reads
     passes.0 (omega (arith, length-take c.loop-filled.filled c.loop-filled.piece))
     (λ pages was. (c.add_rest.ensures.numbers pages was reported).1) before is
 
 pub returns-clause-read : goal.returns-clause-read
 returns-clause-read g c = λ before is.
     let count = reads-count _ _ _ _ _ _ c.loop-filled.capture c.loop-filled.invariant.reads before is in
-    reads-on _ _ (take c.loop-filled.filled c.loop-filled.piece) _ _ _ c.loop-filled.capture c.add_rest.new.self _ c.loop-filled.invariant.reads
-    (omega (arith, length-take c.loop-filled.filled c.loop-filled.piece)) (λ pages was. c.in_ok-add_rest.ensures.read pages was)
-    (omega (arith, count)) (omega (arith, length-take c.loop-filled.filled c.loop-filled.piece, c.loop-filled.invariant.within)) before is
+    reads-on _ _ (take c.loop-filled.filled c.loop-filled.piece) _ _ _ c.loop-filled.capture c.add_rest.new.self _
+    c.loop-filled.invariant.reads
+    (omega (arith, length-take c.loop-filled.filled c.loop-filled.piece))
+    (λ pages was. c.in_ok-add_rest.ensures.read pages was)
+    (omega (arith, count))
+    (omega (arith, length-take c.loop-filled.filled c.loop-filled.piece, c.loop-filled.invariant.within)) before is

@@ -32,10 +32,13 @@ loop-found-preserved c parts captures read =
     let found = c.found-item.result in
     let more : take k cs ++ found ∷ [] ≡ take (k + 1) cs =
     ap (λ (x : CpuCapture). take k cs ++ x ∷ []) c.found-item.is ∙ sym (take_more cs k found c.loop-found-test.true) in
-    let last = last_read parts 0 (take k cs) found captures (subst (λ (xs : List CpuCapture). AreReadFrom parts 0 xs captures) (sym more) read) in
+    let last =
+    last_read parts 0 (take k cs) found captures
+    (subst (λ (xs : List CpuCapture). AreReadFrom parts 0 xs captures) (sym more) read) in
     let is = last.last_read.capture_is in
     let before = c.loop-found.invariant parts last.others last.front_read in
-    subst (λ (pages : List (List Page)). IsSame c.add_parcels.new.collector (parcels_of_captures 0 pages)) (sym last.captures_are)
+    subst (λ (pages : List (List Page)). IsSame c.add_parcels.new.collector (parcels_of_captures 0 pages))
+    (sym last.captures_are)
     (capture_added c.loop-found.collector c.add_parcels.new.collector _ last.others last.own found.capture.cpu.0 before
     c.in_ok-add_parcels.ensures (ap as_parcels c.deref.ensures.value ∙ is.parcels_are) last.last_read.cpu_is)
 

@@ -7,5 +7,6 @@ use Rattle.collect_command.specs.Gathered.{AreReadFrom}
 use Rattle.collect_command.proofs.gather.gather.Given as goal
 
 abbrev pub invariant-loop-found : goal.invariant-loop-found
-invariant-loop-found l = (parts : List ModelPart) (captures : List (List Page)) → AreReadFrom parts 0 (take l.found-index l.cpus) captures
+invariant-loop-found l =
+    (parts : List ModelPart) (captures : List (List Page)) → AreReadFrom parts 0 (take l.found-index l.cpus) captures
     → IsSame l.collector (parcels_of_captures 0 captures)

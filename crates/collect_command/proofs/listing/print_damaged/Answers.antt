@@ -15,7 +15,9 @@ use Rattle.collect_command.proofs.listing.print_damaged.Goals as goal
 pub loop-found-init : goal.loop-found-init
 loop-found-init g c = record {
   tied = c.requires;
-  put = λ parts captures read. prints_none _ _ _ _ (λ form formats. ap (all_damaged form parts 0) (none_read parts 0 captures read));
+  put =
+      λ parts captures read.
+      prints_none _ _ _ _ (λ form formats. ap (all_damaged form parts 0) (none_read parts 0 captures read));
 }
 
 pub loop-found-preserved : goal.loop-found-preserved
@@ -28,18 +30,32 @@ loop-found-preserved g c =
     record {
       tied = c.put_damaged.ensures.tied;
       put = λ parts captures read.
-          let last = last_read parts 0 (take k cs) found captures (subst (λ (xs : List CpuCapture). AreReadFrom parts 0 xs captures) (sym more) read) in
+          let last =
+          last_read parts 0 (take k cs) found captures
+          (subst (λ (xs : List CpuCapture). AreReadFrom parts 0 xs captures) (sym more) read) in
           let cpu = found.capture.cpu.0 in
-          let own_parts : map measured (parts_of_cpu (0 + length last.others) parts) ≡ c.deref.result.now = sym last.last_read.parts_are ∙ sym c.deref.ensures.value in
-          prints_both (λ form formats. all_damaged form parts 0 last.others) (λ form formats. damaged_lines form c.deref.result.now cpu (damages_from 0 0 last.own)) _ _ _ _ _ _ _ _ _ _
+          let own_parts : map measured (parts_of_cpu (0 + length last.others) parts) ≡ c.deref.result.now =
+          sym last.last_read.parts_are ∙ sym c.deref.ensures.value in
+          prints_both (λ form formats. all_damaged form parts 0 last.others)
+          (λ form formats. damaged_lines form c.deref.result.now cpu (damages_from 0 0 last.own)) _ _ _ _ _ _ _ _ _
+          _
           (c.loop-found.invariant.put parts last.others last.front_read)
           (c.put_damaged.ensures.put last.own last.last_read.capture_is)
-          (λ form formats. ap (all_damaged form parts 0) last.captures_are ∙ damaged_more form parts 0 last.others last.own
-          ∙ ap (λ (ps : List Part). all_damaged form parts 0 last.others ++ damaged_lines form ps (0 + length last.others) (damages_from 0 0 last.own)) own_parts
-          ∙ ap (λ (n : ℕ). all_damaged form parts 0 last.others ++ damaged_lines form c.deref.result.now n (damages_from 0 0 last.own)) (sym last.last_read.cpu_is));
+          (λ form formats.
+          ap (all_damaged form parts 0) last.captures_are ∙ damaged_more form parts 0 last.others last.own
+          ∙ ap
+          (λ (ps : List Part).
+          all_damaged form parts 0 last.others
+          ++ damaged_lines form ps (0 + length last.others) (damages_from 0 0 last.own)) own_parts
+          ∙ ap
+          (λ (n : ℕ).
+          all_damaged form parts 0 last.others
+          ++ damaged_lines form c.deref.result.now n (damages_from 0 0 last.own))
+          (sym last.last_read.cpu_is));
     }
 
 pub returns-clause-put : goal.returns-clause-put
 returns-clause-put g c parts captures read =
     c.loop-found.invariant.put parts captures
-    (subst (λ (xs : List CpuCapture). AreReadFrom parts 0 xs captures) (sym (take_all c.loop-found.found-index c.args.cpus.now c.loop-found-test.false)) read)
+    (subst (λ (xs : List CpuCapture). AreReadFrom parts 0 xs captures)
+    (sym (take_all c.loop-found.found-index c.args.cpus.now c.loop-found-test.false)) read)

@@ -22,20 +22,32 @@ returns-clause-listed g c formats parts captures names read =
     let walk = c.in_ok-walk_lines.ensures.lines in
     let missing = c.put_missing.ensures.put in
     let shown : Shown = record { lines = walk.0; runs = missing.0 } in
-    let lines = walked contents failed walk.0 (c.in_ok-printer.printer, c.args.writer.now) (c.walk_lines.new.taker, c.walk_lines.new.writer) walk.2 form formats start [] begun in
+    let lines =
+    walked contents failed walk.0 (c.in_ok-printer.printer, c.args.writer.now)
+    (c.walk_lines.new.taker, c.walk_lines.new.writer) walk.2 form formats start [] begun in
     let runs = missing.2 form formats start (flat_map (record_line form formats) walk.0) lines in
     let unknown = c.print_unknown.ensures.put parts captures read form formats start _ runs in
     let damaged = c.print_damaged.ensures.put parts captures read form formats start _ unknown in
     let all = c.finish.ensures.all form formats start (listing_text form formats parts shown captures) damaged in
     let prefix = c.finish.ensures.prefix form formats start (listing_text form formats parts shown captures) damaged in
-    let end = ended c.finish.result (failed c.finish.new.writer) (are_all_intact captures) start (contents c.finish.new.writer) (listing_text form formats parts shown captures)
+    let end =
+    ended c.finish.result (failed c.finish.new.writer) (are_all_intact captures) start
+    (contents c.finish.new.writer) (listing_text form formats parts shown captures)
     all prefix c.finish.ensures.fault in
     let same = c.in_ok-collector.ensures parts captures read in
     let ending : ending_of (is_ok c.finish.result) (are_all_intact captures) ≡ c.ending_of.result =
     ap (λ (w : Bool). ending_of w (are_all_intact captures)) (sym c.is_ok-is_written.ensures.value)
-    ∙ ap (ending_of c.is_ok-is_written.result) (sym (c.are_intact.ensures parts captures read)) ∙ sym c.ending_of.ensures in
+    ∙ ap (ending_of c.is_ok-is_written.result) (sym (c.are_intact.ensures parts captures read))
+    ∙ sym c.ending_of.ensures in
     record {
       shown = shown;
-      is_print = same_print c.in_ok-collector.collector (parcels_of_captures 0 captures) shown same record { lines = walk.1; runs = missing.1 };
-      written = subst (λ (e : Ending). IsTextWritten start (contents c.finish.new.writer) (failed c.finish.new.writer) (listing_text form formats parts shown captures) (ending_of true (are_all_intact captures)) e) ending end;
+      is_print =
+          same_print c.in_ok-collector.collector (parcels_of_captures 0 captures) shown same
+          record { lines = walk.1; runs = missing.1 };
+      written =
+          subst
+          (λ (e : Ending).
+          IsTextWritten start (contents c.finish.new.writer) (failed c.finish.new.writer)
+          (listing_text form formats parts shown captures) (ending_of true (are_all_intact captures)) e)
+          ending end;
     }

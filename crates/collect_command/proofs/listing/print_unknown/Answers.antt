@@ -12,7 +12,9 @@ use Rattle.collect_command.proofs.listing.print_unknown.Goals as goal
 pub loop-found-init : goal.loop-found-init
 loop-found-init g c = record {
   tied = c.requires;
-  put = λ parts captures read. prints_none _ _ _ _ (λ form formats. ap (all_unknown form 0) (none_read parts 0 captures read));
+  put =
+      λ parts captures read.
+      prints_none _ _ _ _ (λ form formats. ap (all_unknown form 0) (none_read parts 0 captures read));
 }
 
 pub loop-found-preserved : goal.loop-found-preserved
@@ -25,15 +27,20 @@ loop-found-preserved g c =
     record {
       tied = c.put_unknown.ensures.tied;
       put = λ parts captures read.
-          let last = last_read parts 0 (take k cs) found captures (subst (λ (xs : List CpuCapture). AreReadFrom parts 0 xs captures) (sym more) read) in
-          prints_both (λ form formats. all_unknown form 0 last.others) (λ form formats. unknown_lines form found.capture.cpu.0 (unknown_from 0 last.own)) _ _ _ _ _ _ _ _ _ _
+          let last =
+          last_read parts 0 (take k cs) found captures
+          (subst (λ (xs : List CpuCapture). AreReadFrom parts 0 xs captures) (sym more) read) in
+          prints_both (λ form formats. all_unknown form 0 last.others)
+          (λ form formats. unknown_lines form found.capture.cpu.0 (unknown_from 0 last.own)) _ _ _ _ _ _ _ _ _ _
           (c.loop-found.invariant.put parts last.others last.front_read)
           (c.put_unknown.ensures.put last.own last.last_read.capture_is)
           (λ form formats. ap (all_unknown form 0) last.captures_are ∙ unknown_more form 0 last.others last.own
-          ∙ ap (λ (n : ℕ). all_unknown form 0 last.others ++ unknown_lines form n (unknown_from 0 last.own)) (sym last.last_read.cpu_is));
+          ∙ ap (λ (n : ℕ). all_unknown form 0 last.others ++ unknown_lines form n (unknown_from 0 last.own))
+          (sym last.last_read.cpu_is));
     }
 
 pub returns-clause-put : goal.returns-clause-put
 returns-clause-put g c parts captures read =
     c.loop-found.invariant.put parts captures
-    (subst (λ (xs : List CpuCapture). AreReadFrom parts 0 xs captures) (sym (take_all c.loop-found.found-index c.args.cpus.now c.loop-found-test.false)) read)
+    (subst (λ (xs : List CpuCapture). AreReadFrom parts 0 xs captures)
+    (sym (take_all c.loop-found.found-index c.args.cpus.now c.loop-found-test.false)) read)

@@ -9,7 +9,9 @@ use Rattle.collect_command.proofs.listing.print_unknown.Given as goal
 abbrev pub invariant-loop-found : goal.invariant-loop-found
 invariant-loop-found g l = record {
   tied : failed_of l.printer ≡ g.W.Sink.failed l.writer;
-  put : (parts : List ModelPart) (captures : List (List Page)) → AreReadFrom parts 0 (take l.found-index l.cpus) captures
-      → Prints (λ form formats. all_unknown form 0 captures) l.initial.printer (g.W.Sink.contents l.initial.writer) (g.W.Sink.failed l.initial.writer)
+  put : (parts : List ModelPart) (captures : List (List Page))
+      → AreReadFrom parts 0 (take l.found-index l.cpus) captures
+      → Prints (λ form formats. all_unknown form 0 captures) l.initial.printer (g.W.Sink.contents l.initial.writer)
+      (g.W.Sink.failed l.initial.writer)
       l.printer (g.W.Sink.contents l.writer) (g.W.Sink.failed l.writer);
 }

@@ -18,21 +18,29 @@ add_to-requires-clause-known c = (
 pub returns-in_err-add_to-clause-past : goal.returns-in_err-add_to-clause-past
 returns-in_err-add_to-clause-past c = λ before was numbers.
     let reported : c.add_to.result ≡ Err Numbers = grind (arith, common_steps) in
-    let next = parts-next before c.args.parts.now c.loop-part.part-index c.part-item.result c.loop-part-test.true c.part-item.is in
-    let past = c.add_to.ensures.past (before ++ map part_seen (take c.loop-part.part-index c.args.parts.now)) (c.loop-part.invariant before was) reported in
+    let next =
+    parts-next before c.args.parts.now c.loop-part.part-index c.part-item.result c.loop-part-test.true
+    c.part-item.is in
+    let past =
+    c.add_to.ensures.past (before ++ map part_seen (take c.loop-part.part-index c.args.parts.now))
+    (c.loop-part.invariant before was) reported in
     let here : IsCpuPast unknown past.0 (before ++ map part_seen (take (c.loop-part.part-index + 1) c.args.parts.now)) =
     subst (λ (ps : List ModelPart). IsCpuPast unknown past.0 ps) (sym next) past.1 in (
       past.0,
-      subst (λ (ps : List ModelPart). IsCpuPast unknown past.0 ps) (parts-rest before c.args.parts.now (c.loop-part.part-index + 1))
+      subst (λ (ps : List ModelPart). IsCpuPast unknown past.0 ps)
+          (parts-rest before c.args.parts.now (c.loop-part.part-index + 1))
           (past-more unknown past.0 (before ++ map part_seen (take (c.loop-part.part-index + 1) c.args.parts.now))
           (map part_seen (drop (c.loop-part.part-index + 1) c.args.parts.now)) here),
     )
 
 pub loop-part-preserved : goal.loop-part-preserved
 loop-part-preserved c = λ before was.
-    let next = parts-next before c.args.parts.now c.loop-part.part-index c.part-item.result c.loop-part-test.true c.part-item.is in
+    let next =
+    parts-next before c.args.parts.now c.loop-part.part-index c.part-item.result c.loop-part-test.true
+    c.part-item.is in
     subst (λ (ps : List ModelPart). AreCpusRead unknown ps c.add_to.new.cpus) (sym next)
-    (c.in_ok-add_to.ensures.read (before ++ map part_seen (take c.loop-part.part-index c.args.parts.now)) (c.loop-part.invariant before was))
+    (c.in_ok-add_to.ensures.read (before ++ map part_seen (take c.loop-part.part-index c.args.parts.now))
+    (c.loop-part.invariant before was))
 
 pub returns-clause-read : goal.returns-clause-read
 returns-clause-read c = λ before was.

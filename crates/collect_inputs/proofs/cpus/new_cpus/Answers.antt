@@ -9,7 +9,11 @@ use Rattle.collect_inputs.proofs.cpus.new_cpus.Goals as goal
 pub loop-cpu-init : goal.loop-cpu-init
 loop-cpu-init c = record {
   count = c.new-cpus.ensures.len;
-  each = λ cpu found at. absurd (none_some (subst (λ (cs : List CpuCapture). slice_get cs cpu ≡ Some found) c.new-cpus.ensures.items at));
+  each =
+      λ cpu found at.
+      absurd
+      (none_some
+      (subst (λ (cs : List CpuCapture). slice_get cs cpu ≡ Some found) c.new-cpus.ensures.items at));
 }
 
 pub loop-cpu-preserved : goal.loop-cpu-preserved
@@ -21,7 +25,8 @@ loop-cpu-preserved c =
       each = λ cpu found at. ⊎_elim
           (λ there. c.loop-cpu.invariant.each cpu found there)
           (λ here. subst (IsCpuRead unknown cpu []) here.1
-          (subst (λ (n : ℕ). IsCpuRead unknown n [] c.new.result) (let same : c.loop-cpu.cpu ≡ cpu = omega (arith, here.0, count, len) in same)
+          (subst (λ (n : ℕ). IsCpuRead unknown n [] c.new.result)
+          (let same : c.loop-cpu.cpu ≡ cpu = omega (arith, here.0, count, len) in same)
           (c.new.ensures.none unknown)))
           (get-push c.loop-cpu.cpus.items c.new.result cpu found
           (subst (λ (cs : List CpuCapture). slice_get cs cpu ≡ Some found) c.in_ok-push.ensures.items at));

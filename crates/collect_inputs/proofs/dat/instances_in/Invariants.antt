@@ -5,6 +5,7 @@ use Rattle.collect_inputs.proofs.dat.instances_in.Given as goal
 
 abbrev pub invariant-loop-buffer : goal.invariant-loop-buffer
 invariant-loop-buffer l = record {
-  whole : l.count + count_instances (map buffer_seen (drop l.buffer-index l.buffers)) ≡ count_instances (map buffer_seen l.buffers);
+  whole : l.count + count_instances (map buffer_seen (drop l.buffer-index l.buffers))
+      ≡ count_instances (map buffer_seen l.buffers);
   low : l.count ≤ l.buffer-index;
 }

@@ -19,15 +19,19 @@ loop-count-init g c = record {
 
 pub returns-then-count-lt-READ_CHUNK-clause-whole : goal.returns-then-count-lt-READ_CHUNK-clause-whole
 returns-then-count-lt-READ_CHUNK-clause-whole g c =
-    let same : take c.in-Ok.count c.fill_piece.new.piece ≡ take c.in-Ok.count c.deref.result.now = grind (arith, common_steps) in
+    let same : take c.in-Ok.count c.fill_piece.new.piece ≡ take c.in-Ok.count c.deref.result.now =
+    grind (arith, common_steps) in
     rest-more _ c.loop-count.file.items _ (take c.in-Ok.count c.deref.result.now) _ _ _ c.loop-count.invariant.read
     c.in_ok-extend_from_slice-2.ensures.items (subst (Consumes _ _) same c.in-Ok.ensures.taken)
 
 pub loop-count-preserved : goal.loop-count-preserved
 loop-count-preserved g c =
-    let same : take c.in-Ok.count c.fill_piece.new.piece ≡ take c.in-Ok.count c.deref.result.now = grind (arith, common_steps) in
+    let same : take c.in-Ok.count c.fill_piece.new.piece ≡ take c.in-Ok.count c.deref.result.now =
+    grind (arith, common_steps) in
     record {
-      read = rest-more _ c.loop-count.file.items _ (take c.in-Ok.count c.deref.result.now) _ _ _ c.loop-count.invariant.read
+      read =
+          rest-more _ c.loop-count.file.items _ (take c.in-Ok.count c.deref.result.now) _ _ _
+          c.loop-count.invariant.read
           c.in_ok-extend_from_slice-2.ensures.items (subst (Consumes _ _) same c.in-Ok.ensures.taken);
       roomy = c.loop-count.invariant.roomy;
       sound = still-sound _ c.in-Ok.ensures.fails.0;

@@ -5,7 +5,8 @@ use Rattle.collect_inputs.proofs.first.read_rest.Given as goal
 
 abbrev pub invariant-loop-count : goal.invariant-loop-count
 invariant-loop-count g l = record {
-  read : (more : List ℕ) × (l.file.items ≡ l.fn.first ++ more) × Consumes (g.R.Source.remaining l.fn.reader) (g.R.Source.remaining l.reader) more;
+  read : (more : List ℕ) × (l.file.items ≡ l.fn.first ++ more)
+      × Consumes (g.R.Source.remaining l.fn.reader) (g.R.Source.remaining l.reader) more;
   roomy : vec_len l.chunk ≡ READ_CHUNK;
   sound : g.R.Source.failed l.reader ≡ false;
 }

@@ -18,7 +18,8 @@ add_raw-requires-clause-cpu g c =
     let items : List CpuCapture = c.args.captured.now.cpus.items in
     let found : CpuCapture = c.index_mut.result.now in
     let here : slice_get items cpu ≡ Some found =
-    slice_get-get_or items cpu found (omega (arith, c.requires.cpu, was.cpus_are.count)) ∙ ap Some (sym c.index_mut.ensures.value) in
+    slice_get-get_or items cpu found (omega (arith, c.requires.cpu, was.cpus_are.count))
+    ∙ ap Some (sym c.index_mut.ensures.value) in
     let own = (as-read was.parts items was.cpus_are).each cpu found here in
     omega (arith, own.cpu_is, c.requires.cpu)
 
@@ -29,7 +30,8 @@ add_raw-requires-clause-known g c =
     let items : List CpuCapture = c.args.captured.now.cpus.items in
     let found : CpuCapture = c.index_mut.result.now in
     let here : slice_get items cpu ≡ Some found =
-    slice_get-get_or items cpu found (omega (arith, c.requires.cpu, was.cpus_are.count)) ∙ ap Some (sym c.index_mut.ensures.value) in
+    slice_get-get_or items cpu found (omega (arith, c.requires.cpu, was.cpus_are.count))
+    ∙ ap Some (sym c.index_mut.ensures.value) in
     let own = (as-read was.parts items was.cpus_are).each cpu found here in
     (cpu, parts_of_cpu cpu was.parts, own)
 
@@ -39,21 +41,25 @@ returns-in_err-add_raw-clause-fault g c = λ losses files was.
     let items : List CpuCapture = c.args.captured.now.cpus.items in
     let found : CpuCapture = c.index_mut.result.now in
     let here : slice_get items cpu ≡ Some found =
-    slice_get-get_or items cpu found (omega (arith, c.requires.cpu, was.cpus_are.count)) ∙ ap Some (sym c.index_mut.ensures.value) in
+    slice_get-get_or items cpu found (omega (arith, c.requires.cpu, was.cpus_are.count))
+    ∙ ap Some (sym c.index_mut.ensures.value) in
     let own = (as-read was.parts items was.cpus_are).each cpu found here in
     let first : List ℕ = take c.args.filled c.args.piece.now in
     let p = err_from_is_err_and c.from_residual.result c.from_residual.ensures.1 in
     rw (p.1, p.2) (raw-fault losses (length c.args.piece.now) cpu first _ _ _ files c.in_err-add_raw.field-0.0
     (λ broken. c.add_raw.ensures.read_fault.1 (c.in_err-add_raw.was ∙ ap Err broken))
-    (λ other. not-failed _ (λ failed. other (let e = sym c.in_err-add_raw.was ∙ c.add_raw.ensures.read_fault.0 failed in cc)))
+    (λ other.
+    not-failed _ (λ failed. other (let e = sym c.in_err-add_raw.was ∙ c.add_raw.ensures.read_fault.0 failed in cc)))
     (λ numbers.
     let past = c.add_raw.ensures.past cpu (parts_of_cpu cpu was.parts) own (c.in_err-add_raw.was ∙ ap Err numbers) in
     let file : File = record { cpu = cpu; bytes = first ++ past.more } in
-    let raw : is_dat file.bytes ≡ false = raw-more (length c.args.piece.now) first past.more c.requires.some past.rest.no_more c.requires.raw in (
+    let raw : is_dat file.bytes ≡ false =
+    raw-more (length c.args.piece.now) first past.more c.requires.some past.rest.no_more c.requires.raw in (
       past.more,
       past.rest.taken,
       raw-past losses (length c.args.piece.now) files file c.args.captured.now was raw
-          (cpu-past unknown was.parts (record { cpu = cpu; size = length c.args.piece.now; bytes = file.bytes }) past.past),
+          (cpu-past unknown was.parts (record { cpu = cpu; size = length c.args.piece.now; bytes = file.bytes })
+          past.past),
     )))
 
 pub returns-clause-read : goal.returns-clause-read
@@ -62,16 +68,19 @@ returns-clause-read g c = λ losses files was.
     let items : List CpuCapture = c.args.captured.now.cpus.items in
     let found : CpuCapture = c.index_mut.result.now in
     let here : slice_get items cpu ≡ Some found =
-    slice_get-get_or items cpu found (omega (arith, c.requires.cpu, was.cpus_are.count)) ∙ ap Some (sym c.index_mut.ensures.value) in
+    slice_get-get_or items cpu found (omega (arith, c.requires.cpu, was.cpus_are.count))
+    ∙ ap Some (sym c.index_mut.ensures.value) in
     let own = (as-read was.parts items was.cpus_are).each cpu found here in
     let first : List ℕ = take c.args.filled c.args.piece.now in
     let adds = c.in_ok-add_raw.ensures.read cpu (parts_of_cpu cpu was.parts) own in
     let file : File = record { cpu = cpu; bytes = first ++ adds.more } in
     let part : ModelPart = record { cpu = cpu; size = length c.args.piece.now; bytes = file.bytes } in
-    let raw : is_dat file.bytes ≡ false = raw-more (length c.args.piece.now) first adds.more c.requires.some adds.rest.no_more c.requires.raw in
+    let raw : is_dat file.bytes ≡ false =
+    raw-more (length c.args.piece.now) first adds.more c.requires.some adds.rest.no_more c.requires.raw in
     record {
       more = adds.more;
       taken = adds.rest.taken;
       added = raw-added losses (length c.args.piece.now) files file c.args.captured.now _ was raw
-          (cpus-more unknown was.parts part items c.add_raw.new.found (as-read was.parts items was.cpus_are) adds.read) refl refl;
+          (cpus-more unknown was.parts part items c.add_raw.new.found (as-read was.parts items was.cpus_are) adds.read)
+          refl refl;
     }

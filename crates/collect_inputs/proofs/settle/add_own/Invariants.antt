@@ -8,5 +8,6 @@ use Rattle.collect_inputs.proofs.settle.add_own.Given as goal
 abbrev pub invariant-loop-part : goal.invariant-loop-part
 invariant-loop-part l = record {
   cpu : l.found.capture.cpu ≡ l.cpu;
-  read : IsCpuRead (missed_of l.known) l.cpu.0 (parts_of_cpu l.cpu.0 (map part_seen (take l.part-index l.parts))) l.found;
+  read : IsCpuRead (missed_of l.known) l.cpu.0 (parts_of_cpu l.cpu.0 (map part_seen (take l.part-index l.parts)))
+      l.found;
 }

@@ -2,16 +2,28 @@ use Rattle.std.proofs.Common.{◌≡◌, ◌<◌, ◌-◌, ℕ, sym, ap, ◌∙�
 use Rattle.std.proofs.lemmas.Grind.{common_steps}
 use Rattle.trace_model.specs.Image.{counted}
 use Rattle.collect_inputs.specs.Losses.{missed_in, counted_losses, unknown_losses}
-use Rattle.collect_inputs.proofs.LossSums.{capture-missed, capture-fits, capture-unknown, capture-whole, capture-broken, loss-known, loss-not-one, loss-damaged, loss-low}
+use Rattle.collect_inputs.proofs.LossSums.{capture-missed, capture-fits, capture-unknown, capture-whole, capture-broken}
+use Rattle.collect_inputs.proofs.LossSums.{loss-known, loss-not-one, loss-damaged, loss-low}
 use Rattle.collect_inputs.proofs.settle.loss_in.Goals as goal
-use Rattle.collect_inputs.proofs.settle.loss_in.Goals.{then-len-ne1-via-then-len-ne1, then-len-ne1-via-else-len-ne1+then-not-is_empty}
+use Rattle.collect_inputs.proofs.settle.loss_in.Goals.{then-len-ne1-via-then-len-ne1}
+use Rattle.collect_inputs.proofs.settle.loss_in.Goals.{then-len-ne1-via-else-len-ne1+then-not-is_empty}
 
 pub returns-then-len-ne1 : goal.returns-then-len-ne1
 returns-then-len-ne1 c = λ pages is.
     elim c.then-len-ne1.branch [
       | then-len-ne1-via-then-len-ne1 w ↦
           let ok = c.args.capture.now.unknown.ok.0 in
-          sym (loss-not-one c.args.overrun pages (λ one. w.if-len-ne1.true (let same : c.len.result ≡ 1 = omega (arith, c.len.ensures, ok, one, capture-unknown c.args.capture.now pages is) in same)))
+          sym (loss-not-one c.args.overrun pages
+          (λ one.
+          w.if-len-ne1.true (let same : c.len.result ≡ 1 =
+          omega (
+            arith,
+            c.len.ensures,
+            ok,
+            one,
+            capture-unknown c.args.capture.now pages is,
+          ) in
+          same)))
       | then-len-ne1-via-else-len-ne1+then-not-is_empty w ↦
           let ok = c.args.capture.now.damaged.ok.0 in
           let some : 0 < vec_len c.args.capture.now.damaged = grind (arith, common_steps) in
@@ -29,7 +41,16 @@ overflow_sub-counted c =
     let is = c.requires.1 in
     let ok = c.args.capture.now.unknown.ok.0 in
     let same = ap missed_in c.as_slice.ensures.value in
-    omega (arith, same, c.missed_of_all-counted.ensures, c.len.ensures, ok, c.if-len-ne1.false, capture-unknown c.args.capture.now c.requires.0 is, capture-missed c.args.capture.now c.requires.0 is)
+    omega (
+      arith,
+      same,
+      c.missed_of_all-counted.ensures,
+      c.len.ensures,
+      ok,
+      c.if-len-ne1.false,
+      capture-unknown c.args.capture.now c.requires.0 is,
+      capture-missed c.args.capture.now c.requires.0 is,
+    )
 
 pub returns-then-counted-overrun : goal.returns-then-counted-overrun
 returns-then-counted-overrun c = λ pages is.
@@ -37,16 +58,21 @@ returns-then-counted-overrun c = λ pages is.
     let ok_damaged = c.args.capture.now.damaged.ok.0 in
     let same = ap missed_in c.as_slice.ensures.value in
     let none : vec_len c.args.capture.now.damaged ≡ 0 = grind (arith, common_steps) in
-    let one : unknown_losses pages ≡ 1 = omega (arith, c.len.ensures, ok, c.if-len-ne1.false, capture-unknown c.args.capture.now pages is) in
-    let total : c.missed_of_all-counted.result - 1 ≡ counted_losses pages = omega (arith, same, c.missed_of_all-counted.ensures, one, capture-missed c.args.capture.now pages is) in
+    let one : unknown_losses pages ≡ 1 =
+    omega (arith, c.len.ensures, ok, c.if-len-ne1.false, capture-unknown c.args.capture.now pages is) in
+    let total : c.missed_of_all-counted.result - 1 ≡ counted_losses pages =
+    omega (arith, same, c.missed_of_all-counted.ensures, one, capture-missed c.args.capture.now pages is) in
     ap (λ (n : ℕ). counted (c.args.overrun - n)) total
-    ∙ sym (loss-known c.args.overrun pages one (capture-whole c.args.capture.now pages is (omega (arith, none, ok_damaged)))
+    ∙ sym (loss-known c.args.overrun pages one
+    (capture-whole c.args.capture.now pages is (omega (arith, none, ok_damaged)))
     (omega (arith, total, c.if-counted-overrun.true)))
 
 pub returns-else-counted-overrun : goal.returns-else-counted-overrun
 returns-else-counted-overrun c = λ pages is.
     let ok = c.args.capture.now.unknown.ok.0 in
     let same = ap missed_in c.as_slice.ensures.value in
-    let one : unknown_losses pages ≡ 1 = omega (arith, c.len.ensures, ok, c.if-len-ne1.false, capture-unknown c.args.capture.now pages is) in
-    let total : c.missed_of_all-counted.result - 1 ≡ counted_losses pages = omega (arith, same, c.missed_of_all-counted.ensures, one, capture-missed c.args.capture.now pages is) in
+    let one : unknown_losses pages ≡ 1 =
+    omega (arith, c.len.ensures, ok, c.if-len-ne1.false, capture-unknown c.args.capture.now pages is) in
+    let total : c.missed_of_all-counted.result - 1 ≡ counted_losses pages =
+    omega (arith, same, c.missed_of_all-counted.ensures, one, capture-missed c.args.capture.now pages is) in
     sym (loss-low c.args.overrun pages (omega (arith, total, c.if-counted-overrun.false)))

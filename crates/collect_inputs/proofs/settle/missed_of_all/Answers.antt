@@ -9,7 +9,15 @@ pub overflow_add-total : goal.overflow_add-total
 overflow_add-total c =
     let next = missed-next c.args.parcels.now c.loop-parcel.parcel-index c.parcel-item.result c.loop-parcel-test.true in
     let item = ap (λ (p : ParcelValue). p.missed) c.parcel-item.is in
-    omega (arith, next, item, missed-within c.args.parcels.now (c.loop-parcel.parcel-index + 1), c.missed-total.ensures.missed, c.loop-parcel.invariant, c.requires)
+    omega (
+      arith,
+      next,
+      item,
+      missed-within c.args.parcels.now (c.loop-parcel.parcel-index + 1),
+      c.missed-total.ensures.missed,
+      c.loop-parcel.invariant,
+      c.requires,
+    )
 
 pub loop-parcel-preserved : goal.loop-parcel-preserved
 loop-parcel-preserved c =
@@ -18,4 +26,6 @@ loop-parcel-preserved c =
     omega (arith, next, item, c.missed-total.ensures.missed, c.loop-parcel.invariant)
 
 pub returns : goal.returns
-returns c = c.loop-parcel.invariant ∙ ap missed_in (take_all c.loop-parcel.parcel-index c.args.parcels.now c.loop-parcel-test.false)
+returns c =
+    c.loop-parcel.invariant
+    ∙ ap missed_in (take_all c.loop-parcel.parcel-index c.args.parcels.now c.loop-parcel-test.false)

@@ -7,7 +7,8 @@ use Rattle.collect_inputs.proofs.settle.overruns_in.Given as goal
 abbrev pub invariant-loop-at : goal.invariant-loop-at
 invariant-loop-at l = record {
   within : l.at ≤ length l.texts;
-  each : (cpu : ℕ) → cpu < MAX_CPUS → slice_get l.overruns cpu ≡ Some (overrun_of cpu (map (λ text. text.now) (drop l.at l.texts)));
+  each : (cpu : ℕ) → cpu < MAX_CPUS
+      → slice_get l.overruns cpu ≡ Some (overrun_of cpu (map (λ text. text.now) (drop l.at l.texts)));
 }
 
 abbrev pub decreases-loop-at : goal.decreases-loop-at

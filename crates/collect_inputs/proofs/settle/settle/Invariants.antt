@@ -10,5 +10,6 @@ abbrev pub invariant-loop-cpu : goal.invariant-loop-cpu
 invariant-loop-cpu l = record {
   count : length l.cpus ≡ MAX_CPUS;
   settled : AreSettledTo (λ cpu. overrun_of cpu (map (λ text. text.now) l.texts)) (map part_seen l.parts) l.cpu l.cpus;
-  known : (cpu : ℕ) → cpu < MAX_CPUS → slice_get l.overruns cpu ≡ Some (overrun_of cpu (map (λ text. text.now) l.texts));
+  known : (cpu : ℕ) → cpu < MAX_CPUS
+      → slice_get l.overruns cpu ≡ Some (overrun_of cpu (map (λ text. text.now) l.texts));
 }

@@ -16,24 +16,32 @@ pub returns-then-eq-clause-settled : goal.returns-then-eq-clause-settled
 returns-then-eq-clause-settled c = λ cpu own.
     let loss = c.loss_in-known.ensures own.pages (plain-capture _ _ _ own) in
     let same : c.loss_in-known.result ≡ Unknown = grind (arith, common_steps) in
-    let none : unknown ≡ loss_of c.args.overrun own.pages = sym (ap missed_of same) ∙ loss ∙ ap (λ (o : Option ℕ). loss_of o own.pages) (sym c.in-Some.is) in
+    let none : unknown ≡ loss_of c.args.overrun own.pages =
+    sym (ap missed_of same) ∙ loss ∙ ap (λ (o : Option ℕ). loss_of o own.pages) (sym c.in-Some.is) in
     captured-as unknown cpu c.args.overrun _ c.args.found.now own none
 
 pub returns-in_err-found-clause-past : goal.returns-in_err-found-clause-past
 returns-in_err-found-clause-past c = λ cpu own numbers.
     let loss = c.loss_in-known.ensures own.pages (plain-capture _ _ _ own) in
-    let known : missed_of c.loss_in-known.result ≡ loss_of c.args.overrun own.pages = loss ∙ ap (λ (o : Option ℕ). loss_of o own.pages) (sym c.in-Some.is) in
+    let known : missed_of c.loss_in-known.result ≡ loss_of c.args.overrun own.pages =
+    loss ∙ ap (λ (o : Option ℕ). loss_of o own.pages) (sym c.in-Some.is) in
     let reported : c.add_own.result ≡ Err Numbers = grind (arith, common_steps) in (
       missed_of c.loss_in-known.result,
       inr (own.pages, own.cut, known),
-      subst (λ (n : ℕ). IsCpuPast (missed_of c.loss_in-known.result) n (map part_seen c.args.parts.now)) own.cpu_is (c.add_own.ensures.past reported),
+      subst (λ (n : ℕ). IsCpuPast (missed_of c.loss_in-known.result) n (map part_seen c.args.parts.now)) own.cpu_is
+          (c.add_own.ensures.past reported),
     )
 
 pub returns-clause-settled : goal.returns-clause-settled
 returns-clause-settled c = λ cpu own.
     let loss = c.loss_in-known.ensures own.pages (plain-capture _ _ _ own) in
-    let known : missed_of c.loss_in-known.result ≡ loss_of c.args.overrun own.pages = loss ∙ ap (λ (o : Option ℕ). loss_of o own.pages) (sym c.in-Some.is) in
+    let known : missed_of c.loss_in-known.result ≡ loss_of c.args.overrun own.pages =
+    loss ∙ ap (λ (o : Option ℕ). loss_of o own.pages) (sym c.in-Some.is) in
     let new : CpuCapture = c.in_ok-found.field-0 in
-    let read : IsCpuRead (missed_of c.loss_in-known.result) cpu (parts_of_cpu cpu (map part_seen c.args.parts.now)) new =
-    subst (λ (n : ℕ). IsCpuRead (missed_of c.loss_in-known.result) n (parts_of_cpu n (map part_seen c.args.parts.now)) new) own.cpu_is c.in_ok-found.ensures.read in
+    let read : IsCpuRead (missed_of c.loss_in-known.result) cpu (parts_of_cpu cpu (map part_seen c.args.parts.now))
+    new =
+    subst
+    (λ (n : ℕ).
+    IsCpuRead (missed_of c.loss_in-known.result) n (parts_of_cpu n (map part_seen c.args.parts.now)) new)
+    own.cpu_is c.in_ok-found.ensures.read in
     captured-again (missed_of c.loss_in-known.result) cpu c.args.overrun _ c.args.found.now new own read known

@@ -11,15 +11,19 @@ pub returns-in-Some-clause-entries : goal.returns-in-Some-clause-entries
 returns-in-Some-clause-entries c =
     let ps = c.args.collector.now in
     subst (λ es. GoOn ps c.args.cpu.0 es c.loop-at.at c.stretch-stretch.result.end) (sym c.records_from.ensures)
-    (go_on ps c.stretch-stretch.ensures.agree c.args.cpu.0 c.in-Some.index c.loop-at.at c.stretch-stretch.result.end (as_parcel c.parcel.result.now) c.parcel.ensures
-    (λ m from below. subst (IsContentAt ps c.args.cpu.0 m) c.in-Some.ensures.kept (c.stretch-stretch.ensures.shown m from below)))
+    (go_on ps c.stretch-stretch.ensures.agree c.args.cpu.0 c.in-Some.index c.loop-at.at c.stretch-stretch.result.end
+    (as_parcel c.parcel.result.now) c.parcel.ensures
+    (λ m from below.
+    subst (IsContentAt ps c.args.cpu.0 m) c.in-Some.ensures.kept (c.stretch-stretch.ensures.shown m from below)))
 
 pub loop-at-preserved : goal.loop-at-preserved
 loop-at-preserved c = record {
   from = omega (arith, c.stretch-stretch.ensures.goes_on c.loop-at-test.true);
   passed = λ m r from below has. ⊎_elim
       (λ (before : m < c.loop-at.at). c.loop-at.invariant.passed m r from before has)
-      (λ at. shown_no_record c.args.collector.now c.args.cpu.0 m c.stretch-stretch.result.content c.stretch-stretch.ensures.agree
+      (λ at.
+      shown_no_record c.args.collector.now c.args.cpu.0 m c.stretch-stretch.result.content
+      c.stretch-stretch.ensures.agree
       c.in_default.ensures.other (c.stretch-stretch.ensures.shown m at below) r has)
       (cases_lt m c.loop-at.at);
 }

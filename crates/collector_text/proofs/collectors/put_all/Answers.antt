@@ -16,7 +16,9 @@ pub loop-i-preserved : goal.loop-i-preserved
 loop-i-preserved c =
     let put = c.in_ok-span.ensures.reported in
     record {
-      put = put_more (List Parcel) Shown IsPrintOf (λ pair. printed_collector pair.0 pair.1) c.args.collectors.now c.loop-i.i
+      put =
+          put_more (List Parcel) Shown IsPrintOf (λ pair. printed_collector pair.0 pair.1) c.args.collectors.now
+          c.loop-i.i
           c.index-collectors-i.result c.args.out.now.items c.loop-i.out.items c.put_whole.new.out.items put.0
           c.loop-i-test.true c.index-collectors-i.is c.loop-i.invariant.put put.1 put.2;
       last = c.in_ok-span.ensures.below;
@@ -30,5 +32,6 @@ pub returns-clause-behind : goal.returns-clause-behind
 returns-clause-behind c = (_, c.loop-i.invariant.put.text)
 
 pub returns-clause-text : goal.returns-clause-text
-returns-clause-text c = put_all (List Parcel) Shown IsPrintOf (λ pair. printed_collector pair.0 pair.1) c.args.collectors.now c.loop-i.i
+returns-clause-text c =
+    put_all (List Parcel) Shown IsPrintOf (λ pair. printed_collector pair.0 pair.1) c.args.collectors.now c.loop-i.i
     c.args.out.now.items c.loop-i.out.items c.loop-i-test.false c.loop-i.invariant.put

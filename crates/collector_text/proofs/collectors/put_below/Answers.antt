@@ -7,7 +7,8 @@ pub returns-then-same-clause-text : goal.returns-then-same-clause-text
 returns-then-same-clause-text c =
     let stands = rw c.in-Some.is at c.requires in
     on_ok_weaker c.put_again.result
-    (reported_again c.in-Some.other.now c.args.collector.now c.args.out.now.items c.put_again.new.out.items c.args.span.start
+    (reported_again c.in-Some.other.now c.args.collector.now c.args.out.now.items c.put_again.new.out.items
+    c.args.span.start
     c.args.span.end (c.same.ensures.0 c.if-same.true) stands)
     c.put_again.ensures.text
 

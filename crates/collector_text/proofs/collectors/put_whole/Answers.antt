@@ -18,11 +18,13 @@ put_below-requires c =
     c.in_ok-put_head.ensures.text c.requires
 
 pub returns-clause-reported : goal.returns-clause-reported
-returns-clause-reported c = reported_whole c.args.collector.now c.args.number c.args.out.now.items c.put_head.new.out.items
+returns-clause-reported c =
+    reported_whole c.args.collector.now c.args.number c.args.out.now.items c.put_head.new.out.items
     c.put_below.new.out.items c.in_ok-put_head.ensures.text c.in_ok-put_below.ensures.text
 
 pub returns-clause-below : goal.returns-clause-below
-returns-clause-below c = stands_last c.args.collector.now c.put_head.new.out.items c.put_below.new.out.items c.len-start.result
+returns-clause-below c =
+    stands_last c.args.collector.now c.put_head.new.out.items c.put_below.new.out.items c.len-start.result
     c.len-end.result
     (omega (arith, c.len-start.ensures, c.put_head.new.out.ok.0))
     (omega (arith, c.len-end.ensures, c.put_below.new.out.ok.0)) c.in_ok-put_below.ensures.text

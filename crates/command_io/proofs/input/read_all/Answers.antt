@@ -13,7 +13,8 @@ pub returns-in_err-add_chunk-in-Ok-clause-too_long : goal.returns-in_err-add_chu
 returns-in_err-add_chunk-in-Ok-clause-too_long g c = λ refused.
     let reported : c.add_chunk.result ≡ Err TooLong = grind (arith, common_steps) in
     let over = c.add_chunk.ensures.too_long.0 reported in
-    let same : take c.in-Ok.count c.deref.result.now ≡ take c.in-Ok.count c.read.new.buf = grind (arith, common_steps) in
+    let same : take c.in-Ok.count c.deref.result.now ≡ take c.in-Ok.count c.read.new.buf =
+    grind (arith, common_steps) in
     let len = c.loop-text.text.ok.0 in (
       c.loop-text.text.items ++ take c.in-Ok.count c.deref.result.now,
       Consumes-trans _ _ _ _ _ c.loop-text.invariant.taken (subst (Consumes _ _) (sym same) c.in-Ok.ensures.bytes.0),
@@ -32,7 +33,8 @@ returns-in_err-add_chunk-in-Ok-clause-no_memory g c = λ refused.
     (λ over. absurd (let long : c.add_chunk.result ≡ Err TooLong = c.add_chunk.ensures.too_long.1 over in cc))
     (λ fits. fits)
     (cases_lt MAX_INPUT (vec_len c.loop-text.text + length (take c.in-Ok.count c.deref.result.now))) in
-    let same : take c.in-Ok.count c.deref.result.now ≡ take c.in-Ok.count c.read.new.buf = grind (arith, common_steps) in (
+    let same : take c.in-Ok.count c.deref.result.now ≡ take c.in-Ok.count c.read.new.buf =
+    grind (arith, common_steps) in (
       c.loop-text.text.items ++ take c.in-Ok.count c.deref.result.now,
       Consumes-trans _ _ _ _ _ c.loop-text.invariant.taken (subst (Consumes _ _) (sym same) c.in-Ok.ensures.bytes.0),
       simp length-append (omega arith),

@@ -8,4 +8,5 @@ abbrev pub invariant-loop-word : goal.invariant-loop-word
 invariant-loop-word l =
     (l.position ≡ l.word-index) ×
     (file_words 0 (map (λ w. w.now) l.words)
-    ≡ option_map (λ rest. map file_seen l.files.items ++ rest) (file_words l.position (map (λ w. w.now) (drop l.word-index l.words))))
+    ≡ option_map (λ rest. map file_seen l.files.items ++ rest)
+    (file_words l.position (map (λ w. w.now) (drop l.word-index l.words))))

@@ -8,15 +8,24 @@ use Rattle.command_line.proofs.collect.matched_files.Goals as goal
 
 pub returns-in-Some-clause-files : goal.returns-in-Some-clause-files
 returns-in-Some-clause-files c =
-    let words = sym (c.get_strs.ensures ∙ raw_values-rows (found_of c.args.found.now) (codes "file")) ∙ ap (option_map (λ (s : Bor (List (Bor (List ℕ)))). map (λ (w : Bor (List ℕ)). w.now) s.now)) c.in-Some.is in
+    let words =
+    sym (c.get_strs.ensures ∙ raw_values-rows (found_of c.args.found.now) (codes "file"))
+    ∙ ap (option_map (λ (s : Bor (List (Bor (List ℕ)))). map (λ (w : Bor (List ℕ)). w.now) s.now))
+    c.in-Some.is in
     rw words c.files_of.ensures.files
 
 pub returns-in-Some-clause-unread : goal.returns-in-Some-clause-unread
 returns-in-Some-clause-unread c = λ failed.
-    let words = sym (c.get_strs.ensures ∙ raw_values-rows (found_of c.args.found.now) (codes "file")) ∙ ap (option_map (λ (s : Bor (List (Bor (List ℕ)))). map (λ (w : Bor (List ℕ)). w.now) s.now)) c.in-Some.is in
+    let words =
+    sym (c.get_strs.ensures ∙ raw_values-rows (found_of c.args.found.now) (codes "file"))
+    ∙ ap (option_map (λ (s : Bor (List (Bor (List ℕ)))). map (λ (w : Bor (List ℕ)). w.now) s.now))
+    c.in-Some.is in
     ap (option_and_then file_list) words ∙ c.files_of.ensures.unread failed
 
 pub returns-in-None-clause-unread : goal.returns-in-None-clause-unread
 returns-in-None-clause-unread c = λ _.
-    let words = sym (c.get_strs.ensures ∙ raw_values-rows (found_of c.args.found.now) (codes "file")) ∙ ap (option_map (λ (s : Bor (List (Bor (List ℕ)))). map (λ (w : Bor (List ℕ)). w.now) s.now)) c.in-None.is in
+    let words =
+    sym (c.get_strs.ensures ∙ raw_values-rows (found_of c.args.found.now) (codes "file"))
+    ∙ ap (option_map (λ (s : Bor (List (Bor (List ℕ)))). map (λ (w : Bor (List ℕ)). w.now) s.now))
+    c.in-None.is in
     ap (option_and_then file_list) words

@@ -6,4 +6,5 @@ use Rattle.deliveries.proofs.adding.collect.Goals as goal
 
 pub refused-requires : goal.refused-requires
 refused-requires c = only_memory (c.args.collector.now ++ as_parcel c.args.parcel.now ∷ []) c.in-Err.fault c.requires
-    (subst (λ (q : ParcelValue). IsAddFault (c.args.collector.now ++ as_parcel q ∷ []) c.in-Err.fault) c.in_ok-share.ensures c.in-Err.ensures.fault)
+    (subst (λ (q : ParcelValue). IsAddFault (c.args.collector.now ++ as_parcel q ∷ []) c.in-Err.fault)
+    c.in_ok-share.ensures c.in-Err.ensures.fault)

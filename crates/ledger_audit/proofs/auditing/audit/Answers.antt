@@ -12,13 +12,15 @@ pub returns-in-Some-clause-stray : goal.returns-in-Some-clause-stray
 returns-in-Some-clause-stray c =
     let taken = taken_in c.args.ledgers.now in
     stray_is_stray c.args.collector.now taken c.in-Some.key
-    (subst (λ (kept : List Parcel). IsLeastFault kept (Contains taken) (Some c.in-Some.key)) c.parcels.ensures.parcels c.in-Some.ensures)
+    (subst (λ (kept : List Parcel). IsLeastFault kept (Contains taken) (Some c.in-Some.key)) c.parcels.ensures.parcels
+    c.in-Some.ensures)
 
 pub returns-in-Some-clause-lacks : goal.returns-in-Some-clause-lacks
 returns-in-Some-clause-lacks c =
     let taken = taken_in c.args.ledgers.now in
     stray_is_no_lack c.args.collector.now taken c.in-Some.key
-    (subst (λ (kept : List Parcel). IsLeastFault kept (Contains taken) (Some c.in-Some.key)) c.parcels.ensures.parcels c.in-Some.ensures)
+    (subst (λ (kept : List Parcel). IsLeastFault kept (Contains taken) (Some c.in-Some.key)) c.parcels.ensures.parcels
+    c.in-Some.ensures)
 
 pub returns-in-Some-least_lacking-clause-stray : goal.returns-in-Some-least_lacking-clause-stray
 returns-in-Some-least_lacking-clause-stray c =
@@ -35,21 +37,29 @@ returns-in-Some-least_lacking-clause-lacks c =
     c.in-Some-least_lacking.key c.in-Some-least_lacking.ensures
 
 -- each kept parcel was taken, and each taken one is held
-whole : (kept own : List Parcel) (taken : List Parcel) → kept ≡ own → WereTaken kept taken → AreHeld own taken → IsAudited own taken
-whole kept own taken is all held = record { were_taken = subst (λ (l : List Parcel). WereTaken l taken) is all; are_held = held }
+whole : (kept own : List Parcel) (taken : List Parcel) → kept ≡ own → WereTaken kept taken → AreHeld own taken
+    → IsAudited own taken
+whole kept own taken is all held =
+    record { were_taken = subst (λ (l : List Parcel). WereTaken l taken) is all; are_held = held }
 
 pub returns-clause-sum : goal.returns-clause-sum
 returns-clause-sum c =
     let own = c.args.collector.now in let taken = taken_in c.args.ledgers.now in
-    is_sum own taken (whole (as_parcels c.parcels.result.now) own taken c.parcels.ensures.parcels c.in_default.ensures c.in_default-least_lacking.ensures)
+    is_sum own taken
+    (whole (as_parcels c.parcels.result.now) own taken c.parcels.ensures.parcels c.in_default.ensures
+    c.in_default-least_lacking.ensures)
 
 pub returns-clause-agree : goal.returns-clause-agree
 returns-clause-agree c =
     let own = c.args.collector.now in let taken = taken_in c.args.ledgers.now in
-    taken_agree own taken (whole (as_parcels c.parcels.result.now) own taken c.parcels.ensures.parcels c.in_default.ensures c.in_default-least_lacking.ensures) c.parcels.ensures.agree
+    taken_agree own taken
+    (whole (as_parcels c.parcels.result.now) own taken c.parcels.ensures.parcels c.in_default.ensures
+    c.in_default-least_lacking.ensures) c.parcels.ensures.agree
 
 pub returns-clause-headline : goal.returns-clause-headline
 returns-clause-headline c = λ n size start cores rings.
     let own = c.args.collector.now in let taken = taken_in c.args.ledgers.now in
     headline n size start cores c.args.ledgers.now rings own
-    (is_sum own taken (whole (as_parcels c.parcels.result.now) own taken c.parcels.ensures.parcels c.in_default.ensures c.in_default-least_lacking.ensures))
+    (is_sum own taken
+    (whole (as_parcels c.parcels.result.now) own taken c.parcels.ensures.parcels c.in_default.ensures
+    c.in_default-least_lacking.ensures))

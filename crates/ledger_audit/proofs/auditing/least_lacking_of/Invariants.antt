@@ -8,4 +8,5 @@ use Rattle.ledger_audit.proofs.auditing.least_lacking_of.Given as goal
 abbrev pub invariant-loop-parcel : goal.invariant-loop-parcel
 invariant-loop-parcel l = (these : List Parcel)
     → IsLeastFault these (λ parcel. IsBelow (parcel ∷ []) l.collector) l.fn.found
-    → IsLeastFault (these ++ take l.parcel-index (as_parcels l.taken)) (λ parcel. IsBelow (parcel ∷ []) l.collector) l.found
+    → IsLeastFault (these ++ take l.parcel-index (as_parcels l.taken)) (λ parcel. IsBelow (parcel ∷ []) l.collector)
+    l.found

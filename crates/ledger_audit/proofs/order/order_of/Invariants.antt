@@ -7,4 +7,6 @@ use Rattle.deliveries.specs.Deliveries.{AreRising}
 use Rattle.ledger_audit.proofs.order.order_of.Given as goal
 
 abbrev pub invariant-loop-cpu : goal.invariant-loop-cpu
-invariant-loop-cpu l = (k : ℕ) (ledger : Ledger) → k < l.cpu → slice_get l.ledgers k ≡ Some ledger → AreOfCpu (taken_of ledger) k × AreRising (taken_of ledger)
+invariant-loop-cpu l =
+    (k : ℕ) (ledger : Ledger) → k < l.cpu → slice_get l.ledgers k ≡ Some ledger
+    → AreOfCpu (taken_of ledger) k × AreRising (taken_of ledger)

@@ -15,7 +15,9 @@ loop-other-preserved c = λ has.
     let other = as_parcel c.other-item.result in
     let parcel = as_parcel c.args.parcel.now in
     let here = parcel_of_all kept i c.other-item.result c.loop-other-test.true c.other-item.is in
-    let more = take_more all i other (within_all kept i c.loop-other-test.true) ∙ ap (λ (q : Parcel). take i all ++ q ∷ []) (sym here) in
+    let more =
+    take_more all i other (within_all kept i c.loop-other-test.true)
+    ∙ ap (λ (q : Parcel). take i all ++ q ∷ []) (sym here) in
     ⊎_elim c.loop-other.invariant
     (λ is. let yes = c.are_equal.ensures.1 (sym is) in let no = c.if-are_equal.false in cc)
     (Contains-push_cases (take i all) other parcel (subst (λ (l : List Parcel). Contains l parcel) more has))
@@ -23,5 +25,8 @@ loop-other-preserved c = λ has.
 pub returns : goal.returns
 returns c = (
   λ e. cc,
-  λ has. absurd (c.loop-other.invariant (subst (λ (l : List Parcel). Contains l (as_parcel c.args.parcel.now)) (sym (take_all_of c.args.parcels.now c.loop-other.other-index c.loop-other-test.false)) has)),
+  λ has.
+      absurd
+      (c.loop-other.invariant (subst (λ (l : List Parcel). Contains l (as_parcel c.args.parcel.now))
+      (sym (take_all_of c.args.parcels.now c.loop-other.other-index c.loop-other-test.false)) has)),
 )

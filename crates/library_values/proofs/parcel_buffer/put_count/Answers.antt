@@ -4,7 +4,9 @@ use Rattle.library_values.proofs.parcel_buffer.put_count.Goals as goal
 
 pub returns-then-stored-clause-put : goal.returns-then-stored-clause-put
 returns-then-stored-clause-put c = λ contents size is.
-    c.put_number.ensures.put ∙ ap (λ (l : List ℕ). take c.args.at c.args.out.now ++ l) (sym (stored_is contents c.args.missed size (sym is ∙ c.if-stored.true)))
+    c.put_number.ensures.put
+    ∙ ap (λ (l : List ℕ). take c.args.at c.args.out.now ++ l)
+    (sym (stored_is contents c.args.missed size (sym is ∙ c.if-stored.true)))
 
 pub returns-then-stored-clause-end : goal.returns-then-stored-clause-end
 returns-then-stored-clause-end c = λ contents size is.

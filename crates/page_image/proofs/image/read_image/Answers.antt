@@ -11,4 +11,5 @@ pub returns-clause-has_bad_count : goal.returns-clause-has_bad_count
 returns-clause-has_bad_count c = bad_count-iff c.args.bytes.now c.read.result c.read.ensures.reads c.read.ensures.fault
 
 pub returns-clause-has_bad_word : goal.returns-clause-has_bad_word
-returns-clause-has_bad_word c = λ cause at. bad_word-iff c.args.bytes.now c.read.result cause at c.read.ensures.reads c.read.ensures.fault
+returns-clause-has_bad_word c =
+    λ cause at. bad_word-iff c.args.bytes.now c.read.result cause at c.read.ensures.reads c.read.ensures.fault

@@ -5,5 +5,6 @@ use Rattle.page_image.proofs.slot.put_commit.Goals as goal
 
 pub returns : goal.returns
 returns c =
-    subst (λ (new : List ℕ). StoresHeader c.args.slot.now new (λ was. record was { commit = c.args.commit })) (sym c.put_number.ensures)
+    subst (λ (new : List ℕ). StoresHeader c.args.slot.now new (λ was. record was { commit = c.args.commit }))
+    (sym c.put_number.ensures)
     (stores_commit c.args.slot.now c.args.commit c.requires)

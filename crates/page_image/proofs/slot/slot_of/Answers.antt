@@ -6,5 +6,7 @@ pub returns : goal.returns
 returns c =
     let none = c.in_ok-slot.ensures.items in
     let len = c.in_ok-slot.ensures.len in
-    let zeros : c.resize.new.self.items ≡ replicate 48 0 = c.in_ok-resize.ensures.items ∙ (λ i. take 48 (none i) ++ replicate (48 - len i) 0) in
-    c.in_ok-extend_from_slice.ensures.items ∙ ap (λ (front : List ℕ). front ++ c.args.contents.now) zeros ∙ sym (no_header_bytes c.args.contents.now)
+    let zeros : c.resize.new.self.items ≡ replicate 48 0 =
+    c.in_ok-resize.ensures.items ∙ (λ i. take 48 (none i) ++ replicate (48 - len i) 0) in
+    c.in_ok-extend_from_slice.ensures.items ∙ ap (λ (front : List ℕ). front ++ c.args.contents.now) zeros
+    ∙ sym (no_header_bytes c.args.contents.now)

@@ -8,4 +8,5 @@ returns g c =
     let least = c.requires.least in let most = c.requires.most in
     let first = c.copy_part.ensures.front 0 (omega arith) refl in
     let last = c.copy_part-2.ensures.front (0 + g.row.N) (omega arith) first in
-    last_puts g.row.N c.args.out.now c.copy_part-2.new.out payload least last (c.copy_part-2.ensures.behind ∙ c.copy_part.ensures.behind)
+    last_puts g.row.N c.args.out.now c.copy_part-2.new.out payload least last
+    (c.copy_part-2.ensures.behind ∙ c.copy_part.ensures.behind)

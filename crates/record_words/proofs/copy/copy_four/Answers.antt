@@ -11,4 +11,5 @@ returns c =
     let three = c.copy_part-3.ensures.front 32 (omega arith) two in
     let four = c.copy_part-4.ensures.front (length payload - 32 + 16) (omega arith) three in
     last_puts 16 c.args.out.now c.copy_part-4.new.out payload (omega arith) four
-    (c.copy_part-4.ensures.behind ∙ (c.copy_part-3.ensures.behind ∙ (c.copy_part-2.ensures.behind ∙ c.copy_part.ensures.behind)))
+    (c.copy_part-4.ensures.behind
+    ∙ (c.copy_part-3.ensures.behind ∙ (c.copy_part-2.ensures.behind ∙ c.copy_part.ensures.behind)))

@@ -14,4 +14,8 @@ returns c =
     let six = c.copy_part-6.ensures.front (length payload - 48 + 16) (omega arith) five in
     let seven = c.copy_part-7.ensures.front (length payload - 32 + 16) (omega arith) six in
     last_puts 16 c.args.out.now c.copy_part-7.new.out payload (omega arith) seven
-    (c.copy_part-7.ensures.behind ∙ (c.copy_part-6.ensures.behind ∙ (c.copy_part-5.ensures.behind ∙ (c.copy_part-4.ensures.behind ∙ (c.copy_part-3.ensures.behind ∙ (c.copy_part-2.ensures.behind ∙ c.copy_part.ensures.behind))))))
+    (c.copy_part-7.ensures.behind
+    ∙ (c.copy_part-6.ensures.behind
+    ∙ (c.copy_part-5.ensures.behind
+    ∙ (c.copy_part-4.ensures.behind
+    ∙ (c.copy_part-3.ensures.behind ∙ (c.copy_part-2.ensures.behind ∙ c.copy_part.ensures.behind))))))

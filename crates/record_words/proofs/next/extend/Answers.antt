@@ -4,4 +4,5 @@ use Rattle.record_words.proofs.next.extend.Goals as goal
 
 pub returns-clause-read : goal.returns-clause-read
 returns-clause-read c =
-    extend_read c.args.data.now c.args.at _ c.args.low (λ i. omega (arith, c.type_inv.data i)) c.requires.type_is c.requires.low_is c.in_ok-delta.ensures.whole c.in_ok-delta.ensures.time
+    extend_read c.args.data.now c.args.at _ c.args.low (λ i. omega (arith, c.type_inv.data i)) c.requires.type_is
+    c.requires.low_is c.in_ok-delta.ensures.whole c.in_ok-delta.ensures.time

@@ -4,4 +4,5 @@ use Rattle.record_words.proofs.next.long_record.Goals as goal
 
 pub returns-clause-read : goal.returns-clause-read
 returns-clause-read c = rw c.record_between.ensures
-    (long_read c.args.data.now c.args.at c.args.delta _ (λ i. omega (arith, c.type_inv.data i)) c.requires.type_is c.requires.delta_is c.in_ok-next.ensures.good c.in_ok-next.ensures.end)
+    (long_read c.args.data.now c.args.at c.args.delta _ (λ i. omega (arith, c.type_inv.data i)) c.requires.type_is
+    c.requires.delta_is c.in_ok-next.ensures.good c.in_ok-next.ensures.end)

@@ -13,7 +13,12 @@ returns-clause-put c =
     elim c.if-first.branch [
       | then-first w ↦ absurd (omega (arith, w.delta-is))
       | else-first w ↦
-          subst (λ (d : ℕ). Puts c.args.out.now (put_mid 8 (length c.put_extend.new.out - 8) c.put_extend.new.out c.put_padded_data-2.new.out) (encoding d c.args.first (padded c.args.payload.now))) w.delta-is
+          subst
+          (λ (d : ℕ).
+          Puts c.args.out.now
+          (put_mid 8 (length c.put_extend.new.out - 8) c.put_extend.new.out c.put_padded_data-2.new.out)
+          (encoding d c.args.first (padded c.args.payload.now))) w.delta-is
           (rw (encoding-extended c.if-first.delta c.args.first (padded c.args.payload.now) w.if-first.false late)
-          (puts_behind _ _ _ _ _ 8 _ (sym (length-bytes_of_extend c.if-first.delta)) refl c.put_extend.ensures c.put_padded_data-2.ensures.put))
+          (puts_behind _ _ _ _ _ 8 _ (sym (length-bytes_of_extend c.if-first.delta)) refl c.put_extend.ensures
+          c.put_padded_data-2.ensures.put))
     ]

@@ -6,5 +6,8 @@ use Rattle.record_words.proofs.put.put_padded_data.Goals as goal
 
 pub returns-clause-put : goal.returns-clause-put
 returns-clause-put c =
-    rw (bytes-data_word_of c.args.delta c.slot_len-slot.result (padded c.args.payload.now) (length-padded c.args.payload.now ∙ sym c.slot_len-slot.ensures))
-    (puts_behind _ _ _ _ _ _ _ (c.put_header-start.ensures.len ∙ sym (length-data_header c.args.delta c.slot_len-slot.result)) refl c.put_header-start.ensures.put c.put_padded.ensures)
+    rw (bytes-data_word_of c.args.delta c.slot_len-slot.result (padded c.args.payload.now)
+    (length-padded c.args.payload.now ∙ sym c.slot_len-slot.ensures))
+    (puts_behind _ _ _ _ _ _ _
+    (c.put_header-start.ensures.len ∙ sym (length-data_header c.args.delta c.slot_len-slot.result)) refl
+    c.put_header-start.ensures.put c.put_padded.ensures)

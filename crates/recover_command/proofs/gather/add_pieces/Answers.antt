@@ -1,4 +1,5 @@
-use Rattle.std.proofs.Common.{◌≡◌, ℕ, suc, ◌+◌, ◌-◌, ◌^◌, min, List, [], ◌∷◌, ◌++◌, length, take, drop, sym, ap, ◌∙◌, subst}
+use Rattle.std.proofs.Common.{◌≡◌, ℕ, suc, ◌+◌, ◌-◌, ◌^◌, min, List, [], ◌∷◌, ◌++◌, length, take, drop, sym, ap, ◌∙◌}
+use Rattle.std.proofs.Common.{subst}
 use Rattle.parcel_streams.specs.declared.piece.Piece.{Piece}
 use Rattle.fleet_collector.specs.Pieces.{IsRefusal}
 use Rattle.recover_command.specs.Gathering.{Gathering, gathering_of, AddsOne, AddsAll, AreCounted}
@@ -54,7 +55,8 @@ loop-piece-preserved g c =
     subst (λ (p : Piece). AddsOne p mid now) c.in-Ok.ensures.piece c.in_default-add_piece.ensures.added in
     let more = counted_more (take k ps) item c.loop-piece.index c.loop-piece.at inv.counted in
     let len = c.len.ensures ∙ sym c.deref.ensures.len ∙ ap length (c.deref.ensures.value ∙ c.in-Ok.ensures.bytes) in
-    let counted : AreCounted (take k ps ++ item ∷ []) c.saturating_add-index.result c.saturating_add-at.result = record {
+    let counted : AreCounted (take k ps ++ item ∷ []) c.saturating_add-index.result c.saturating_add-at.result =
+    record {
       index_is = c.saturating_add-index.ensures ∙ more.index_is;
       at_is = c.saturating_add-at.ensures ∙ ap (λ n. min (c.loop-piece.at + n) (2 ^ 64 - 1)) len ∙ more.at_is;
     } in

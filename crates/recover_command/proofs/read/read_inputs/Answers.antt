@@ -1,14 +1,17 @@
-use Rattle.std.proofs.Common.{◌≡◌, ◌+◌, ◌<◌, false, List, [], ◌∷◌, ◌++◌, length, slice_set, if◌then◌else◌, sym, ap, ◌∙◌, subst, arith}
+use Rattle.std.proofs.Common.{◌≡◌, ◌+◌, ◌<◌, false, List, [], ◌∷◌, ◌++◌, length, slice_set, if◌then◌else◌, sym, ap, ◌∙◌}
+use Rattle.std.proofs.Common.{subst, arith}
 use Rattle.ring_region.specs.declared.regions.Region.{Region}
 use Rattle.recover_command.specs.declared.read.Unread.TheVariants.{NoMemory}
 use Rattle.recover_command.specs.Reading.{ReadsRegion, IsWhy}
-use Rattle.recover_command.proofs.AllRead.{AreReadSoFar, none_read, next_input, as_first, one_read, stops_here, taken_whole}
+use Rattle.recover_command.proofs.AllRead.{AreReadSoFar, none_read, next_input, as_first, one_read, stops_here}
+use Rattle.recover_command.proofs.AllRead.{taken_whole}
 use Rattle.recover_command.proofs.read.read_inputs.Goals as goal
 
 pub loop-input-init : goal.loop-input-init
 loop-input-init g c =
     let inputs = c.args.inputs.now in
-    subst (λ (regions : List Region). AreReadSoFar g.R.Source.remaining g.R.Source.count g.R.Source.failed inputs inputs 0
+    subst
+    (λ (regions : List Region). AreReadSoFar g.R.Source.remaining g.R.Source.count g.R.Source.failed inputs inputs 0
     regions) (sym c.new-regions.ensures.items)
     (none_read g.R.Source.remaining g.R.Source.count g.R.Source.failed inputs)
 
@@ -39,7 +42,8 @@ returns-then-is_err-clause-stopped g c =
     c.read_input.new.reader c.in-Ok.region) (sym c.index-inputs-input.is) c.in-Ok.ensures.region in
     stops_here g.R.Source.remaining g.R.Source.count g.R.Source.failed c.args.inputs.now c.loop-input.inputs
     c.loop-input.input regions this c.read_input.new.reader NoMemory so_far next
-    (taken_whole g.R.Source.remaining g.R.Source.count g.R.Source.failed this c.read_input.new.reader c.in-Ok.region read)
+    (taken_whole g.R.Source.remaining g.R.Source.count g.R.Source.failed this c.read_input.new.reader c.in-Ok.region
+    read)
 
 pub returns-in-Err-clause-stopped : goal.returns-in-Err-clause-stopped
 returns-in-Err-clause-stopped g c =
@@ -67,7 +71,8 @@ loop-input-preserved g c =
     let read = subst (λ reader. ReadsRegion g.R.Source.remaining g.R.Source.count g.R.Source.failed reader
     c.read_input.new.reader c.in-Ok.region) (sym c.index-inputs-input.is) c.in-Ok.ensures.region in
     let more : c.push.new.self.items ≡ regions ++ c.in-Ok.region ∷ [] =
-    c.push.ensures.items ∙ ap (λ b. if b then regions ++ c.in-Ok.region ∷ [] else regions) c.if-is_err.ensures.negation in
+    c.push.ensures.items
+    ∙ ap (λ b. if b then regions ++ c.in-Ok.region ∷ [] else regions) c.if-is_err.ensures.negation in
     subst (λ (all : List Region). AreReadSoFar g.R.Source.remaining g.R.Source.count g.R.Source.failed c.args.inputs.now
     (slice_set c.loop-input.inputs c.loop-input.input c.read_input.new.reader) (c.loop-input.input + 1) all) (sym more)
     (one_read g.R.Source.remaining g.R.Source.count g.R.Source.failed c.args.inputs.now c.loop-input.inputs

@@ -15,7 +15,8 @@ returns c = λ bytes held number is undamaged above under.
     let h = is.slots in
     let cpu = held.header.cpu.0 in
     let taken = held.header.taken.0 in
-    let parcels_are = h.parcels_are ∙ ap (λ (ds : List Damaged). recovered taken ds (kept_behind None h.found)) undamaged in
+    let parcels_are =
+    h.parcels_are ∙ ap (λ (ds : List Damaged). recovered taken ds (kept_behind None h.found)) undamaged in
     subst (λ (ps : List Parcel). ((r : Record) × Has ps cpu number r) ⊎ Misses ps cpu number) (sym parcels_are)
     (all_known cpu taken (kept_behind None h.found) (plain bytes held h) number above
     (subst (λ (ps : List Parcel). number < last_end ps) parcels_are under))

@@ -9,4 +9,5 @@ pub returns-clause-one : goal.returns-clause-one
 returns-clause-one c = λ cpu bytes slot other is also. one_slot cpu bytes slot other is also
 
 pub returns-clause-behind : goal.returns-clause-behind
-returns-clause-behind c = λ cpu bytes other slot long same is. same_slot cpu bytes other slot (alike-behind bytes other long same) is
+returns-clause-behind c =
+    λ cpu bytes other slot long same is. same_slot cpu bytes other slot (alike-behind bytes other long same) is

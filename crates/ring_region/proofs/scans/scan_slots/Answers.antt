@@ -9,5 +9,6 @@ loop-number-preserved c =
     let bytes = c.args.bytes.now in
     let number = c.loop-number.number in
     let was = c.loop-number.invariant in
-    scanned_more c.args.header bytes _ number c.loop-number.scan c.add.new.self (slot_sliced c.args.header.size c.slot_at-at.result number bytes c.slot_at-at.ensures) was
+    scanned_more c.args.header bytes _ number c.loop-number.scan c.add.new.self
+    (slot_sliced c.args.header.size c.slot_at-at.result number bytes c.slot_at-at.ensures) was
     (c.in_ok-add.ensures was.slots was.scanned was.count_is)

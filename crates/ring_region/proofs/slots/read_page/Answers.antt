@@ -11,7 +11,8 @@ read_committed-requires-clause-commit c =
     let bytes = c.args.slot.now in
     let n = c.number_at-commit.result in
     let there : 48 + n ≤ length bytes = omega arith in
-    ap (λ (k : ℕ). 48 + k) (number-take bytes (48 + n) 40 (omega arith) ∙ sym c.number_at-commit.ensures) ∙ sym (length-take-le (48 + n) bytes there)
+    ap (λ (k : ℕ). 48 + k) (number-take bytes (48 + n) 40 (omega arith) ∙ sym c.number_at-commit.ensures)
+    ∙ sym (length-take-le (48 + n) bytes there)
 
 pub returns-clause-reading : goal.returns-clause-reading
 returns-clause-reading c =
@@ -26,9 +27,13 @@ returns-clause-reading c =
         };
         none_missed = sym c.number_at-2.ensures ∙ c.if-number_at-ne0.false;
       };
-      there = let low : 48 + c.number_at-commit.result ≤ length bytes = omega arith in subst (λ (k : ℕ). 48 + k ≤ length bytes) commit low;
+      there = let low : 48 + c.number_at-commit.result ≤ length bytes = omega arith in
+          subst (λ (k : ℕ). 48 + k ≤ length bytes) commit low;
     } in
     committed_reported cpu bytes c.read_committed.result is
-    (subst (λ (k : ℕ). IsUnmissed cpu (take (48 + k) bytes) → IfOk c.read_committed.result (λ read. IsSlotOf cpu (take (48 + k) bytes) (reading_seen cpu read))) commit
+    (subst
+    (λ (k : ℕ).
+    IsUnmissed cpu (take (48 + k) bytes)
+    → IfOk c.read_committed.result (λ read. IsSlotOf cpu (take (48 + k) bytes) (reading_seen cpu read))) commit
     (c.read_committed.ensures.reading cpu c.requires.cpu)
     (committed_unmissed cpu bytes is.unmissed))

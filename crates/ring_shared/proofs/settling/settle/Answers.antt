@@ -13,5 +13,6 @@ returns-clause-ends c = record {
 pub returns-clause-settled : goal.returns-clause-settled
 unfolding IsWriter
 returns-clause-settled c =
-    ends_settle c.args.writer c.args.reader c.into_tail.result c.settle-seats.result c.requires.writer c.requires.reader c.requires.at_rest
+    ends_settle c.args.writer c.args.reader c.into_tail.result c.settle-seats.result c.requires.writer c.requires.reader
+    c.requires.at_rest
     c.requires.all_read _ _ c.writer.view_is c.reader.view_is c.settle-seats.ensures.parts c.into_tail.ensures.written

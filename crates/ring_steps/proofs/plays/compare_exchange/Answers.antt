@@ -9,5 +9,9 @@ pub compare_exchange-requires : goal.compare_exchange-requires
 compare_exchange-requires g c = (
   c.requires.at.seated,
   c.requires.word,
-  subst (λ (k : Shape). Allows (Shows k.pages k.size k.start) c.args.board.now.shared.table_id.slots c.args.seat.now.id c.args.seat.now.me c.args.word (λ (n : ℕ). either (n == c.args.from) c.args.to n) (g.J.StepReport.reports c.args.seat.now.me)) (sym c.requires.at.shape_is) c.requires.allowed,
+  subst
+      (λ (k : Shape).
+      Allows (Shows k.pages k.size k.start) c.args.board.now.shared.table_id.slots c.args.seat.now.id
+      c.args.seat.now.me c.args.word (λ (n : ℕ). either (n == c.args.from) c.args.to n)
+      (g.J.StepReport.reports c.args.seat.now.me)) (sym c.requires.at.shape_is) c.requires.allowed,
 )

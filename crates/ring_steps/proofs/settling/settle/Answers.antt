@@ -9,7 +9,8 @@ pub join_seat-requires : goal.join_seat-requires
 join_seat-requires c = (
   search rules,
   search rules,
-  c.args.reader.is_reading.hand ∙ ap (λ (kept : Bool). kept_slots kept (reading c.args.reader.seat.me.0).spare) c.requires.no_slot,
+  c.args.reader.is_reading.hand
+      ∙ ap (λ (kept : Bool). kept_slots kept (reading c.args.reader.seat.me.0).spare) c.requires.no_slot,
   search rules,
   joins _ _ _ _ _ _ _ c.args.writer.is_writing.view c.args.reader.is_reading.view,
 )

@@ -8,7 +8,8 @@ use Rattle.run_text.proofs.runs.put_all.Given as goal
 
 abbrev pub invariant-loop-i : goal.invariant-loop-i
 invariant-loop-i l = record {
-  put : ArePut (List Parcel) AuditedShown (IsAuditedPrintOf (taken_in l.ledgers)) (λ pair. printed_audited pair.0 pair.1)
+  put : ArePut (List Parcel) AuditedShown (IsAuditedPrintOf (taken_in l.ledgers))
+      (λ pair. printed_audited pair.0 pair.1)
       (take l.i l.collectors) l.initial.out.items l.out.items;
   last : IfSome l.before (λ b. StandsBetween b.now l.out.items l.span.start l.span.end);
 }

@@ -56,7 +56,8 @@ pub returns-in-StepReader : goal.returns-in-StepReader
 returns-in-StepReader c =
     subst
     (λ (k : Command). OnOk c.obey_ring-in-StepReader.result
-    (LeadsOn c.args.script.now (c.args.line.number, shown_command k) c.args.state.now c.obey_ring-in-StepReader.new.state))
+    (LeadsOn c.args.script.now (c.args.line.number, shown_command k) c.args.state.now
+    c.obey_ring-in-StepReader.new.state))
     (sym c.in-StepReader.is) c.obey_ring-in-StepReader.ensures
 
 pub returns-in-Take : goal.returns-in-Take

@@ -38,12 +38,17 @@ loop-index-init c =
     }
 
 pub obey-requires : goal.obey-requires
-obey-requires c = may_obey c.args.script.now c.commands-commands.result.now c.loop-index.index (shown_line c.line.result) c.loop-index.state
-    c.commands-commands.ensures.limits c.line.ensures c.commands-commands.ensures.commands c.loop-index.invariant.part_way
+obey-requires c =
+    may_obey c.args.script.now c.commands-commands.result.now c.loop-index.index (shown_line c.line.result)
+    c.loop-index.state
+    c.commands-commands.ensures.limits c.line.ensures c.commands-commands.ensures.commands
+    c.loop-index.invariant.part_way
 
 pub loop-index-preserved : goal.loop-index-preserved
 loop-index-preserved c = record {
-  part_way = one_more c.args.script.now c.commands-commands.result.now c.loop-index.index (shown_line c.line.result) c.loop-index.state c.obey.new.state
+  part_way =
+      one_more c.args.script.now c.commands-commands.result.now c.loop-index.index (shown_line c.line.result)
+      c.loop-index.state c.obey.new.state
       c.line.ensures c.commands-commands.ensures.commands c.loop-index.invariant.part_way c.in_ok-obey.ensures;
   told = λ tells. (c.in_ok-obey.ensures _ c.loop-index.invariant.part_way).1 (c.loop-index.invariant.told tells);
 }
@@ -51,5 +56,8 @@ loop-index-preserved c = record {
 pub returns-clause-part_way : goal.returns-clause-part_way
 returns-clause-part_way c =
     let lines = c.args.script.now.commands in
-    let past : length lines ≤ c.loop-index.index = omega (arith, c.loop-index-test.false, c.len-index-end.ensures, ap length c.commands-commands.ensures.commands) in
-    subst (λ (l : List (ℕ × Command)). IsStateAfter c.args.script.now l c.loop-index.state) (take_all c.loop-index.index lines past) c.loop-index.invariant.part_way
+    let past : length lines ≤ c.loop-index.index =
+    omega
+    (arith, c.loop-index-test.false, c.len-index-end.ensures, ap length c.commands-commands.ensures.commands) in
+    subst (λ (l : List (ℕ × Command)). IsStateAfter c.args.script.now l c.loop-index.state)
+    (take_all c.loop-index.index lines past) c.loop-index.invariant.part_way

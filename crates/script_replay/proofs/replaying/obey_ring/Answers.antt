@@ -15,12 +15,17 @@ obey-requires-clause-lane c =
     let script = c.args.script.now in
     let ready = c.requires.ready in
     let cpu = c.args.cpu.0 in
-    let low : cpu < script.cpus = subst (λ (k : ℕ). k < script.cpus) c.requires.cpu (ring_within script.cpus script.collectors (shown_command c.args.command) ready.within) in
-    let from = lent_from script c.make_lane.new.lanes.items cpu (lane_at c.args.state.now.lanes.items cpu) c.index_mut.result.now c.in-Some.lane
+    let low : cpu < script.cpus =
+    subst (λ (k : ℕ). k < script.cpus) c.requires.cpu
+    (ring_within script.cpus script.collectors (shown_command c.args.command) ready.within) in
+    let from =
+    lent_from script c.make_lane.new.lanes.items cpu (lane_at c.args.state.now.lanes.items cpu)
+    c.index_mut.result.now c.in-Some.lane
     c.in_ok-make_lane.ensures.room c.index_mut.ensures.value c.in-Some.is c.in_ok-make_lane.ensures.lane in
     subst (λ (k : ℕ). IsReportedLane k c.deref_mut.result.now c.args.state.now.reports) (sym c.requires.cpu)
     (subst (λ (v : LaneValue). IsReportedLane cpu v c.args.state.now.reports) (sym c.deref_mut.ensures.value)
-    (is_reported_lane script ready.lines c.args.state.now ready.limits ready.part_way cpu c.in-Some.lane.value low from))
+    (is_reported_lane script ready.lines c.args.state.now ready.limits ready.part_way cpu
+    c.in-Some.lane.value low from))
 
 pub returns : goal.returns
 returns c =
@@ -29,14 +34,23 @@ returns c =
     let cpu = c.args.cpu.0 in
     let command = shown_command c.args.command in
     let lanes = c.make_lane.new.lanes.items in
-    let low : cpu < script.cpus = subst (λ (k : ℕ). k < script.cpus) c.requires.cpu (ring_within script.cpus script.collectors command ready.within) in
-    let from = subst (λ (v : LaneValue). IsLaneFrom script (lane_at c.args.state.now.lanes.items cpu) v) (sym c.deref_mut.ensures.value)
+    let low : cpu < script.cpus =
+    subst (λ (k : ℕ). k < script.cpus) c.requires.cpu
+    (ring_within script.cpus script.collectors command ready.within) in
+    let from =
+    subst (λ (v : LaneValue). IsLaneFrom script (lane_at c.args.state.now.lanes.items cpu) v)
+    (sym c.deref_mut.ensures.value)
     (lent_from script lanes cpu (lane_at c.args.state.now.lanes.items cpu) c.index_mut.result.now c.in-Some.lane
     c.in_ok-make_lane.ensures.room c.index_mut.ensures.value c.in-Some.is c.in_ok-make_lane.ensures.lane) in
     on_ok_weaker c.obey.result
     (λ has. ring_leads script c.args.line cpu command c.args.state.now _ c.deref_mut.result.now c.obey.new.self
     c.requires.ring c.requires.cpu ready.limits low from
-    (subst (λ (k : ℕ). HasLine command c.args.line k c.deref_mut.result.now c.args.state.now.reports c.obey.new.self c.obey.new.reports) c.requires.cpu has)
+    (subst
+    (λ (k : ℕ).
+    HasLine command c.args.line k c.deref_mut.result.now c.args.state.now.reports c.obey.new.self
+    c.obey.new.reports) c.requires.cpu has)
     (put_there lanes cpu (with_value c.in-Some.lane c.obey.new.self) c.in_ok-make_lane.ensures.room)
-    (λ other apart. others_stay lanes cpu (with_value c.in-Some.lane c.obey.new.self) other apart ∙ c.in_ok-make_lane.ensures.rest other apart) refl)
+    (λ other apart.
+    others_stay lanes cpu (with_value c.in-Some.lane c.obey.new.self) other apart
+    ∙ c.in_ok-make_lane.ensures.rest other apart) refl)
     c.obey.ensures

@@ -8,13 +8,16 @@ use Rattle.stamp_times.proofs.restore.restore_data.Goals as goal
 
 pub loop-reached-preserved : goal.loop-reached-preserved
 loop-reached-preserved c =
-    let on = step-on _ c.loop-reached.«data» c.restore_word.new.«data» c.loop-reached.reached c.in-Some.behind c.in-Some.ensures.word c.loop-reached.invariant.done in
+    let on =
+    step-on _ c.loop-reached.«data» c.restore_word.new.«data» c.loop-reached.reached c.in-Some.behind
+    c.in-Some.ensures.word c.loop-reached.invariant.done in
     record { within = on.0; done = on.1 }
 
 pub returns-in_default : goal.returns-in_default
 returns-in_default c =
     c.in_default.ensures.kept refl
-    ∙ restored-end _ c.loop-reached.«data» c.loop-reached.reached.before c.loop-reached.reached.at (c.in_default.ensures.end refl) c.loop-reached.invariant.done
+    ∙ restored-end _ c.loop-reached.«data» c.loop-reached.reached.before c.loop-reached.reached.at
+    (c.in_default.ensures.end refl) c.loop-reached.invariant.done
 
 pub returns : goal.returns
 returns c =

@@ -7,5 +7,7 @@ use Rattle.step_text.proofs.changes.put_link_changes.Given as goal
 
 abbrev pub invariant-loop-position : goal.invariant-loop-position
 invariant-loop-position l =
-    l.out.items ++ flat_map change_text (link_changes l.position (map link_of (drop l.position l.olds)) (map link_of (drop l.position l.news)))
+    l.out.items
+    ++ flat_map change_text
+    (link_changes l.position (map link_of (drop l.position l.olds)) (map link_of (drop l.position l.news)))
     ≡ l.initial.out.items ++ flat_map change_text (link_changes 0 (map link_of l.olds) (map link_of l.news))

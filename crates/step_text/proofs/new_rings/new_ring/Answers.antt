@@ -16,10 +16,14 @@ returns c other is_same =
     let some_pages = core.reached.may_start.some_pages in
     let n = c.pages.result in
     let start = c.start-start.result.0 in
-    let is_other : IsStart n start other = subst (λ m. IsStart m start other) (sym c.pages.ensures.pages) (subst (λ s. IsStart c.args.script.now.pages s other) (sym c.start-start.ensures.start) is_same) in
+    let is_other : IsStart n start other =
+    subst (λ m. IsStart m start other) (sym c.pages.ensures.pages)
+    (subst (λ s. IsStart c.args.script.now.pages s other) (sym c.start-start.ensures.start) is_same) in
     let (one, is_start, only) = new_ring_is_one n start (omega arith) in
-    let links : c.in_ok-links.links.items ≡ c.links.result.now = c.in_ok-links.ensures.items_if_clones_equal (λ x y same. same) in
-    let order : c.in_ok-order.order.items ≡ c.order.result.now = c.in_ok-order.ensures.items_if_clones_equal (λ x y same. same) in
+    let links : c.in_ok-links.links.items ≡ c.links.result.now =
+    c.in_ok-links.ensures.items_if_clones_equal (λ x y same. same) in
+    let order : c.in_ok-order.order.items ≡ c.order.result.now =
+    c.in_ok-order.ensures.items_if_clones_equal (λ x y same. same) in
     let parts : ArePartsOf _ new = record {
       spare_link = c.spare_link.ensures ∙ sym v.spare_link_is;
       counts = λ i. record {

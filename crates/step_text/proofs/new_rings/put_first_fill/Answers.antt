@@ -4,7 +4,9 @@ use Rattle.text_model.specs.Text.{space, line_feed}
 use Rattle.step_model.specs.StepTexts.{key_line, spaced}
 use Rattle.step_text.proofs.new_rings.put_first_fill.Goals as goal
 
-written : (out fill place first : List ℕ) → (((((out ++ codes "  fill") ++ fill) ++ (space ∷ place)) ++ first) ++ line_feed ∷ []) ≡ out ++ key_line (codes "fill" ++ fill) (place ++ first)
+written : (out fill place first : List ℕ)
+    → (((((out ++ codes "  fill") ++ fill) ++ (space ∷ place)) ++ first) ++ line_feed ∷ [])
+    ≡ out ++ key_line (codes "fill" ++ fill) (place ++ first)
 written out fill place first = simp append_assoc
 
 pub returns : goal.returns

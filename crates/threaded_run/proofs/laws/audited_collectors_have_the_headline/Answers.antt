@@ -5,4 +5,5 @@ use Rattle.threaded_run.proofs.laws.audited_collectors_have_the_headline.Goals a
 pub returns : goal.returns
 returns c = λ script ran run kept audited.
     let taken = taken_in ran.ledgers.items in
-    headline script.pages script.size script.start run.rings ran.ledgers.items run.are_of_rings kept (is_sum kept taken audited)
+    headline script.pages script.size script.start run.rings ran.ledgers.items run.are_of_rings kept
+    (is_sum kept taken audited)

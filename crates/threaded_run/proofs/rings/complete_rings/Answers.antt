@@ -22,8 +22,10 @@ loop-running-preserved g c =
     (into_iter_items c.loop-running.running-iterator) (into_iter_items c.next.new.self) threads was.running step.0
     (omega (arith, was.left, step.1)) in
     let joined = joined_on
-    (λ (all : Vec Ledger Global). AreRunLedgers g.G.Gate.answers job.gate.now job.script.now 0 all.items × (vec_len all + left ≡ total))
-    (λ (all : Vec Ledger Global). AreRunLedgers g.G.Gate.answers job.gate.now job.script.now 0 all.items × (vec_len all + after ≡ total))
+    (λ (all : Vec Ledger Global).
+    AreRunLedgers g.G.Gate.answers job.gate.now job.script.now 0 all.items × (vec_len all + left ≡ total))
+    (λ (all : Vec Ledger Global).
+    AreRunLedgers g.G.Gate.answers job.gate.now job.script.now 0 all.items × (vec_len all + after ≡ total))
     (IsPassedLedger g.G.Gate.answers job.gate.now threads.script threads.cpu)
     (IsByGate g.G.Gate.answers job.gate.now job.script.now.cpus)
     c.loop-running.ledgers c.complete.result c.with_next-ledgers.result
@@ -33,7 +35,8 @@ loop-running-preserved g c =
     c.complete.ensures.shut)
     (λ e. absurd (cc))
     (λ all one more (are, count) is items len. (
-      ledger_pushed g.G.Gate.answers job.script.now job.gate.now (total - left) threads all.items more.items one next.0 is are
+      ledger_pushed g.G.Gate.answers job.script.now job.gate.now (total - left) threads all.items more.items one next.0
+          is are
           (omega (arith, count, all.ok.0)) items,
       omega (arith, count, len, step.1),
     )) in record {

@@ -11,4 +11,5 @@ returns-clause-ran g c =
 pub returns-clause-passed : goal.returns-clause-passed
 returns-clause-passed g c =
     are_passed g.G.Gate.answers c.args.gate.now c.args.script.now
-    record { collectors = c.in_ok-collectors.collectors; ledgers = c.in_ok-ledgers.ledgers } c.in_ok-ledgers.ensures.ledgers
+    record { collectors = c.in_ok-collectors.collectors; ledgers = c.in_ok-ledgers.ledgers }
+    c.in_ok-ledgers.ensures.ledgers

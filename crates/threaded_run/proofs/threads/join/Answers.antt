@@ -15,16 +15,19 @@ pub returns-in-Err-clause-shut : goal.returns-in-Err-clause-shut
 returns-in-Err-clause-shut g c =
     let p = c.running.inside.reader.promise in
     reader_by_gate g.G.Gate.answers _ c.args.running p.gate.now p.cpu.0 c.in-Err.stop c.fault_of.result
-    c.running.view_is c.running.invariant.2 c.running.invariant.6 c.running.invariant.5 c.fault_of.ensures c.in-Err.ensures
+    c.running.view_is c.running.invariant.2 c.running.invariant.6 c.running.invariant.5 c.fault_of.ensures
+    c.in-Err.ensures
 
 pub returns-in-Ok-took-clause-joined : goal.returns-in-Ok-took-clause-joined
 returns-in-Ok-took-clause-joined g c =
     let w = c.running.inside.writer.promise in
     let r = c.running.inside.reader.promise in
     let is = c.running.invariant in
-    ends_joined _ c.args.running w.cpu.0 w.was.value r.was.value c.end.inside.writer c.in-Ok-took.reader c.running.view_is
+    ends_joined _ c.args.running w.cpu.0 w.was.value r.was.value c.end.inside.writer c.in-Ok-took.reader
+    c.running.view_is
     is.0 is.1 is.3 is.6 c.end.invariant
-    (subst (λ (e : WriterValue). HasObeyed w.cpu.0 w.script.now.commands w.was.value e) (sym c.end.view_is) c.in-Ok.ensures.0)
+    (subst (λ (e : WriterValue). HasObeyed w.cpu.0 w.script.now.commands w.was.value e) (sym c.end.view_is)
+    c.in-Ok.ensures.0)
     (c.in-Ok-took.ensures.cpu_is, c.in-Ok-took.ensures.same)
 
 pub returns-in-Ok-took-clause-passed : goal.returns-in-Ok-took-clause-passed

@@ -15,5 +15,6 @@ returns c =
       records,
       c.records-entry-items.ensures,
       c.loop-entry.invariant
-          ∙ ap (λ (rs : List (ℕ × Record)). map line_seen c.args.lines.now.items ++ map (line_of c.args.cpu.0) rs) all.0,
+          ∙ ap (λ (rs : List (ℕ × Record)). map line_seen c.args.lines.now.items ++ map (line_of c.args.cpu.0) rs)
+          all.0,
     )

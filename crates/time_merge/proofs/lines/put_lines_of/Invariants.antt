@@ -6,4 +6,5 @@ use Rattle.time_merge.proofs.lines.put_lines_of.Given as goal
 
 abbrev pub invariant-loop-entry : goal.invariant-loop-entry
 invariant-loop-entry l =
-    map line_seen l.lines.items ≡ map line_seen l.initial.lines.items ++ map (line_of l.cpu.0) (map numbered_record l.yielded)
+    map line_seen l.lines.items
+    ≡ map line_seen l.initial.lines.items ++ map (line_of l.cpu.0) (map numbered_record l.yielded)

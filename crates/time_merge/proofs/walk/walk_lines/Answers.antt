@@ -1,28 +1,36 @@
-use Rattle.std.proofs.Common.{◌≡◌, Bool, subst}
-use Rattle.trace_model.specs.Listing.{Line as ModelLine}
-use Rattle.time_merge.specs.declared.stretches.ByTime.{ByTime}
-use Rattle.time_merge.specs.LineOrder.{comes_before}
-use Rattle.time_merge.proofs.Merged.{merge_drained}
+use Rattle.std.proofs.Common.{◌∷◌, [], sym, subst, List, map}
+use Rattle.std.proofs.lemmas.Iterator.Consumers.{YieldsList-from_first, YieldsList-end}
+use Rattle.std.proofs.lemmas.List.{map-append}
+use Rattle.trace_model.specs.Listing.{Line as ModelLine, IsListing}
+use Rattle.time_merge.specs.Lines.{line_seen}
+use Rattle.time_merge.specs.Walks.{TakesAll}
 use Rattle.time_merge.proofs.Takes.{takes_more}
 use Rattle.time_merge.proofs.walk.walk_lines.Goals as goal
 
-pub loop-waiting-preserved : goal.loop-waiting-preserved
-loop-waiting-preserved g c =
-    let at = c.loop-waiting in
+pub loop-line-preserved : goal.loop-line-preserved
+loop-line-preserved g c =
+    let at = c.loop-line in
     let new = c.take_line.new in
     record {
       can = c.take_line.ensures.can;
-      taken = takes_more g.T.TakesLines.takes (c.args.taker.now, c.args.writer.now) at.yielded (at.taker, at.writer) c.in-Some.waiting (new.self, new.writer)
-          at.invariant.taken
-          (subst (λ (line : ModelLine). g.T.TakesLines.takes (at.taker, at.writer) line (new.self, new.writer)) c.waiting.view_is c.take_line.ensures.taken);
+      taken =
+          subst (λ (lines : List ModelLine).
+          TakesAll g.T.TakesLines.takes (c.args.taker.now, c.args.writer.now) lines (new.self, new.writer))
+          (sym (map-append line_seen at.yielded (c.in-Some.line ∷ [])))
+          (takes_more g.T.TakesLines.takes (c.args.taker.now, c.args.writer.now) (map line_seen at.yielded)
+          (at.taker, at.writer) (line_seen c.in-Some.line) (new.self, new.writer)
+          at.invariant.taken c.take_line.ensures.taken);
     }
 
 pub returns-clause-lines : goal.returns-clause-lines
 returns-clause-lines g c =
-    let at = c.loop-waiting in (
-      at.yielded,
-      c.in_ok-merge.ensures at.yielded
-          (merge_drained (λ (_ : ByTime) (first : ModelLine → ModelLine → Bool). first ≡ comes_before) c.in_ok-merge.merge c.into_iter-waiting-iterator.result at.waiting-iterator at.yielded c.into_iter-waiting-iterator.ensures.into_iter_gives
-          at.yielded_by c.in-None.ensures.steps),
-      at.invariant.taken,
+    let listed = c.in_ok-line-items.line-items in
+    let given = c.into_iter-line-iterator.ensures.into_iter_gives in
+    let all =
+    YieldsList-end (YieldsList-from_first line_seen (λ (left : List ModelLine). left) listed given)
+    c.loop-line.yielded _
+    c.loop-line.yielded_by _ _ c.in-None.is c.next.ensures.steps in (
+      map line_seen c.loop-line.yielded,
+      subst (IsListing c.args.collector.now) (sym all.0) c.in_ok-line-items.ensures,
+      c.loop-line.invariant.taken,
     )

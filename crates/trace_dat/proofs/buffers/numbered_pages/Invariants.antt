@@ -7,5 +7,6 @@ use Rattle.trace_dat.proofs.buffers.numbered_pages.Given as goal
 
 abbrev pub invariant-loop : goal.invariant-loop
 invariant-loop l =
-    with_front (map recorded_seen l.cpus.items) (all_at (λ _. numbered_pages_at l.file) l.counter (l.count - l.counter) (seen l.rest))
+    with_front (map recorded_seen l.cpus.items)
+    (all_at (λ _. numbered_pages_at l.file) l.counter (l.count - l.counter) (seen l.rest))
     ≡ all_at (λ _. numbered_pages_at l.file) 0 l.count (seen l.part)

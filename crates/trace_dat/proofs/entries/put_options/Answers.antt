@@ -20,7 +20,8 @@ returns-in_err-option c =
 pub returns-in_default : goal.returns-in_default
 returns-in_default c =
     let e : option_at (seen c.loop-option.rest) ≡ Ok (None, seen c.in_ok-option.behind) =
-    c.in_ok-option.ensures.gives ∙ ap (λ o. Ok (option_map option_seen o, seen c.in_ok-option.behind)) c.in_default.is in
+    c.in_ok-option.ensures.gives
+    ∙ ap (λ o. Ok (option_map option_seen o, seen c.in_ok-option.behind)) c.in_default.is in
     options_end (map option_seen c.loop-option.options.items) (seen c.loop-option.rest) (seen c.in_ok-option.behind) _
     e c.loop-option.invariant
 

@@ -7,5 +7,6 @@ use Rattle.trace_dat.proofs.formats.put_each_format.Given as goal
 
 abbrev pub invariant-loop : goal.invariant-loop
 invariant-loop l =
-    with_front (map format_seen l.formats.items) (all_at (λ _. format_at l.system) l.counter (l.count - l.counter) (seen l.rest))
+    with_front (map format_seen l.formats.items)
+    (all_at (λ _. format_at l.system) l.counter (l.count - l.counter) (seen l.rest))
     ≡ with_front (map format_seen l.fn.formats.items) (all_at (λ _. format_at l.system) 0 l.count (seen l.part))

@@ -9,7 +9,8 @@ use Rattle.trace_dat.proofs.formats.put_each_system.Goals as goal
 pub returns-in_err-rest : goal.returns-in_err-rest
 returns-in_err-rest c =
     let p = err_from_is_err_and c.from_residual.result c.from_residual.ensures.1 in
-    rw (p.1, p.2) (ends (λ _. system_at) (map format_seen c.loop.formats.items) c.args.count c.loop.counter (seen c.loop.rest)
+    rw (p.1, p.2)
+    (ends (λ _. system_at) (map format_seen c.loop.formats.items) c.args.count c.loop.counter (seen c.loop.rest)
     c.in_err-rest.field-0.0 _ c.loop-test.true c.in_err-rest.ensures c.loop.invariant)
 
 pub loop-preserved : goal.loop-preserved

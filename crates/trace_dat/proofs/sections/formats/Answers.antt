@@ -21,5 +21,6 @@ loop-option-preserved c =
 
 pub returns : goal.returns
 returns c =
-    each_is_done option_seen (formats_of c.args.file.now) (map format_seen c.loop-option.formats.items) c.args.options.now
+    each_is_done option_seen (formats_of c.args.file.now) (map format_seen c.loop-option.formats.items)
+    c.args.options.now
     c.loop-option.option-index _ c.loop-option-test.false c.loop-option.invariant

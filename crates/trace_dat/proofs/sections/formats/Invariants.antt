@@ -7,5 +7,6 @@ use Rattle.trace_dat.proofs.sections.formats.Given as goal
 
 abbrev pub invariant-loop-option : goal.invariant-loop-option
 invariant-loop-option l =
-    with_list (map format_seen l.formats.items) (each_of (formats_of l.file) (map option_seen (drop l.option-index l.options)))
+    with_list (map format_seen l.formats.items)
+    (each_of (formats_of l.file) (map option_seen (drop l.option-index l.options)))
     ≡ each_of (formats_of l.file) (map option_seen l.options)

@@ -8,4 +8,5 @@ use Rattle.trace_script.proofs.fields.is_whole.Goals as goal
 pub returns-in-More : goal.returns-in-More
 returns-in-More c =
     subst (λ (fields : Fields). IsTrue c.is_none.result ↔ HasNoFifth fields) (sym c.in-More.is)
-    (whole_rest c.in-More.rest.now c.field_cut.result.0.now c.field_cut.result.1 c.is_none.result c.field_cut.ensures.parts c.is_none.ensures)
+    (whole_rest c.in-More.rest.now c.field_cut.result.0.now c.field_cut.result.1 c.is_none.result
+    c.field_cut.ensures.parts c.is_none.ensures)

@@ -1,35 +1,52 @@
 use Rattle.std.proofs.Common.{ℕ, List, sym, subst}
 use Rattle.trace_script.specs.Decoding.{ArePut}
-use Rattle.trace_script.proofs.PayloadLemmas.{eight_turn, two_fit, three_fit, four_fit, first_is_byte, second_is_byte, third_is_byte, fourth_is_byte, room_left, some_room}
+use Rattle.trace_script.proofs.PayloadLemmas.{eight_turn, two_fit, three_fit, four_fit, first_is_byte, second_is_byte}
+use Rattle.trace_script.proofs.PayloadLemmas.{third_is_byte, fourth_is_byte, room_left, some_room}
 use Rattle.trace_script.proofs.payload.put_eights.Goals as goal
 
 pub loop-left-preserved : goal.loop-left-preserved
 loop-left-preserved c =
     eight_turn c.args.text.now c.loop-left.left.now c.args.payloads.now.items c.reserve.new.self.items
-    c.push_reserved.new.self.items c.push_reserved-in-len16-up.new.self.items c.push_reserved-in-len16-up-2.new.self.items c.push_reserved-in-len16-up-3.new.self.items c.push_reserved-in-len16-up-4.new.self.items c.push_reserved-in-len16-up-5.new.self.items c.push_reserved-in-len16-up-6.new.self.items c.push_reserved-in-len16-up-7.new.self.items
-    c.pair_value-first.result c.pair_value-second.result c.pair_value-third.result c.pair_value-fourth.result c.pair_value-fifth.result c.pair_value-sixth.result c.pair_value-seventh.result c.pair_value-eighth.result
-    (subst (λ (bs : List ℕ). ArePut c.args.text.now c.loop-left.left.now c.args.payloads.now.items bs) (sym c.reserve.ensures.items) c.loop-left.invariant) c.in-len16-up.len_at_least
-    c.pair_value-first.ensures.value c.pair_value-second.ensures.value c.pair_value-third.ensures.value c.pair_value-fourth.ensures.value c.pair_value-fifth.ensures.value c.pair_value-sixth.ensures.value c.pair_value-seventh.ensures.value c.pair_value-eighth.ensures.value
+    c.push_reserved.new.self.items c.push_reserved-in-len16-up.new.self.items
+    c.push_reserved-in-len16-up-2.new.self.items c.push_reserved-in-len16-up-3.new.self.items
+    c.push_reserved-in-len16-up-4.new.self.items c.push_reserved-in-len16-up-5.new.self.items
+    c.push_reserved-in-len16-up-6.new.self.items c.push_reserved-in-len16-up-7.new.self.items
+    c.pair_value-first.result c.pair_value-second.result c.pair_value-third.result c.pair_value-fourth.result
+    c.pair_value-fifth.result c.pair_value-sixth.result c.pair_value-seventh.result c.pair_value-eighth.result
+    (subst (λ (bs : List ℕ). ArePut c.args.text.now c.loop-left.left.now c.args.payloads.now.items bs)
+    (sym c.reserve.ensures.items) c.loop-left.invariant) c.in-len16-up.len_at_least
+    c.pair_value-first.ensures.value c.pair_value-second.ensures.value c.pair_value-third.ensures.value
+    c.pair_value-fourth.ensures.value c.pair_value-fifth.ensures.value c.pair_value-sixth.ensures.value
+    c.pair_value-seventh.ensures.value c.pair_value-eighth.ensures.value
     c.if-first-second-ge-NO_DIGIT.false c.if-fifth-sixth-ge-NO_DIGIT.false
-    c.push_reserved.ensures.items c.push_reserved-in-len16-up.ensures.items c.push_reserved-in-len16-up-2.ensures.items c.push_reserved-in-len16-up-3.ensures.items c.push_reserved-in-len16-up-4.ensures.items c.push_reserved-in-len16-up-5.ensures.items c.push_reserved-in-len16-up-6.ensures.items c.push_reserved-in-len16-up-7.ensures.items
+    c.push_reserved.ensures.items c.push_reserved-in-len16-up.ensures.items c.push_reserved-in-len16-up-2.ensures.items
+    c.push_reserved-in-len16-up-3.ensures.items c.push_reserved-in-len16-up-4.ensures.items
+    c.push_reserved-in-len16-up-5.ensures.items c.push_reserved-in-len16-up-6.ensures.items
+    c.push_reserved-in-len16-up-7.ensures.items
 
 pub overflow_add-first : goal.overflow_add-first
 overflow_add-first c = two_fit _ _ c.pair_value-first.ensures.small c.pair_value-second.ensures.small
 
 pub overflow_add-first-in-len16-up : goal.overflow_add-first-in-len16-up
-overflow_add-first-in-len16-up c = three_fit _ _ _ c.pair_value-first.ensures.small c.pair_value-second.ensures.small c.pair_value-third.ensures.small
+overflow_add-first-in-len16-up c =
+    three_fit _ _ _ c.pair_value-first.ensures.small c.pair_value-second.ensures.small c.pair_value-third.ensures.small
 
 pub overflow_add-first-in-len16-up-2 : goal.overflow_add-first-in-len16-up-2
-overflow_add-first-in-len16-up-2 c = four_fit _ _ _ _ c.pair_value-first.ensures.small c.pair_value-second.ensures.small c.pair_value-third.ensures.small c.pair_value-fourth.ensures.small
+overflow_add-first-in-len16-up-2 c =
+    four_fit _ _ _ _ c.pair_value-first.ensures.small c.pair_value-second.ensures.small c.pair_value-third.ensures.small
+    c.pair_value-fourth.ensures.small
 
 pub overflow_add-fifth : goal.overflow_add-fifth
 overflow_add-fifth c = two_fit _ _ c.pair_value-fifth.ensures.small c.pair_value-sixth.ensures.small
 
 pub overflow_add-fifth-in-len16-up : goal.overflow_add-fifth-in-len16-up
-overflow_add-fifth-in-len16-up c = three_fit _ _ _ c.pair_value-fifth.ensures.small c.pair_value-sixth.ensures.small c.pair_value-seventh.ensures.small
+overflow_add-fifth-in-len16-up c =
+    three_fit _ _ _ c.pair_value-fifth.ensures.small c.pair_value-sixth.ensures.small c.pair_value-seventh.ensures.small
 
 pub overflow_add-fifth-in-len16-up-2 : goal.overflow_add-fifth-in-len16-up-2
-overflow_add-fifth-in-len16-up-2 c = four_fit _ _ _ _ c.pair_value-fifth.ensures.small c.pair_value-sixth.ensures.small c.pair_value-seventh.ensures.small c.pair_value-eighth.ensures.small
+overflow_add-fifth-in-len16-up-2 c =
+    four_fit _ _ _ _ c.pair_value-fifth.ensures.small c.pair_value-sixth.ensures.small
+    c.pair_value-seventh.ensures.small c.pair_value-eighth.ensures.small
 
 pub overflow_cast-first : goal.overflow_cast-first
 overflow_cast-first c = first_is_byte _ _ _ _ c.if-first-second-ge-NO_DIGIT.false c.pair_value-first.ensures.byte
@@ -66,50 +83,92 @@ push_reserved-requires-in-len16-up c =
 pub push_reserved-requires-in-len16-up-2 : goal.push_reserved-requires-in-len16-up-2
 push_reserved-requires-in-len16-up-2 c =
     let room1 = room_left _ _ _ _ 7 c.in-Ok.ensures.ok c.push_reserved.ensures.len c.push_reserved.ensures.capacity in
-    let room2 = room_left _ _ _ _ 6 room1 c.push_reserved-in-len16-up.ensures.len c.push_reserved-in-len16-up.ensures.capacity in
+    let room2 =
+    room_left _ _ _ _ 6 room1 c.push_reserved-in-len16-up.ensures.len
+    c.push_reserved-in-len16-up.ensures.capacity in
     some_room _ _ 5 room2
 
 pub push_reserved-requires-in-len16-up-3 : goal.push_reserved-requires-in-len16-up-3
 push_reserved-requires-in-len16-up-3 c =
     let room1 = room_left _ _ _ _ 7 c.in-Ok.ensures.ok c.push_reserved.ensures.len c.push_reserved.ensures.capacity in
-    let room2 = room_left _ _ _ _ 6 room1 c.push_reserved-in-len16-up.ensures.len c.push_reserved-in-len16-up.ensures.capacity in
-    let room3 = room_left _ _ _ _ 5 room2 c.push_reserved-in-len16-up-2.ensures.len c.push_reserved-in-len16-up-2.ensures.capacity in
+    let room2 =
+    room_left _ _ _ _ 6 room1 c.push_reserved-in-len16-up.ensures.len
+    c.push_reserved-in-len16-up.ensures.capacity in
+    let room3 =
+    room_left _ _ _ _ 5 room2 c.push_reserved-in-len16-up-2.ensures.len
+    c.push_reserved-in-len16-up-2.ensures.capacity in
     some_room _ _ 4 room3
 
 pub push_reserved-requires-in-len16-up-4 : goal.push_reserved-requires-in-len16-up-4
 push_reserved-requires-in-len16-up-4 c =
     let room1 = room_left _ _ _ _ 7 c.in-Ok.ensures.ok c.push_reserved.ensures.len c.push_reserved.ensures.capacity in
-    let room2 = room_left _ _ _ _ 6 room1 c.push_reserved-in-len16-up.ensures.len c.push_reserved-in-len16-up.ensures.capacity in
-    let room3 = room_left _ _ _ _ 5 room2 c.push_reserved-in-len16-up-2.ensures.len c.push_reserved-in-len16-up-2.ensures.capacity in
-    let room4 = room_left _ _ _ _ 4 room3 c.push_reserved-in-len16-up-3.ensures.len c.push_reserved-in-len16-up-3.ensures.capacity in
+    let room2 =
+    room_left _ _ _ _ 6 room1 c.push_reserved-in-len16-up.ensures.len
+    c.push_reserved-in-len16-up.ensures.capacity in
+    let room3 =
+    room_left _ _ _ _ 5 room2 c.push_reserved-in-len16-up-2.ensures.len
+    c.push_reserved-in-len16-up-2.ensures.capacity in
+    let room4 =
+    room_left _ _ _ _ 4 room3 c.push_reserved-in-len16-up-3.ensures.len
+    c.push_reserved-in-len16-up-3.ensures.capacity in
     some_room _ _ 3 room4
 
 pub push_reserved-requires-in-len16-up-5 : goal.push_reserved-requires-in-len16-up-5
 push_reserved-requires-in-len16-up-5 c =
     let room1 = room_left _ _ _ _ 7 c.in-Ok.ensures.ok c.push_reserved.ensures.len c.push_reserved.ensures.capacity in
-    let room2 = room_left _ _ _ _ 6 room1 c.push_reserved-in-len16-up.ensures.len c.push_reserved-in-len16-up.ensures.capacity in
-    let room3 = room_left _ _ _ _ 5 room2 c.push_reserved-in-len16-up-2.ensures.len c.push_reserved-in-len16-up-2.ensures.capacity in
-    let room4 = room_left _ _ _ _ 4 room3 c.push_reserved-in-len16-up-3.ensures.len c.push_reserved-in-len16-up-3.ensures.capacity in
-    let room5 = room_left _ _ _ _ 3 room4 c.push_reserved-in-len16-up-4.ensures.len c.push_reserved-in-len16-up-4.ensures.capacity in
+    let room2 =
+    room_left _ _ _ _ 6 room1 c.push_reserved-in-len16-up.ensures.len
+    c.push_reserved-in-len16-up.ensures.capacity in
+    let room3 =
+    room_left _ _ _ _ 5 room2 c.push_reserved-in-len16-up-2.ensures.len
+    c.push_reserved-in-len16-up-2.ensures.capacity in
+    let room4 =
+    room_left _ _ _ _ 4 room3 c.push_reserved-in-len16-up-3.ensures.len
+    c.push_reserved-in-len16-up-3.ensures.capacity in
+    let room5 =
+    room_left _ _ _ _ 3 room4 c.push_reserved-in-len16-up-4.ensures.len
+    c.push_reserved-in-len16-up-4.ensures.capacity in
     some_room _ _ 2 room5
 
 pub push_reserved-requires-in-len16-up-6 : goal.push_reserved-requires-in-len16-up-6
 push_reserved-requires-in-len16-up-6 c =
     let room1 = room_left _ _ _ _ 7 c.in-Ok.ensures.ok c.push_reserved.ensures.len c.push_reserved.ensures.capacity in
-    let room2 = room_left _ _ _ _ 6 room1 c.push_reserved-in-len16-up.ensures.len c.push_reserved-in-len16-up.ensures.capacity in
-    let room3 = room_left _ _ _ _ 5 room2 c.push_reserved-in-len16-up-2.ensures.len c.push_reserved-in-len16-up-2.ensures.capacity in
-    let room4 = room_left _ _ _ _ 4 room3 c.push_reserved-in-len16-up-3.ensures.len c.push_reserved-in-len16-up-3.ensures.capacity in
-    let room5 = room_left _ _ _ _ 3 room4 c.push_reserved-in-len16-up-4.ensures.len c.push_reserved-in-len16-up-4.ensures.capacity in
-    let room6 = room_left _ _ _ _ 2 room5 c.push_reserved-in-len16-up-5.ensures.len c.push_reserved-in-len16-up-5.ensures.capacity in
+    let room2 =
+    room_left _ _ _ _ 6 room1 c.push_reserved-in-len16-up.ensures.len
+    c.push_reserved-in-len16-up.ensures.capacity in
+    let room3 =
+    room_left _ _ _ _ 5 room2 c.push_reserved-in-len16-up-2.ensures.len
+    c.push_reserved-in-len16-up-2.ensures.capacity in
+    let room4 =
+    room_left _ _ _ _ 4 room3 c.push_reserved-in-len16-up-3.ensures.len
+    c.push_reserved-in-len16-up-3.ensures.capacity in
+    let room5 =
+    room_left _ _ _ _ 3 room4 c.push_reserved-in-len16-up-4.ensures.len
+    c.push_reserved-in-len16-up-4.ensures.capacity in
+    let room6 =
+    room_left _ _ _ _ 2 room5 c.push_reserved-in-len16-up-5.ensures.len
+    c.push_reserved-in-len16-up-5.ensures.capacity in
     some_room _ _ 1 room6
 
 pub push_reserved-requires-in-len16-up-7 : goal.push_reserved-requires-in-len16-up-7
 push_reserved-requires-in-len16-up-7 c =
     let room1 = room_left _ _ _ _ 7 c.in-Ok.ensures.ok c.push_reserved.ensures.len c.push_reserved.ensures.capacity in
-    let room2 = room_left _ _ _ _ 6 room1 c.push_reserved-in-len16-up.ensures.len c.push_reserved-in-len16-up.ensures.capacity in
-    let room3 = room_left _ _ _ _ 5 room2 c.push_reserved-in-len16-up-2.ensures.len c.push_reserved-in-len16-up-2.ensures.capacity in
-    let room4 = room_left _ _ _ _ 4 room3 c.push_reserved-in-len16-up-3.ensures.len c.push_reserved-in-len16-up-3.ensures.capacity in
-    let room5 = room_left _ _ _ _ 3 room4 c.push_reserved-in-len16-up-4.ensures.len c.push_reserved-in-len16-up-4.ensures.capacity in
-    let room6 = room_left _ _ _ _ 2 room5 c.push_reserved-in-len16-up-5.ensures.len c.push_reserved-in-len16-up-5.ensures.capacity in
-    let room7 = room_left _ _ _ _ 1 room6 c.push_reserved-in-len16-up-6.ensures.len c.push_reserved-in-len16-up-6.ensures.capacity in
+    let room2 =
+    room_left _ _ _ _ 6 room1 c.push_reserved-in-len16-up.ensures.len
+    c.push_reserved-in-len16-up.ensures.capacity in
+    let room3 =
+    room_left _ _ _ _ 5 room2 c.push_reserved-in-len16-up-2.ensures.len
+    c.push_reserved-in-len16-up-2.ensures.capacity in
+    let room4 =
+    room_left _ _ _ _ 4 room3 c.push_reserved-in-len16-up-3.ensures.len
+    c.push_reserved-in-len16-up-3.ensures.capacity in
+    let room5 =
+    room_left _ _ _ _ 3 room4 c.push_reserved-in-len16-up-4.ensures.len
+    c.push_reserved-in-len16-up-4.ensures.capacity in
+    let room6 =
+    room_left _ _ _ _ 2 room5 c.push_reserved-in-len16-up-5.ensures.len
+    c.push_reserved-in-len16-up-5.ensures.capacity in
+    let room7 =
+    room_left _ _ _ _ 1 room6 c.push_reserved-in-len16-up-6.ensures.len
+    c.push_reserved-in-len16-up-6.ensures.capacity in
     some_room _ _ 0 room7

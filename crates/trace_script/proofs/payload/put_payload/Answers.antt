@@ -4,30 +4,41 @@ use Rattle.std.proofs.lemmas.Result.{err_from_is_err_and}
 use Rattle.text_model.specs.Text.{bytes_of_pairs}
 use Rattle.trace_script.proofs.PayloadLemmas.{payload_read, payload_refused, dash_payload, none_left, all_put}
 use Rattle.trace_script.proofs.payload.put_payload.Goals as goal
-use Rattle.trace_script.proofs.payload.put_payload.Goals.{then-is_empty-via-then-is_empty, then-is_empty-via-else-is_empty+then-field-ne0, then-is_empty-via-else-is_empty+else-field-ne0+then-not-are_hex_digits}
+use Rattle.trace_script.proofs.payload.put_payload.Goals.{then-is_empty-via-then-is_empty}
+use Rattle.trace_script.proofs.payload.put_payload.Goals.{then-is_empty-via-else-is_empty+then-field-ne0}
+use Rattle.trace_script.proofs.payload.put_payload.Goals.{then-is_empty-via-else-is_empty+else-field-ne0+then-not-are_hex_digits}
 
 pub returns-then-is_letter : goal.returns-then-is_letter
-returns-then-is_letter c = ([], sym (append-nil _), dash_payload c.args.field.now (sym c.is_letter.ensures ∙ c.if-is_letter.true))
+returns-then-is_letter c =
+    ([], sym (append-nil _), dash_payload c.args.field.now (sym c.is_letter.ensures ∙ c.if-is_letter.true))
 
 pub returns-then-is_empty : goal.returns-then-is_empty
 returns-then-is_empty c = elim c.then-is_empty.branch [
-  | then-is_empty-via-then-is_empty w ↦ payload_refused c.args.field.now (sym c.is_letter.ensures ∙ c.if-is_letter.false) (inl (sym c.is_empty.ensures ∙ w.if-is_empty.true))
-  | then-is_empty-via-else-is_empty+then-field-ne0 w ↦ payload_refused c.args.field.now (sym c.is_letter.ensures ∙ c.if-is_letter.false) (inr (inl w.if-field-ne0.true))
+  | then-is_empty-via-then-is_empty w ↦ payload_refused c.args.field.now
+      (sym c.is_letter.ensures ∙ c.if-is_letter.false) (inl (sym c.is_empty.ensures ∙ w.if-is_empty.true))
+  | then-is_empty-via-else-is_empty+then-field-ne0 w ↦ payload_refused c.args.field.now
+      (sym c.is_letter.ensures ∙ c.if-is_letter.false) (inr (inl w.if-field-ne0.true))
   | then-is_empty-via-else-is_empty+else-field-ne0+then-not-are_hex_digits w ↦
-      payload_refused c.args.field.now (sym c.is_letter.ensures ∙ c.if-is_letter.false) (inr (inr (sym w.are_hex_digits.ensures ∙ w.if-not-are_hex_digits.true)))
+      payload_refused c.args.field.now (sym c.is_letter.ensures ∙ c.if-is_letter.false)
+      (inr (inr (sym w.are_hex_digits.ensures ∙ w.if-not-are_hex_digits.true)))
 ]
 
 pub returns-in_err-put_pairs : goal.returns-in_err-put_pairs
 returns-in_err-put_pairs c =
     let p = err_from_is_err_and c.from_residual.result c.from_residual.ensures.1 in
-    rw (p.1, p.2)
-    (bytes_of_pairs c.args.field.now, payload_read c.args.field.now (sym c.is_empty.ensures ∙ c.if-is_empty.false) (omega arith) (sym c.are_hex_digits.ensures ∙ c.if-not-are_hex_digits.false))
+    rw (p.1, p.2) (
+      bytes_of_pairs c.args.field.now,
+      payload_read c.args.field.now (sym c.is_empty.ensures ∙ c.if-is_empty.false) (omega arith)
+          (sym c.are_hex_digits.ensures ∙ c.if-not-are_hex_digits.false),
+    )
 
 pub returns : goal.returns
 returns c =
     let digits = sym c.are_hex_digits.ensures ∙ c.if-not-are_hex_digits.false in
     let puts = c.in_ok-put_pairs.ensures in
-    let none = none_left c.args.field.now _ c.args.payloads.now.items c.put_pairs.new.payloads.items puts.0 puts.1 (omega arith) digits in (
+    let none =
+    none_left c.args.field.now _ c.args.payloads.now.items c.put_pairs.new.payloads.items puts.0 puts.1
+    (omega arith) digits in (
       bytes_of_pairs c.args.field.now,
       all_put c.args.field.now _ c.args.payloads.now.items c.put_pairs.new.payloads.items puts.0 none,
       payload_read c.args.field.now (sym c.is_empty.ensures ∙ c.if-is_empty.false) (omega arith) digits,

@@ -1,4 +1,5 @@
-use Rattle.std.proofs.Common.{◌≡◌, ℕ, ◌∷◌, ◌++◌, ◌+◌, ◌-◌, ◌*◌, ◌<◌, List, get_or, length, take, drop, refl, ◌∙◌, ap, arith}
+use Rattle.std.proofs.Common.{◌≡◌, ℕ, ◌∷◌, ◌++◌, ◌+◌, ◌-◌, ◌*◌, ◌<◌, List, get_or, length, take, drop, refl, ◌∙◌, ap}
+use Rattle.std.proofs.Common.{arith}
 use Rattle.trace_script.proofs.ValueLemmas.{around, short_decimal, digits_turn, value_turn, wrapped_digit}
 use Rattle.trace_script.proofs.values.digit_cut.Goals as goal
 

@@ -11,6 +11,9 @@ returns-clause-peeked c = λ done.
     record {
       page = page;
       tail = found.rests;
-      given = given_is end.cpu.0 page 0 c.args.out.now c.put_parcel-len.new.out c.of.result c.put_parcel-len.result put.bytes put.len put.used c.of.ensures;
-      reads = reads_newest end.cpu.0 end.writer page found.rests end.cpu_known found.numbers_fit put.reads put.used_reads;
+      given =
+          given_is end.cpu.0 page 0 c.args.out.now c.put_parcel-len.new.out c.of.result c.put_parcel-len.result
+          put.bytes put.len put.used c.of.ensures;
+      reads =
+          reads_newest end.cpu.0 end.writer page found.rests end.cpu_known found.numbers_fit put.reads put.used_reads;
     }

@@ -10,7 +10,8 @@ returns-clause-peeked c = λ end is done.
     let call = c.peek_into in
     let same = one_is_there (writer_of c.args.w.now.held.value) c.writer.result.now end c.writer.ensures.value is in
     let fits = peek_fits c.writer.result.now.writer (length c.args.out.now) call.result call.ensures.answers in
-    subst (λ (e : HeldWriter). IsPeeked e.cpu.0 e.writer c.args.out.now call.new.out call.new.taken) same (call.ensures.peeked (sym fits ∙ done))
+    subst (λ (e : HeldWriter). IsPeeked e.cpu.0 e.writer c.args.out.now call.new.out call.new.taken) same
+    (call.ensures.peeked (sym fits ∙ done))
 
 pub returns-clause-answers : goal.returns-clause-answers
 returns-clause-answers c = λ end is.

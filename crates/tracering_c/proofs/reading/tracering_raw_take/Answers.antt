@@ -10,7 +10,10 @@ returns-clause-takes c = record {
   is = λ old is.
       let call = c.take_into in
       let same = one_is_there (reader_of c.args.r.now.held.value) c.reader.result.now old c.reader.ensures.value is in
-      subst (λ (end : HeldReader). TakesSo end c.args.out.now c.args.taken.now (to_z w32 (of_z w32 call.result)) call.new.out call.new.taken call.new.end) same (takes_so _ _ _ _ _ _ _ call.ensures.takes);
+      subst
+      (λ (end : HeldReader).
+      TakesSo end c.args.out.now c.args.taken.now (to_z w32 (of_z w32 call.result)) call.new.out call.new.taken
+      call.new.end) same (takes_so _ _ _ _ _ _ _ call.ensures.takes);
   ring = search rules;
   cpu = search rules;
   reader = search rules;

@@ -8,7 +8,9 @@ returns-in-Err-clause-puts c =
     record {
       put = search rules;
       long = λ long.
-          absurd (never_long c.args.writer.now.frames.stack.frames c.top_mut.result c.in-Err.fault c.in-Err.is reported.slot.no_frame reported.slot.not_reserved reported.held c.code_of.result c.code_of.ensures long);
+          absurd
+          (never_long c.args.writer.now.frames.stack.frames c.top_mut.result c.in-Err.fault c.in-Err.is
+          reported.slot.no_frame reported.slot.not_reserved reported.held c.code_of.result c.code_of.ensures long);
       fits = search rules;
       too_long = search rules;
       no_frame = search rules;

@@ -33,7 +33,9 @@ low_cpu script seen line_index line of limits same at is =
 
 pub index_mut-requires : goal.index_mut-requires
 index_mut-requires c =
-    let low = low_cpu c.args.script.now c.commands-commands.result.now c.loop-line_index.line_index c.line.result c.in-Some.cpu
+    let low =
+    low_cpu c.args.script.now c.commands-commands.result.now c.loop-line_index.line_index c.line.result
+    c.in-Some.cpu
     c.commands-commands.ensures.limits c.commands-commands.ensures.commands c.line.ensures c.in-Some.ensures in
     let count = c.loop-line_index.invariant.count in
     omega arith
@@ -43,7 +45,8 @@ loop-line_index-preserved c =
     let script : Script = c.args.script.now in
     let seen = c.commands-commands.result.now in
     let line_index : ℕ = c.loop-line_index.line_index in
-    let at = line_at script.commands seen line_index c.line.result c.commands-commands.ensures.commands c.line.ensures in
+    let at =
+    line_at script.commands seen line_index c.line.result c.commands-commands.ensures.commands c.line.ensures in
     let count = c.loop-line_index.invariant.count in
     let was = c.loop-line_index.invariant.placed in
     elim c.match-writer_of.branch [
@@ -51,7 +54,8 @@ loop-line_index-preserved c =
         count = ap (λ (v : Vec (List ℕ) Global). vec_len v) w.lists-is ∙ count;
         placed = subst (λ (v : Vec (List ℕ) Global). AreIndexed script.commands (line_index + 1) v.items)
             (sym w.lists-is)
-            (one_more script.commands line_index (shown_line c.line.result) at c.loop-line_index.lists.items w.in-Some.cpu
+            (one_more script.commands line_index (shown_line c.line.result) at c.loop-line_index.lists.items
+            w.in-Some.cpu
             w.index_mut.result.now w.push.new.self w.in-Some.ensures
             (slice_get_read c.loop-line_index.lists.items (length c.loop-line_index.lists.items) w.in-Some.cpu.0
             w.index_mut.result.now refl
@@ -66,7 +70,8 @@ loop-line_index-preserved c =
         count = ap (λ (v : Vec (List ℕ) Global). vec_len v) w.lists-is ∙ count;
         placed = subst (λ (v : Vec (List ℕ) Global). AreIndexed script.commands (line_index + 1) v.items)
             (sym w.lists-is)
-            (none_more script.commands line_index (shown_line c.line.result) at c.loop-line_index.lists.items w.in_default.ensures
+            (none_more script.commands line_index (shown_line c.line.result) at c.loop-line_index.lists.items
+            w.in_default.ensures
             was);
       }
     ]

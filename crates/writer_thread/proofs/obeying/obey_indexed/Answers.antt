@@ -25,7 +25,8 @@ line-requires g c =
     is_index c.args.script.now.commands c.commands-commands.result.now
     (writer_lines c.args.cpu.0 (commands_of c.args.script.now.commands)) c.loop-index.index
     c.get-line_index.result c.commands-commands.ensures.commands
-    (line_of c.args.script.now.commands c.args.indexes.now (writer_lines c.args.cpu.0 (commands_of c.args.script.now.commands)) c.loop-index.index
+    (line_of c.args.script.now.commands c.args.indexes.now
+    (writer_lines c.args.cpu.0 (commands_of c.args.script.now.commands)) c.loop-index.index
     c.get-line_index.result c.requires.indexes (omega (arith, c.len-index-end.ensures)) c.get-line_index.ensures)
 
 pub obey_line-requires-clause-within : goal.obey_line-requires-clause-within
@@ -51,17 +52,22 @@ loop-index-preserved g c = record {
       (writer_lines c.args.cpu.0 (commands_of c.args.script.now.commands)) c.loop-index.index
       c.get-line_index.result (shown_line c.line.result)
       c.args.writer.now c.loop-index.writer c.obey_line.new.writer c.commands-commands.ensures.commands
-      (line_of c.args.script.now.commands c.args.indexes.now (writer_lines c.args.cpu.0 (commands_of c.args.script.now.commands)) c.loop-index.index
+      (line_of c.args.script.now.commands c.args.indexes.now
+      (writer_lines c.args.cpu.0 (commands_of c.args.script.now.commands)) c.loop-index.index
       c.get-line_index.result c.requires.indexes (omega (arith, c.len-index-end.ensures)) c.get-line_index.ensures)
       c.line.ensures c.loop-index.invariant.lines c.in_ok-obey_line.ensures.line;
-  asks = asks_then g.G.Gate.answers c.args.gate.now c.args.cpu.0 c.args.writer.now c.loop-index.writer c.obey_line.new.writer _
+  asks =
+      asks_then g.G.Gate.answers c.args.gate.now c.args.cpu.0 c.args.writer.now c.loop-index.writer
+      c.obey_line.new.writer _
       c.loop-index.invariant.asks c.in_ok-obey_line.ensures.gate;
 }
 
 pub returns-in_err-obey_line-clause-gate : goal.returns-in_err-obey_line-clause-gate
 returns-in_err-obey_line-clause-gate g c =
     let p = err_from_is_err_and c.from_residual.result c.from_residual.ensures.1 in
-    rw (p.1, p.2) (asks_then g.G.Gate.answers c.args.gate.now c.args.cpu.0 c.args.writer.now c.loop-index.writer c.obey_line.new.writer _
+    rw (p.1, p.2)
+    (asks_then g.G.Gate.answers c.args.gate.now c.args.cpu.0 c.args.writer.now c.loop-index.writer
+    c.obey_line.new.writer _
     c.loop-index.invariant.asks c.in_err-obey_line.ensures.gate)
 
 pub returns-clause-lines : goal.returns-clause-lines

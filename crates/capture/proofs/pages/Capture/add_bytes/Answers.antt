@@ -16,7 +16,8 @@ returns-in_err-add_copy-clause-numbers c = λ pages is numbers.
 
 pub loop-rest-preserved : goal.loop-rest-preserved
 loop-rest-preserved c =
-    adds-page _ _ _ _ c.split_at.result.0.now c.split_at.result.1.now _ c.loop-rest.self _ c.loop-rest.invariant c.requires.some
+    adds-page _ _ _ _ c.split_at.result.0.now c.split_at.result.1.now _ c.loop-rest.self _ c.loop-rest.invariant
+    c.requires.some
     (omega arith) (grind (arith, common_steps)) c.add_copy.ensures.cpu (λ ps was. c.in_ok-add_copy.ensures.read ps was)
 
 pub returns-clause-read : goal.returns-clause-read
@@ -29,4 +30,5 @@ returns-clause-read c = λ pages is.
 pub returns-clause-numbers : goal.returns-clause-numbers
 returns-clause-numbers c = λ pages is numbers.
     adds-past _ _ _ c.loop-rest.rest.now c.loop-rest.rest.now [] _ c.loop-rest.self c.loop-rest.invariant
-    (omega (arith, c.loop-rest-test.false)) (sym (append-nil c.loop-rest.rest.now)) (λ ps was. c.add_copy-2.ensures.numbers ps was numbers) pages is
+    (omega (arith, c.loop-rest-test.false)) (sym (append-nil c.loop-rest.rest.now))
+    (λ ps was. c.add_copy-2.ensures.numbers ps was numbers) pages is

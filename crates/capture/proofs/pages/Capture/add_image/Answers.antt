@@ -23,11 +23,14 @@ returns-clause-read c = λ pages was.
     let is : as_parcel parcel ≡ parcel_at old.cpu.0 old.pages old.next.0 read = c.in_ok-parcel.ensures.parcel in
     let first = ap (λ (p : Parcel). p.first) is in
     let long = ap (λ (p : Parcel). length p.records) is in
-    let next : c.first.result.0 + c.count.result ≡ behind old.next.0 (intact read) = omega (arith, c.first.ensures.first, c.count.ensures, first, long) in
-    let pushed : as_parcels c.push.new.self.items ≡ as_parcels old.parcels.items ++ parcel_at old.cpu.0 old.pages old.next.0 read ∷ [] =
+    let next : c.first.result.0 + c.count.result ≡ behind old.next.0 (intact read) =
+    omega (arith, c.first.ensures.first, c.count.ensures, first, long) in
+    let pushed : as_parcels c.push.new.self.items
+    ≡ as_parcels old.parcels.items ++ parcel_at old.cpu.0 old.pages old.next.0 read ∷ [] =
     ap as_parcels c.in_ok-push.ensures.items ∙ map-append as_parcel old.parcels.items (parcel ∷ [])
     ∙ ap (λ (p : Parcel). as_parcels old.parcels.items ++ p ∷ []) is in
     on_ok_both c.count_page.result
     (λ counted few. subst (λ (new : Capture). IsCapture new (pages ++ intact read ∷ [])) (sym counted)
-    (capture-intact old _ pages read was refl pushed c.in_ok-add_unknown.ensures.added refl next refl c.in_ok-parcel.ensures.fits few))
+    (capture-intact old _ pages read was refl pushed c.in_ok-add_unknown.ensures.added refl next refl
+    c.in_ok-parcel.ensures.fits few))
     c.count_page.ensures.counted c.count_page.ensures.fits

@@ -11,12 +11,14 @@ use Rattle.capture.proofs.pages.Capture.add_page.Goals as goal
 pub returns-in-Ok-clause-read : goal.returns-in-Ok-clause-read
 returns-in-Ok-clause-read c = λ pages was.
     let image = c.in-Ok.image in
-    let page : Page = intact record { missed = loss_stated (missed_of image.missed); records = records_of_page image.page } in
+    let page : Page =
+    intact record { missed = loss_stated (missed_of image.missed); records = records_of_page image.page } in
     let is : IsPageOf c.args.image.now page = (
       image.time,
       image.size,
       missed_of image.missed,
-      subst (λ (bytes : List ℕ). DecodesImage bytes image.time image.size (missed_of image.missed) (records_of_page image.page))
+      subst (λ (bytes : List ℕ).
+          DecodesImage bytes image.time image.size (missed_of image.missed) (records_of_page image.page))
           c.restore_stamps.ensures c.in-Ok.ensures.reads,
       refl,
     ) in
@@ -33,12 +35,14 @@ returns-in-Ok-clause-read c = λ pages was.
 pub returns-in-Ok-clause-numbers : goal.returns-in-Ok-clause-numbers
 returns-in-Ok-clause-numbers c = λ pages was numbers.
     let image = c.in-Ok.image in
-    let page : Page = intact record { missed = loss_stated (missed_of image.missed); records = records_of_page image.page } in
+    let page : Page =
+    intact record { missed = loss_stated (missed_of image.missed); records = records_of_page image.page } in
     let is : IsPageOf c.args.image.now page = (
       image.time,
       image.size,
       missed_of image.missed,
-      subst (λ (bytes : List ℕ). DecodesImage bytes image.time image.size (missed_of image.missed) (records_of_page image.page))
+      subst (λ (bytes : List ℕ).
+          DecodesImage bytes image.time image.size (missed_of image.missed) (records_of_page image.page))
           c.restore_stamps.ensures c.in-Ok.ensures.reads,
       refl,
     ) in
@@ -49,7 +53,10 @@ returns-in-Ok-clause-numbers c = λ pages was numbers.
     record {
       page = page;
       page_is = is;
-      past = λ fit. c.add_image.ensures.numbers pages was numbers (subst (λ (p : Page). Fit (pages ++ p ∷ [])) (sym same) fit);
+      past =
+          λ fit.
+          c.add_image.ensures.numbers pages was numbers
+          (subst (λ (p : Page). Fit (pages ++ p ∷ [])) (sym same) fit);
     }
 
 pub returns-in-Err : goal.returns-in-Err
@@ -60,10 +67,13 @@ returns-in-Err c =
     c.read_image.ensures.is_too_short.0 c.read_image.ensures.has_bad_size.0 c.read_image.ensures.has_bad_count.0
     (λ cause at. (c.read_image.ensures.has_bad_word cause at).0) in
     let page : Page = damaged found.0 in
-    let is : IsPageOf c.args.image.now page = subst (λ (bytes : List ℕ). FirstImageFault bytes found.0) c.restore_stamps.ensures found.2 in
+    let is : IsPageOf c.args.image.now page =
+    subst (λ (bytes : List ℕ). FirstImageFault bytes found.0) c.restore_stamps.ensures found.2 in
     record {
       cpu = c.add_damaged.ensures.cpu;
       read = λ pages was. on_ok c.add_damaged.result (λ read. record { page = page; page_is = is; capture_is = read })
           (c.add_damaged.ensures.read pages found.0 was found.1);
-      numbers = λ pages was numbers. record { page = page; page_is = is; past = c.add_damaged.ensures.numbers pages found.0 was numbers };
+      numbers =
+          λ pages was numbers.
+          record { page = page; page_is = is; past = c.add_damaged.ensures.numbers pages found.0 was numbers };
     }

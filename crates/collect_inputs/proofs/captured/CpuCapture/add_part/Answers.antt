@@ -12,14 +12,17 @@ pub returns-in_err-add_bytes-clause-past : goal.returns-in_err-add_bytes-clause-
 returns-in_err-add_bytes-clause-past c = λ cpu parts was numbers.
     let reported : c.add_bytes.result ≡ Err Numbers = grind (arith, common_steps) in
     let part : ModelPart = record { cpu = cpu; size = c.args.size; bytes = c.args.pages.now } in
-    let passes = c.add_bytes.ensures.numbers (map (told (missed_of c.args.unknown)) was.pages) was.capture_is reported in
-    pages-past _ cpu parts part c.args.self.now was passes.front passes.behind passes.more passes.parts passes.cut passes.past
+    let passes =
+    c.add_bytes.ensures.numbers (map (told (missed_of c.args.unknown)) was.pages) was.capture_is reported in
+    pages-past _ cpu parts part c.args.self.now was passes.front passes.behind passes.more passes.parts passes.cut
+    passes.past
 
 pub returns-clause-read : goal.returns-clause-read
 returns-clause-read c = λ cpu parts was.
     let part : ModelPart = record { cpu = cpu; size = c.args.size; bytes = c.args.pages.now } in
     let adds = c.in_ok-add_bytes.ensures.read (map (told (missed_of c.args.unknown)) was.pages) was.capture_is in
-    on_ok c.count_part.result (λ counts. cpu-more _ cpu parts part adds.more c.args.self.now c.count_part.new.self was adds.cut
+    on_ok c.count_part.result
+    (λ counts. cpu-more _ cpu parts part adds.more c.args.self.now c.count_part.new.self was adds.cut
     adds.capture_is c.add_bytes.ensures.cpu counts)
     c.count_part.ensures.counted
 

@@ -35,6 +35,7 @@ returns-then-not-holds c =
 pub returns : goal.returns
 returns c = (
   λ held. all_below c.args.self.now c.args.other.now c.loop-parcel.parcel-index
-      (let many = as_many _ c.args.other.now c.parcels-parcel-items.ensures.parcels in omega arith) c.loop-parcel.invariant,
+      (let many = as_many _ c.args.other.now c.parcels-parcel-items.ensures.parcels in omega arith)
+      c.loop-parcel.invariant,
   λ below. refl,
 )

@@ -19,7 +19,8 @@ fits_both ps p at grows missing seen m low below = ⊎_elim
 pub parcel-requires : goal.parcel-requires
 parcel-requires c =
     in_within c.args.self.now c.in-Some-Kept.index c.cpu-cpu.result.0 c.loop-at.at
-    (shown_kept c.args.self.now c.cpu-cpu.result.0 c.loop-at.at c.in-Some-Kept.index c.stretch-stretch.result.content (search rules) c.stretch-stretch.ensures.here)
+    (shown_kept c.args.self.now c.cpu-cpu.result.0 c.loop-at.at c.in-Some-Kept.index c.stretch-stretch.result.content
+    (search rules) c.stretch-stretch.ensures.here)
 
 pub returns-in-Some-clause-fault : goal.returns-in-Some-clause-fault
 returns-in-Some-clause-fault c =
@@ -30,20 +31,29 @@ returns-in-Some-clause-fault c =
     let i = c.in-Some-Kept.index in
     let n = c.in-Some.number in
     let stretch = c.stretch-stretch in
-    let shown : (m : ℕ) → at ≤ m → m < c.min-until.result → IsIn ps i cpu m = λ m a b. shown_kept ps cpu m i stretch.result.content (search rules) (stretch.ensures.shown m a (omega arith)) in
+    let shown : (m : ℕ) → at ≤ m → m < c.min-until.result → IsIn ps i cpu m =
+    λ m a b.
+    shown_kept ps cpu m i stretch.result.content (search rules) (stretch.ensures.shown m a (omega arith)) in
     let within = c.in-Some.ensures.within in
     let q = as_parcel c.parcel.result.now in
     let q_is = c.parcel.ensures in
-    let seen = records_known ps p q i cpu at n c.loop-at.grows c.cpu-cpu.ensures.cpu stretch.ensures.agree q_is c.loop-at.invariant.from c.loop-at.invariant.seen
+    let seen =
+    records_known ps p q i cpu at n c.loop-at.grows c.cpu-cpu.ensures.cpu stretch.ensures.agree q_is
+    c.loop-at.invariant.from c.loop-at.invariant.seen
     (λ m a b. shown m a (omega arith)) c.in-Some.ensures.first in
-    records_clash ps p q i cpu n c.cpu-cpu.ensures.cpu stretch.ensures.agree (shown n within.0 within.1) q_is (omega arith) (omega arith)
+    records_clash ps p q i cpu n c.cpu-cpu.ensures.cpu stretch.ensures.agree (shown n within.0 within.1) q_is
+    (omega arith) (omega arith)
     c.in-Some.ensures.differ (fits_both ps p n c.loop-at.grows c.requires seen)
 
 pub returns-in-Some-Missing-clause-fault : goal.returns-in-Some-Missing-clause-fault
 returns-in-Some-Missing-clause-fault c =
-    record_is_missing c.args.self.now (as_parcel c.args.parcel.now) c.cpu-cpu.result.0 c.loop-at.at c.cpu-cpu.ensures.cpu c.stretch-stretch.ensures.agree
-    (shown_missing c.args.self.now c.cpu-cpu.result.0 c.loop-at.at c.stretch-stretch.result.content (search rules) c.stretch-stretch.ensures.here)
-    c.loop-at.invariant.from (omega arith) (fits_both c.args.self.now (as_parcel c.args.parcel.now) c.loop-at.at c.loop-at.grows c.requires c.loop-at.invariant.seen)
+    record_is_missing c.args.self.now (as_parcel c.args.parcel.now) c.cpu-cpu.result.0 c.loop-at.at
+    c.cpu-cpu.ensures.cpu c.stretch-stretch.ensures.agree
+    (shown_missing c.args.self.now c.cpu-cpu.result.0 c.loop-at.at c.stretch-stretch.result.content (search rules)
+    c.stretch-stretch.ensures.here)
+    c.loop-at.invariant.from (omega arith)
+    (fits_both c.args.self.now (as_parcel c.args.parcel.now) c.loop-at.at c.loop-at.grows c.requires
+    c.loop-at.invariant.seen)
 
 pub loop-at-preserved-in_default : goal.loop-at-preserved-in_default
 loop-at-preserved-in_default c =
@@ -53,13 +63,17 @@ loop-at-preserved-in_default c =
     let at = c.loop-at.at in
     let i = c.in-Some-Kept.index in
     let stretch = c.stretch-stretch in
-    let shown : (m : ℕ) → at ≤ m → m < c.min-until.result → IsIn ps i cpu m = λ m a b. shown_kept ps cpu m i stretch.result.content (search rules) (stretch.ensures.shown m a (omega arith)) in
+    let shown : (m : ℕ) → at ≤ m → m < c.min-until.result → IsIn ps i cpu m =
+    λ m a b.
+    shown_kept ps cpu m i stretch.result.content (search rules) (stretch.ensures.shown m a (omega arith)) in
     let q = as_parcel c.parcel.result.now in
     let q_is = c.parcel.ensures in
     record {
       from = omega arith;
       up_to = omega arith;
-      seen = records_known ps p q i cpu at c.min-until.result c.loop-at.grows c.cpu-cpu.ensures.cpu stretch.ensures.agree q_is c.loop-at.invariant.from c.loop-at.invariant.seen
+      seen =
+          records_known ps p q i cpu at c.min-until.result c.loop-at.grows c.cpu-cpu.ensures.cpu stretch.ensures.agree
+          q_is c.loop-at.invariant.from c.loop-at.invariant.seen
           shown c.in_default.ensures.none;
     }
 
@@ -70,6 +84,11 @@ loop-at-preserved c =
     record {
       from = omega arith;
       up_to = omega arith;
-      seen = records_new ps (as_parcel c.args.parcel.now) c.cpu-cpu.result.0 c.loop-at.at c.min-until.result c.loop-at.grows c.cpu-cpu.ensures.cpu c.loop-at.invariant.from (omega arith) (omega arith) c.loop-at.invariant.seen
-          (λ n a b. shown_none ps c.cpu-cpu.result.0 n stretch.result.content (search rules) (stretch.ensures.shown n a (omega arith)));
+      seen =
+          records_new ps (as_parcel c.args.parcel.now) c.cpu-cpu.result.0 c.loop-at.at c.min-until.result
+          c.loop-at.grows c.cpu-cpu.ensures.cpu c.loop-at.invariant.from (omega arith) (omega arith)
+          c.loop-at.invariant.seen
+          (λ n a b.
+          shown_none ps c.cpu-cpu.result.0 n stretch.result.content (search rules)
+          (stretch.ensures.shown n a (omega arith)));
     }

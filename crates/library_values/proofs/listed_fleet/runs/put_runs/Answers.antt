@@ -19,7 +19,8 @@ overflow_add-count c =
 pub loop-first-preserved : goal.loop-first-preserved
 loop-first-preserved c =
     let put = c.put_run.ensures in
-    put_next c.args.out.now c.loop-first.out c.put_run.new.out c.loop-first.yielded (c.in-Some.first, c.in-Some.last) c.loop-first.count
+    put_next c.args.out.now c.loop-first.out c.put_run.new.out c.loop-first.yielded (c.in-Some.first, c.in-Some.last)
+    c.loop-first.count
     c.loop-first.invariant.0 c.loop-first.invariant.1 put.put put.past
 
 pub returns : goal.returns

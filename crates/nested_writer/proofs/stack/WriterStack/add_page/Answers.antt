@@ -13,7 +13,9 @@ use Rattle.nested_writer.proofs.stack.WriterStack.add_page.Goals as goal
 pub overflow_add-first : goal.overflow_add-first
 overflow_add-first c =
     let fills = c.self.invariant.fills in
-    let fits = stands_fits (stack_of c.self.inside) (subst IsReachedStack (sym c.self.view_is) c.requires.stack) (omega arith) in
+    let fits =
+    stands_fits (stack_of c.self.inside) (subst IsReachedStack (sym c.self.view_is) c.requires.stack)
+    (omega arith) in
     omega (arith, c.first_number.ensures, c.count.ensures.count)
 
 pub returns-clause-stack : goal.returns-clause-stack
@@ -22,9 +24,12 @@ returns-clause-stack c = λ start history old.
     let k : IsStack start history s = subst (IsStack start history) (sym c.self.view_is) old in
     let needs = subst (λ (x : Stack). MayAddPage x x.frames) (sym c.self.view_is) c.requires.needs in
     let size : length c.args.body ≡ s.size = c.requires.size ∙ ap (λ (x : Stack). x.size) (sym c.self.view_is) in
-    let fill : c.fill_number-fill.result.0 + 1 ≡ opened s = ap (λ (n : ℕ). n + 1) (c.fill_number-fill.ensures ∙ k.holds.tail_is.fill_is) in
-    let first : c.first_number.result.0 + c.count.result ≡ next_number s = (λ i. c.first_number.ensures i + c.count.ensures.count i) in
-    let blank : c.fresh-page.result ≡ blank_page s.size (next_number s) (opened s) = c.fresh-page.ensures.blank ∙ (λ i. blank_page (size i) (first i) (fill i)) in
+    let fill : c.fill_number-fill.result.0 + 1 ≡ opened s =
+    ap (λ (n : ℕ). n + 1) (c.fill_number-fill.ensures ∙ k.holds.tail_is.fill_is) in
+    let first : c.first_number.result.0 + c.count.result ≡ next_number s =
+    (λ i. c.first_number.ensures i + c.count.ensures.count i) in
+    let blank : c.fresh-page.result ≡ blank_page s.size (next_number s) (opened s) =
+    c.fresh-page.ensures.blank ∙ (λ i. blank_page (size i) (first i) (fill i)) in
     let added = page_may_be_added start history s c.fresh-page.result needs blank c.fresh-page.ensures.page k in
     rw (c.push.ensures, c.replace-tail.ensures.value, c.replace-tail.ensures.after, c.of.ensures) added
 

@@ -11,7 +11,9 @@ pub returns : goal.returns
 returns c =
     let s : Stack = c.args.self.now in
     let place = c.hold_plain.result.place in
-    let after : IsAllotted s s.frames (Ok (Fits place)) c.hold_plain.new.self = plain_after s c.hold_plain.new.self c.in-Some.pushed place c.in-Some.ensures c.hold_plain.ensures.reserved c.hold_plain.ensures.stack in
+    let after : IsAllotted s s.frames (Ok (Fits place)) c.hold_plain.new.self =
+    plain_after s c.hold_plain.new.self c.in-Some.pushed place c.in-Some.ensures c.hold_plain.ensures.reserved
+    c.hold_plain.ensures.stack in
     allots_place s c.hold_plain.new.self place (search rules) (search rules) (search rules) after
     (λ start history k. plain_answer start history s k c.in-Some.pushed place c.in-Some.ensures)
     (search rules) (search rules) (search rules) c.requires.stack

@@ -13,14 +13,19 @@ pub returns-in-Some-clause-wished : goal.returns-in-Some-clause-wished
 returns-in-Some-clause-wished c = λ yes start history old.
     let s : Stack = stack_of c.self.inside in
     let k : IsStack start history s = subst (IsStack start history) (sym c.self.view_is) old in
-    let frames : s.frames ≡ c.in-Some.bottom ∷ c.self.inside.below.items = ap (λ t. frames_from t c.self.inside.below.items) (sym c.get.ensures ∙ c.in-Some.is) in
-    let bottom : IsAtBottom (c.in-Some.bottom ∷ c.self.inside.below.items) = subst IsAtBottom (ap (λ (x : Stack). x.frames) (sym c.self.view_is) ∙ frames) c.requires.bottom in
+    let frames : s.frames ≡ c.in-Some.bottom ∷ c.self.inside.below.items =
+    ap (λ t. frames_from t c.self.inside.below.items) (sym c.get.ensures ∙ c.in-Some.is) in
+    let bottom : IsAtBottom (c.in-Some.bottom ∷ c.self.inside.below.items) =
+    subst IsAtBottom (ap (λ (x : Stack). x.frames) (sym c.self.view_is) ∙ frames) c.requires.bottom in
     let some : s.tail.bytes ≢ [] = λ none. c.if-end-eq0.false (c.end.ensures ∙ ap length none) in
-    rw c.put.ensures (asked_at start history s c.in-Some.bottom c.self.inside.below.items c.opened-opened.result (c.opened-opened.ensures.begun ∙ ap opened (sym c.self.view_is)) frames bottom some k)
+    rw c.put.ensures
+    (asked_at start history s c.in-Some.bottom c.self.inside.below.items c.opened-opened.result
+    (c.opened-opened.ensures.begun ∙ ap opened (sym c.self.view_is)) frames bottom some k)
 
 pub returns-then-end-eq0-clause-holds_record : goal.returns-then-end-eq0-clause-holds_record
 returns-then-end-eq0-clause-holds_record c = λ start history k.
-    none_to_close start history c.args.self.now k (ap (λ (s : Stack). length s.tail.bytes) (sym c.self.view_is) ∙ sym c.end.ensures ∙ c.if-end-eq0.true)
+    none_to_close start history c.args.self.now k
+    (ap (λ (s : Stack). length s.tail.bytes) (sym c.self.view_is) ∙ sym c.end.ensures ∙ c.if-end-eq0.true)
 
 pub returns-in-Some-clause-holds_record : goal.returns-in-Some-clause-holds_record
 returns-in-Some-clause-holds_record c = λ start history old.

@@ -10,4 +10,5 @@ returns c =
     let room = c.self.invariant.plain_room in
     let low : c.args.len ≤ size - 12 = omega (arith, c.if-len-self.false, c.ranges.len.fits) in
     let fits = surely_fits size c.args.len c.self.invariant.small low in
-    begins c.args.moment c.args.len c.args.self.now _ (search rules) (search (rules, fits)) (search rules) (search rules)
+    begins c.args.moment c.args.len c.args.self.now _ (search rules) (search (rules, fits)) (search rules)
+    (search rules)

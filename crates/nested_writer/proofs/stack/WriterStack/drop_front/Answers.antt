@@ -15,7 +15,8 @@ returns-clause-stack c = λ start h old.
     let s : Stack = stack_of c.self.inside in
     let k : IsStack start h s = subst (IsStack start h) (sym c.self.view_is) old in
     let bottom = subst (λ (x : Stack). IsAtBottom x.frames) (sym c.self.view_is) c.requires.bottom in
-    let older : s.older ≡ c.in-Some.page ∷ c.pop.new.self.pages = c.pop.ensures.pages ∙ ap (λ (o : Option Contents). option_to_list o ++ c.pop.new.self.pages) c.in-Some.is in
+    let older : s.older ≡ c.in-Some.page ∷ c.pop.new.self.pages =
+    c.pop.ensures.pages ∙ ap (λ (o : Option Contents). option_to_list o ++ c.pop.new.self.pages) c.in-Some.is in
     released start h s c.in-Some.page c.pop.new.self.pages _ older refl bottom k
 
 pub returns-clause-written : goal.returns-clause-written

@@ -21,12 +21,22 @@ returns c =
     let top : Frame = c.in-Some.top in
     let below : List Frame = c.self.inside.below.items in
     let after : Stack = c.leave.new.self in
-    let frames : s.frames ≡ top ∷ below = ap (λ (x : Stack). x.frames) (sym c.self.view_is) ∙ ap (λ (t : Option Frame). frames_from t below) (sym c.get.ensures ∙ c.in-Some.is) in
+    let frames : s.frames ≡ top ∷ below =
+    ap (λ (x : Stack). x.frames) (sym c.self.view_is)
+    ∙ ap (λ (t : Option Frame). frames_from t below) (sym c.get.ensures ∙ c.in-Some.is) in
     let is = c.leave.ensures.after top below frames in
-    let may : MayEnd top.progress = ⊎_elim (λ (noted, has). subst MayEnd (sym has) tt) (λ (slot, has). subst MayEnd (sym has) tt) c.in-Through.is in
+    let may : MayEnd top.progress =
+    ⊎_elim (λ (noted, has). subst MayEnd (sym has) tt) (λ (slot, has). subst MayEnd (sym has) tt) c.in-Through.is in
     let left : HasEnded s top.progress after = ⊎_elim
-    (λ (noted, has). subst (λ (p : Progress). HasEnded s p after) (sym has) (λ start h k. subst (IsStack start (h ++ leave None ∷ [])) (sym is) (left_none start h s top below frames (ap state_of has) k)))
-    (λ (slot, has). subst (λ (p : Progress). HasEnded s p after) (sym has) (λ page there start h k. subst (IsStack start _) (sym is) (ended start h s top below slot page frames has there k)))
+    (λ (noted, has).
+    subst (λ (p : Progress). HasEnded s p after) (sym has)
+    (λ start h k.
+    subst (IsStack start (h ++ leave None ∷ [])) (sym is)
+    (left_none start h s top below frames (ap state_of has) k)))
+    (λ (slot, has).
+    subst (λ (p : Progress). HasEnded s p after) (sym has)
+    (λ page there start h k.
+    subst (IsStack start _) (sym is) (ended start h s top below slot page frames has there k)))
     c.in-Through.is in
     let test = c.is_empty.ensures ∙ ap (λ (n : ℕ). n == 0) c.self.inside.below.ok.0 in
     let pending : c.if-is_empty.ended ≡ Pending → below ≡ [] → ⊥ = elim c.if-is_empty.branch [

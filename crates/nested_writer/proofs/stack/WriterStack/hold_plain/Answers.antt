@@ -19,11 +19,14 @@ use Rattle.nested_writer.proofs.stack.WriterStack.hold_plain.Goals as goal
 pub overflow_add-number : goal.overflow_add-number
 overflow_add-number c =
     let fills = c.self.invariant.fills in
-    let fits = stands_fits (stack_of c.self.inside) (subst IsReachedStack (sym c.self.view_is) c.requires.stack) (omega arith) in
+    let fits =
+    stands_fits (stack_of c.self.inside) (subst IsReachedStack (sym c.self.view_is) c.requires.stack)
+    (omega arith) in
     omega (arith, c.first_number.ensures, c.count.ensures.count)
 
 pub put_plain-place-requires-clause-last : goal.put_plain-place-requires-clause-last
-put_plain-place-requires-clause-last c = stands_ends_at (stack_of c.self.inside) (subst IsReachedStack (sym c.self.view_is) c.requires.stack)
+put_plain-place-requires-clause-last c =
+    stands_ends_at (stack_of c.self.inside) (subst IsReachedStack (sym c.self.view_is) c.requires.stack)
 
 abbrev waits_of : Pushed → Frame
 waits_of pushed = record { purpose = Record pushed.moment pushed.len; progress = Waiting None }
@@ -33,20 +36,41 @@ plain : (c : goal.After-hold) → IsPlainTop (stack_of c.self.inside) c.args.pus
 plain c = subst (λ (x : Stack). IsPlainTop x c.args.pushed) (sym c.self.view_is) c.requires.plain
 
 abbrev slot_of : goal.After-hold → Slot
-slot_of c = record { number = c.first_number.result.0 + c.count.result; fill = c.fill_number-fill.result.0; place = c.put_plain-place.result }
+slot_of c =
+    record {
+      number = c.first_number.result.0 + c.count.result;
+      fill = c.fill_number-fill.result.0;
+      place = c.put_plain-place.result;
+    }
 
 abbrev after : goal.After-hold → Stack
-after c = plain_put (stack_of c.self.inside) c.args.pushed (plain c) c.put_plain-place.new.self.page c.put_plain-place.result (slot_of c).number (slot_of c).fill
+after c =
+    plain_put (stack_of c.self.inside) c.args.pushed (plain c) c.put_plain-place.new.self.page c.put_plain-place.result
+    (slot_of c).number (slot_of c).fill
 
-found : (c : goal.After-hold) → (c.self.inside.top ≡ Some (waits_of c.args.pushed)) × (c.self.inside.below.items ≡ (plain c).below)
-found c = top_is c.self.inside.top c.self.inside.below.items (waits_of c.args.pushed) (plain c).below c.self.invariant.top_first (plain c).on_top
+found : (c : goal.After-hold)
+    → (c.self.inside.top ≡ Some (waits_of c.args.pushed)) × (c.self.inside.below.items ≡ (plain c).below)
+found c =
+    top_is c.self.inside.top c.self.inside.below.items (waits_of c.args.pushed) (plain c).below
+    c.self.invariant.top_first (plain c).on_top
 
 -- the fields show the stack with the record put
 abbrev shown_after : goal.After-hold → Stack
-shown_after c = record (stack_of c.self.inside) { tail = c.put_plain-place.new.self.page; frames = frames_from c.hold.new.self c.self.inside.below.items; last_moment = c.args.pushed.moment }
+shown_after c =
+    record (stack_of c.self.inside) {
+      tail = c.put_plain-place.new.self.page;
+      frames = frames_from c.hold.new.self c.self.inside.below.items;
+      last_moment = c.args.pushed.moment;
+    }
 
 reported : (c : goal.After-hold) → shown_after c ≡ after c
-reported c = let held = c.hold.ensures (waits_of c.args.pushed) (found c).0 in λ i. record (stack_of c.self.inside) { tail = c.put_plain-place.new.self.page; frames = frames_from (held i) ((found c).1 i); last_moment = c.args.pushed.moment }
+reported c = let held = c.hold.ensures (waits_of c.args.pushed) (found c).0 in
+    λ i.
+    record (stack_of c.self.inside) {
+      tail = c.put_plain-place.new.self.page;
+      frames = frames_from (held i) ((found c).1 i);
+      last_moment = c.args.pushed.moment;
+    }
 
 number_is : (c : goal.After-hold) → (slot_of c).number ≡ next_number (stack_of c.self.inside)
 number_is c = omega (arith, c.first_number.ensures, c.count.ensures.count)
@@ -61,18 +85,26 @@ acts : (c : goal.After-hold) → HasEvents (stack_of c.self.inside) (reserve ∷
 acts c =
     let s : Stack = stack_of c.self.inside in
     let put = c.put_plain-place.ensures in
-    plain_has_events s c.args.pushed (plain c) c.put_plain-place.new.self.page c.put_plain-place.result (slot_of c).number (slot_of c).fill (number_is c) (fill_is c) (assumption put)
+    plain_has_events s c.args.pushed (plain c) c.put_plain-place.new.self.page c.put_plain-place.result
+    (slot_of c).number (slot_of c).fill (number_is c) (fill_is c) (assumption put)
 
 pub returns-clause-reserved : goal.returns-clause-reserved
 returns-clause-reserved c = λ top below on_top.
     let s : Stack = stack_of c.self.inside in
     let put = c.put_plain-place.ensures in
-    let reserved = plain_reserved s c.args.pushed (plain c) c.put_plain-place.new.self.page c.put_plain-place.result (slot_of c).number (slot_of c).fill (number_is c) (fill_is c) put.bytes put.end put.len_is in
-    subst (λ (x : Stack). ReservesRecord x top below c.args.pushed.moment c.args.pushed.len c.put_plain-place.result (shown_after c)) c.self.view_is
-    (subst (ReservesRecord s top below c.args.pushed.moment c.args.pushed.len c.put_plain-place.result) (sym (reported c)) (reserved top below (ap (λ (x : Stack). x.frames) c.self.view_is ∙ on_top)))
+    let reserved =
+    plain_reserved s c.args.pushed (plain c) c.put_plain-place.new.self.page c.put_plain-place.result
+    (slot_of c).number (slot_of c).fill (number_is c) (fill_is c) put.bytes put.end put.len_is in
+    subst
+    (λ (x : Stack).
+    ReservesRecord x top below c.args.pushed.moment c.args.pushed.len c.put_plain-place.result (shown_after c))
+    c.self.view_is
+    (subst (ReservesRecord s top below c.args.pushed.moment c.args.pushed.len c.put_plain-place.result)
+    (sym (reported c)) (reserved top below (ap (λ (x : Stack). x.frames) c.self.view_is ∙ on_top)))
 
 pub returns-clause-stack : goal.returns-clause-stack
-returns-clause-stack c = λ start history k. rw (reported c) (acts c start history (subst (IsStack start history) (sym c.self.view_is) k))
+returns-clause-stack c =
+    λ start history k. rw (reported c) (acts c start history (subst (IsStack start history) (sym c.self.view_is) k))
 
 pub returns-clause-slot : goal.returns-clause-slot
 returns-clause-slot c = rw (c.hold.ensures (waits_of c.args.pushed) (found c).0) refl

@@ -9,5 +9,8 @@ use Rattle.nested_writer.proofs.stack.WriterStack.resting_tail.Goals as goal
 pub returns-clause-rests : goal.returns-clause-rests
 returns-clause-rests c = λ start history k.
     let s = c.args.self.now in
-    rw c.page.ensures (subst (λ (t : Stack). IsRestingTail s.size s.done (fill_of history start s.done) history t.tail) (sym c.self.view_is)
-    (tail_rests start history s c.requires.none (only_tail c.self.inside s c.self.view_is c.self.invariant.at_rest c.requires.none) k))
+    rw c.page.ensures
+    (subst (λ (t : Stack). IsRestingTail s.size s.done (fill_of history start s.done) history t.tail)
+    (sym c.self.view_is)
+    (tail_rests start history s c.requires.none
+    (only_tail c.self.inside s c.self.view_is c.self.invariant.at_rest c.requires.none) k))

@@ -33,7 +33,9 @@ returns c =
         len =
             let there = ap length c.slice_mut.ensures.value in
             let behind = length-drop (48 + start) slot.items in
-            let part = length-take-le (48 + start + len - (48 + start)) (drop (48 + start) slot.items) (omega (arith, c.requires)) in
+            let part =
+            length-take-le (48 + start + len - (48 + start)) (drop (48 + start) slot.items)
+            (omega (arith, c.requires)) in
             omega arith;
       },
     )

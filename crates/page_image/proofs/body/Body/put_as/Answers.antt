@@ -40,11 +40,24 @@ returns-clause-put c =
     let new = c.put_behind_as-place.new.body in
     let long = slot_len_is slot.items c.args.self.now c.self.view_is c.self.invariant.0 in
     let items_are : (with_items slot new).items ≡ new = with_items_is slot new (omega arith) in
-    let put = subst (λ (was : List ℕ). PutsBehind was new (48 + c.args.end) c.args.delta c.args.first c.args.len (replicate (slot_len c.args.len) 0) c.put_behind_as-place.result) c.deref_mut.ensures.value c.put_behind_as-place.ensures in
-    let place : Place = record { start = c.put_behind_as-place.result.start - 48; len = c.put_behind_as-place.result.len } in
-    subst (λ (was : List ℕ). PutsBehind was (drop 48 (with_items slot new).items) c.args.end c.args.delta c.args.first c.args.len (replicate (slot_len c.args.len) 0) place) c.self.view_is
-    (subst (λ (is : List ℕ). PutsBehind (drop 48 slot.items) (drop 48 is) c.args.end c.args.delta c.args.first c.args.len (replicate (slot_len c.args.len) 0) place) (sym items_are)
-    (puts_in_data slot.items new c.args.end c.args.delta c.args.first c.args.len (replicate (slot_len c.args.len) 0) c.put_behind_as-place.result (omega (arith, c.requires.fits.room)) put))
+    let put =
+    subst
+    (λ (was : List ℕ).
+    PutsBehind was new (48 + c.args.end) c.args.delta c.args.first c.args.len
+    (replicate (slot_len c.args.len) 0) c.put_behind_as-place.result) c.deref_mut.ensures.value
+    c.put_behind_as-place.ensures in
+    let place : Place =
+    record { start = c.put_behind_as-place.result.start - 48; len = c.put_behind_as-place.result.len } in
+    subst
+    (λ (was : List ℕ).
+    PutsBehind was (drop 48 (with_items slot new).items) c.args.end c.args.delta c.args.first c.args.len
+    (replicate (slot_len c.args.len) 0) place) c.self.view_is
+    (subst
+    (λ (is : List ℕ).
+    PutsBehind (drop 48 slot.items) (drop 48 is) c.args.end c.args.delta c.args.first c.args.len
+    (replicate (slot_len c.args.len) 0) place) (sym items_are)
+    (puts_in_data slot.items new c.args.end c.args.delta c.args.first c.args.len (replicate (slot_len c.args.len) 0)
+    c.put_behind_as-place.result (omega (arith, c.requires.fits.room)) put))
 
 pub returns-clause-size : goal.returns-clause-size
 returns-clause-size c =
@@ -52,4 +65,5 @@ returns-clause-size c =
     let new = c.put_behind_as-place.new.body in
     let items_are : (with_items slot new).items ≡ new = with_items_is slot new (omega arith) in
     let same : length new ≡ length slot.items = omega (arith, slot.ok.0) in
-    ap (λ (is : List ℕ). length (drop 48 is)) items_are ∙ length-drop 48 new ∙ ap (λ (n : ℕ). n - 48) same ∙ sym (length-drop 48 slot.items) ∙ ap length c.self.view_is
+    ap (λ (is : List ℕ). length (drop 48 is)) items_are ∙ length-drop 48 new ∙ ap (λ (n : ℕ). n - 48) same
+    ∙ sym (length-drop 48 slot.items) ∙ ap length c.self.view_is

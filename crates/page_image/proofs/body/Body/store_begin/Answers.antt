@@ -10,5 +10,6 @@ returns-clause-limit c =
     let items_are : (with_items slot new).items ≡ new = with_items_is slot new (omega arith) in
     let long : length new ≡ length slot.items = omega (arith, slot.ok.0) in
     let limit = c.self.invariant.1 in
-    let size : length (drop 48 (with_items slot new).items) ≡ length new - 48 = ap (λ (is : List ℕ). length (drop 48 is)) items_are ∙ length-drop 48 new in
+    let size : length (drop 48 (with_items slot new).items) ≡ length new - 48 =
+    ap (λ (is : List ℕ). length (drop 48 is)) items_are ∙ length-drop 48 new in
     omega arith

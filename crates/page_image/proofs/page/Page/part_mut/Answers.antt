@@ -22,7 +22,9 @@ returns c =
       ),
       record {
         lends = tt;
-        part = c.part_mut.ensures.part ∙ range_within v.body v.end c.args.place.start c.args.place.len (omega (arith, c.requires));
+        part =
+            c.part_mut.ensures.part
+            ∙ range_within v.body v.end c.args.place.start c.args.place.len (omega (arith, c.requires));
         len = c.part_mut.ensures.len;
       },
     )

@@ -18,12 +18,14 @@ returns c =
         len = part_is.len;
         written = λ part fills. payload_written page start _ part c.requires fills;
         stays = record {
-          length_stays = λ part fills. (payload_written page start _ part c.requires (fills ∙ part_is.len)).length_stays;
+          length_stays =
+              λ part fills. (payload_written page start _ part c.requires (fills ∙ part_is.len)).length_stays;
           blank_stays = λ part fills. (payload_written page start _ part c.requires (fills ∙ part_is.len)).blank_stays;
           page_reads = λ part fills. (payload_written page start _ part c.requires (fills ∙ part_is.len)).page_reads;
           open_stays = λ part fills. (payload_written page start _ part c.requires (fills ∙ part_is.len)).open_stays;
           last_stays = λ part fills. (payload_written page start _ part c.requires (fills ∙ part_is.len)).last_stays;
-          payloads_stay = λ part fills. (payload_written page start _ part c.requires (fills ∙ part_is.len)).payloads_stay;
+          payloads_stay =
+              λ part fills. (payload_written page start _ part c.requires (fills ∙ part_is.len)).payloads_stay;
         };
       },
     )

@@ -7,4 +7,6 @@ use Rattle.page_numbers.proofs.parcel.Parcel.checked.Goals as goal
 pub returns-in_err-check_numbers-clause-refused : goal.returns-in_err-check_numbers-clause-refused
 returns-in_err-check_numbers-clause-refused c =
     let p = err_from_is_err_and c.from_residual.result c.from_residual.ensures.1 in
-    rw (p.1, p.2) (c.in_err-check_numbers.ensures.refused (parcel_of_page c.args.cpu.0 c.args.page c.args.missed) none (omega arith) (sym c.first.ensures) (search rules) refl).0
+    rw (p.1, p.2)
+    (c.in_err-check_numbers.ensures.refused (parcel_of_page c.args.cpu.0 c.args.page c.args.missed) none
+    (omega arith) (sym c.first.ensures) (search rules) refl).0

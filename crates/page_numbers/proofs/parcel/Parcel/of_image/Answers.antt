@@ -10,4 +10,6 @@ returns-in_err-check_numbers-clause-refused c =
     let p = err_from_is_err_and c.from_residual.result c.from_residual.ensures.1 in
     let outline = c.args.outline in
     let page = page_under (page_in c.args.image.now outline.time outline.size) c.args.numbers in
-    rw (p.1, p.2) (c.in_err-check_numbers.ensures.refused (parcel_of_page c.args.cpu.0 page c.args.numbers.missed) (missed_of outline.missed) c.requires.cpu refl (sym c.requires.outline.counted) refl).1
+    rw (p.1, p.2)
+    (c.in_err-check_numbers.ensures.refused (parcel_of_page c.args.cpu.0 page c.args.numbers.missed)
+    (missed_of outline.missed) c.requires.cpu refl (sym c.requires.outline.counted) refl).1

@@ -11,4 +11,6 @@ returns-clause-fits c =
     let missed = c.self.inside.missed in
     subst (λ (p : ParcelValue). length p.page.bytes ≤ p.page.size) c.self.view_is
     (contents_fit page.time page.bytes missed page.size
-    (sym (ap length (c.in_ok-image.ensures.image ∙ ap (λ (p : Contents). image_of p.time p.bytes missed p.size) c.deref.ensures)) ∙ c.in_ok-image.ensures.size ∙ ap (λ (p : Contents). 16 + p.size) c.deref.ensures))
+    (sym (ap length
+    (c.in_ok-image.ensures.image ∙ ap (λ (p : Contents). image_of p.time p.bytes missed p.size) c.deref.ensures))
+    ∙ c.in_ok-image.ensures.size ∙ ap (λ (p : Contents). 16 + p.size) c.deref.ensures))

@@ -2,13 +2,16 @@ use Rattle.std.proofs.Common.{rules}
 use Rattle.reader_thread.proofs.PagesFound.{page_parcels, none_parcels, page_found, none_found, put_off}
 use Rattle.reader_thread.proofs.TakesMore.{page_more, none_more, moving_more}
 use Rattle.reader_thread.proofs.end.ReaderEnd.take.Goals as goal
-use Rattle.reader_thread.proofs.end.ReaderEnd.take.Goals.{in-Page+in_ok-fitted-in-Page+in_ok-push-in-Page, in-Empty, in-Moving}
+use Rattle.reader_thread.proofs.end.ReaderEnd.take.Goals.{in-Page+in_ok-fitted-in-Page+in_ok-push-in-Page, in-Empty}
+use Rattle.reader_thread.proofs.end.ReaderEnd.take.Goals.{in-Moving}
 
 pub returns-clause-found : goal.returns-clause-found
 returns-clause-found c =
     elim c.match-take.branch [
-      | in-Page+in_ok-fitted-in-Page+in_ok-push-in-Page w ↦ rw (w.body-is, w.taken-is, ← c.self.view_is) (page_found _ _ w.in-Page.page w.in-Page.missed
-          (search (rules, w.in-Page.ensures.steps)) (search rules) (search rules) (search rules) (w.into_body.result, search rules))
+      | in-Page+in_ok-fitted-in-Page+in_ok-push-in-Page w ↦ rw (w.body-is, w.taken-is, ← c.self.view_is)
+          (page_found _ _ w.in-Page.page w.in-Page.missed
+          (search (rules, w.in-Page.ensures.steps)) (search rules) (search rules) (search rules)
+          (w.into_body.result, search rules))
       | in-Empty w ↦ rw (w.body-is, w.taken-is, ← c.self.view_is) (none_found _ _ w.in-Empty.field-0 w.in-Empty.body
           (search (rules, w.in-Empty.ensures.steps)) (search rules) (search rules) (search rules) (search rules))
       | in-Moving w ↦ rw (w.body-is, w.taken-is, ← c.self.view_is) (put_off _ _ w.in-Moving.field-0 w.in-Moving.body
@@ -30,7 +33,8 @@ invariant_of-result c = record {
   ];
   takes = elim c.match-take.branch [
     | in-Page+in_ok-fitted-in-Page+in_ok-push-in-Page w ↦
-        page_more _ _ w.in-Page.page w.in-Page.missed _ c.self.invariant.takes w.in-Page.ensures.steps w.in-Page.ensures.took
+        page_more _ _ w.in-Page.page w.in-Page.missed _ c.self.invariant.takes w.in-Page.ensures.steps
+        w.in-Page.ensures.took
     | in-Empty w ↦
         none_more _ _ w.in-Empty.field-0 w.in-Empty.body _ c.self.invariant.takes w.in-Empty.ensures.steps
         w.in-Empty.ensures.took.1.nothing.taken_is

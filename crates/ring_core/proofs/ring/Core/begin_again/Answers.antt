@@ -21,5 +21,9 @@ begin_again-requires-clause-passed c =
 pub returns-clause-makes : goal.returns-clause-makes
 returns-clause-makes c =
     let (noted, is, passed, own) = subst IsLate (sym c.self.view_is) c.requires.late in
-    subst (λ (x : CoreValue). MakesStep x steps (as_answer c.begin_again.result) (core_of record c.self.inside { frames = c.begin_again.new.self })) c.self.view_is
-    (made_privately (core_of c.self.inside) steps (as_answer c.begin_again.result) c.begin_again.new.self (c.begin_again.ensures.late own))
+    subst
+    (λ (x : CoreValue).
+    MakesStep x steps (as_answer c.begin_again.result)
+    (core_of record c.self.inside { frames = c.begin_again.new.self })) c.self.view_is
+    (made_privately (core_of c.self.inside) steps (as_answer c.begin_again.result) c.begin_again.new.self
+    (c.begin_again.ensures.late own))

@@ -12,9 +12,14 @@ returns-in-Push c = record {
   step = search rules;
   given_back = search rules;
   payloads = search rules;
-  zeros = unreserved c.args.self.now c.push.new.self _ c.push.result (λ e. cc) (λ e. cc) c.requires.ring c.push.ensures.makes;
-  lens = subst (λ (event : Event). StepsLens event c.push.result c.args.self.now.stack c.push.new.self.stack) (sym c.in-Push.is)
-      (pushes_lens c.args.self.now c.push.new.self c.push.result c.requires.ring c.in-Push.moment c.in-Push.len c.push.ensures.makes);
+  zeros =
+      unreserved c.args.self.now c.push.new.self _ c.push.result (λ e. cc) (λ e. cc) c.requires.ring
+      c.push.ensures.makes;
+  lens =
+      subst (λ (event : Event). StepsLens event c.push.result c.args.self.now.stack c.push.new.self.stack)
+      (sym c.in-Push.is)
+      (pushes_lens c.args.self.now c.push.new.self c.push.result c.requires.ring c.in-Push.moment c.in-Push.len
+      c.push.ensures.makes);
 }
 
 pub returns-in-PushClose : goal.returns-in-PushClose
@@ -23,9 +28,14 @@ returns-in-PushClose c = record {
   step = search rules;
   given_back = search rules;
   payloads = search rules;
-  zeros = unreserved c.args.self.now c.push_close.new.self _ c.push_close.result (λ e. cc) (λ e. cc) c.requires.ring c.push_close.ensures.makes;
-  lens = subst (λ (event : Event). StepsLens event c.push_close.result c.args.self.now.stack c.push_close.new.self.stack) (sym c.in-PushClose.is)
-      (pushes_none c.args.self.now c.push_close.new.self c.push_close.result c.requires.ring c.push_close.ensures.makes);
+  zeros =
+      unreserved c.args.self.now c.push_close.new.self _ c.push_close.result (λ e. cc) (λ e. cc) c.requires.ring
+      c.push_close.ensures.makes;
+  lens =
+      subst (λ (event : Event). StepsLens event c.push_close.result c.args.self.now.stack c.push_close.new.self.stack)
+      (sym c.in-PushClose.is)
+      (pushes_none c.args.self.now c.push_close.new.self c.push_close.result
+      c.requires.ring c.push_close.ensures.makes);
 }
 
 pub returns-in-End : goal.returns-in-End
@@ -34,8 +44,11 @@ returns-in-End c = record {
   step = search rules;
   given_back = search rules;
   payloads = search rules;
-  zeros = unreserved c.args.self.now c.end.new.self _ c.end.result (λ e. cc) (λ e. cc) c.requires.ring c.end.ensures.makes;
-  lens = subst (λ (event : Event). StepsLens event c.end.result c.args.self.now.stack c.end.new.self.stack) (sym c.in-End.is)
+  zeros =
+      unreserved c.args.self.now c.end.new.self _ c.end.result (λ e. cc) (λ e. cc) c.requires.ring c.end.ensures.makes;
+  lens =
+      subst (λ (event : Event). StepsLens event c.end.result c.args.self.now.stack c.end.new.self.stack)
+      (sym c.in-End.is)
       (ends_lens c.args.self.now c.end.new.self c.end.result c.requires.ring _ c.end.ensures.makes);
 }
 
@@ -46,6 +59,8 @@ returns-in-Step c = record {
   given_back = search rules;
   payloads = search rules;
   zeros = search rules;
-  lens = subst (λ (event : Event). StepsLens event c.step_top.result c.args.self.now.stack c.step_top.new.self.stack) (sym c.in-Step.is)
+  lens =
+      subst (λ (event : Event). StepsLens event c.step_top.result c.args.self.now.stack c.step_top.new.self.stack)
+      (sym c.in-Step.is)
       (keeps_lens c.args.self.now c.step_top.new.self c.step_top.result c.requires.ring c.step_top.ensures.makes);
 }

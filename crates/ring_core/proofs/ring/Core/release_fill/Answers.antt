@@ -19,8 +19,12 @@ unfolding IsReachedCore
 index_mut-requires c =
     let v : CoreValue = core_of c.self.inside in
     let (n, size, start, m, core) = subst IsReachedCore (sym c.self.view_is) c.requires.ring in
-    let at = c.page_at-page.ensures ∙ ap (λ (x : CoreValue). page_at (length x.links) x.order c.done.result) (sym c.self.view_is) in
-    let low = page_has_home n size start v m c.page_at-page.result c.done.result core (homes_in c.self.inside c.self.invariant) at in
+    let at =
+    c.page_at-page.ensures
+    ∙ ap (λ (x : CoreValue). page_at (length x.links) x.order c.done.result) (sym c.self.view_is) in
+    let low =
+    page_has_home n size start v m c.page_at-page.result c.done.result core
+    (homes_in c.self.inside c.self.invariant) at in
     omega (arith, low, c.self.inside.homes.ok.0)
 
 pub returns-clause-makes : goal.returns-clause-makes
@@ -30,6 +34,8 @@ returns-clause-makes c = λ n size start m old.
     released n size start v m core c.release_fill.new.self c.release_fill.result c.page_at-page.result
     record {
       homes = homes_in c.self.inside c.self.invariant;
-      at_is = c.page_at-page.ensures ∙ (λ i. page_at (length (sym c.self.view_is i).links) (sym c.self.view_is i).order (c.done.ensures i));
+      at_is =
+          c.page_at-page.ensures
+          ∙ (λ i. page_at (length (sym c.self.view_is i).links) (sym c.self.view_is i).order (c.done.ensures i));
     }
     (c.release_fill.ensures.releases n size start m core.reached core.shows.frames)

@@ -14,8 +14,14 @@ reserve-requires-clause-frames c =
     (n, size, start, m, record { reached = core.reached; are = core.shows.frames })
 
 pub returns-clause-makes : goal.returns-clause-makes
-returns-clause-makes c = subst (λ (x : CoreValue). MakesStep x steps c.reserve.result (core_of record c.self.inside { frames = c.reserve.new.self })) c.self.view_is
+returns-clause-makes c =
+    subst
+    (λ (x : CoreValue).
+    MakesStep x steps c.reserve.result (core_of record c.self.inside { frames = c.reserve.new.self }))
+    c.self.view_is
     (made_privately (core_of c.self.inside) steps c.reserve.result c.reserve.new.self c.reserve.ensures.step)
 
 pub returns-clause-zeros : goal.returns-clause-zeros
-returns-clause-zeros c = subst (λ (x : CoreValue). ZerosSlot x.stack c.reserve.result c.reserve.new.self.stack) c.self.view_is c.reserve.ensures.zeros
+returns-clause-zeros c =
+    subst (λ (x : CoreValue). ZerosSlot x.stack c.reserve.result c.reserve.new.self.stack) c.self.view_is
+    c.reserve.ensures.zeros

@@ -31,14 +31,38 @@ returns c =
       record {
         lends = tt;
         slot = subst (λ (x : CoreValue). LendsSlot x.stack c.top_mut.result) c.self.view_is lends.slot;
-        long = subst (λ (x : CoreValue). IfOk c.top_mut.result (λ (p : MutBor Lent). FitsTop (lens x.stack) (length (lent_bytes p.now)))) c.self.view_is lends.long;
-        unwritten = subst (λ (x : CoreValue). IfOk c.top_mut.result (λ (p : MutBor Lent). with_lent x p.now ≡ x)) c.self.view_is
-            (IfOk-weaker c.top_mut.result _ _ (λ p same. ap (λ (f : FramesValue). record v { stack = f.stack }) same) lends.unwritten);
-        ring = subst (λ (x : CoreValue). IfOk c.top_mut.result (λ (p : MutBor Lent). (part : List ℕ) → length part ≡ length (lent_bytes p.now) → IsReachedCore (with_lent x (with_bytes p.now part)))) c.self.view_is
-            (IfOk-weaker c.top_mut.result _ _ (λ p lent part long. (n, size, start, s, lent_stays n size start v s p.now part core lent (lends.stays lent.slot lent.on_top) long)) lends.slot.lent);
-        fits = subst (λ (x : CoreValue). (slot : Slot) → IsTopSlot x.stack.frames slot → FitsFrame x slot) c.self.view_is
-            (λ slot is n' size' start' s' frame below moment long core' top kind. lends.fits slot is n' size' start' s' frame below moment long core'.shows.frames top kind);
+        long =
+            subst
+            (λ (x : CoreValue).
+            IfOk c.top_mut.result (λ (p : MutBor Lent). FitsTop (lens x.stack) (length (lent_bytes p.now))))
+            c.self.view_is lends.long;
+        unwritten =
+            subst (λ (x : CoreValue). IfOk c.top_mut.result (λ (p : MutBor Lent). with_lent x p.now ≡ x)) c.self.view_is
+            (IfOk-weaker c.top_mut.result _ _ (λ p same. ap (λ (f : FramesValue). record v { stack = f.stack }) same)
+            lends.unwritten);
+        ring =
+            subst
+            (λ (x : CoreValue).
+            IfOk c.top_mut.result
+            (λ (p : MutBor Lent).
+            (part : List ℕ) → length part ≡ length (lent_bytes p.now)
+            → IsReachedCore (with_lent x (with_bytes p.now part)))) c.self.view_is
+            (IfOk-weaker c.top_mut.result _ _
+            (λ p lent part long. (
+              n,
+              size,
+              start,
+              s,
+              lent_stays n size start v s p.now part core lent (lends.stays lent.slot lent.on_top) long,
+            ))
+            lends.slot.lent);
+        fits =
+            subst (λ (x : CoreValue). (slot : Slot) → IsTopSlot x.stack.frames slot → FitsFrame x slot) c.self.view_is
+            (λ slot is n' size' start' s' frame below moment long core' top kind.
+            lends.fits slot is n' size' start' s' frame below moment long core'.shows.frames top kind);
         stays = subst (λ (x : CoreValue). (slot : Slot) → IsTopSlot x.stack.frames slot → StaysRing x) c.self.view_is
-            (λ slot is n' size' start' s' part core' long. top_stays n' size' start' v s' slot part core' is (lends.stays slot is) (long ∙ top_long n size start (frames_of v) s core.shows.frames slot is));
+            (λ slot is n' size' start' s' part core' long.
+            top_stays n' size' start' v s' slot part core' is (lends.stays slot is)
+            (long ∙ top_long n size start (frames_of v) s core.shows.frames slot is));
       },
     )

@@ -11,4 +11,6 @@ returns-clause-goes_on c = λ noted is.
     let v : FramesValue = frames_in c.self.inside in
     rw c.set.ensures
     (subst (λ (x : FramesValue). GoesOnIn x c.args.phase (record v { phase = c.args.phase })) c.self.view_is
-    (goes_on v c.args.phase noted (subst (λ (p : Phase). IsNotedIn p c.args.phase noted) (sym (ap (λ (x : FramesValue). x.phase) c.self.view_is)) is)))
+    (goes_on v c.args.phase noted
+    (subst (λ (p : Phase). IsNotedIn p c.args.phase noted) (sym (ap (λ (x : FramesValue). x.phase) c.self.view_is))
+    is)))

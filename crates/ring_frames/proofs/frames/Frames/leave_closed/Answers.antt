@@ -26,24 +26,29 @@ end_close-requires-clause-stack c =
     let v : FramesValue = frames_in c.self.inside in
     let (n, size, start, s, k) = subst AreSomeFrames (sym c.self.view_is) c.requires.shown in
     let (noted, top, ne) = subst HasPassed (sym c.self.view_is) c.requires.close in
-    let (fits, through) = top_fits n size start v s noted _ c.allot.new.self k top ne c.in-Ok.ensures.answered c.in-Ok.ensures.after in
+    let (fits, through) =
+    top_fits n size start v s noted _ c.allot.new.self k top ne c.in-Ok.ensures.answered c.in-Ok.ensures.after in
     (start, s.history, has_no_events start s.history v.stack c.allot.new.self through.1 k.stack_is)
 
 pub returns-clause-without : goal.returns-clause-without
 returns-clause-without c =
     let v : FramesValue = frames_in c.self.inside in
     let (noted, top, ne) = subst HasPassed (sym c.self.view_is) c.requires.close in
-    subst (λ (x : FramesValue). LeavesWithout x (as_answer c.end_close.result) c.end_close.new.self) c.self.view_is (λ n size start s frame below k model_is.
-    let (fits, through) = top_fits n size start v s noted _ c.allot.new.self k top ne c.in-Ok.ensures.answered c.in-Ok.ensures.after in
+    subst (λ (x : FramesValue). LeavesWithout x (as_answer c.end_close.result) c.end_close.new.self) c.self.view_is
+    (λ n size start s frame below k model_is.
+    let (fits, through) =
+    top_fits n size start v s noted _ c.allot.new.self k top ne c.in-Ok.ensures.answered c.in-Ok.ensures.after in
     rw (c.end_close.ensures.answer, c.end_close.ensures.phase)
-    (closed_shown n size start v s _ top.0 frame below (Some noted) c.allot.new.self c.end_close.new.self.stack k top.1 model_is refl through c.end_close.ensures.left))
+    (closed_shown n size start v s _ top.0 frame below (Some noted) c.allot.new.self c.end_close.new.self.stack k top.1
+    model_is refl through c.end_close.ensures.left))
 
 pub unreachable-requires : goal.unreachable-requires
 unreachable-requires c =
     let v : FramesValue = frames_in c.self.inside in
     let (n, size, start, s, k) = subst AreSomeFrames (sym c.self.view_is) c.requires.shown in
     let (noted, top, ne) = subst HasPassed (sym c.self.view_is) c.requires.close in
-    let (fits, through) = top_fits n size start v s noted _ c.allot.new.self k top ne c.in-Err.ensures.answered c.in-Err.ensures.after in
+    let (fits, through) =
+    top_fits n size start v s noted _ c.allot.new.self k top ne c.in-Err.ensures.answered c.in-Err.ensures.after in
     absurd (not_both c.in-Err.field-0 (Fits fits.0) fits.1)
   where
     not_both : (fault : WriteFault) (a : Allot) → ◌≡◌ {A = Result Allot WriteFault} (Err fault) (Ok a) → ⊥
@@ -54,8 +59,12 @@ returns-clause-payloads c =
     let v : FramesValue = frames_in c.self.inside in
     let (n, size, start, s, k) = subst AreSomeFrames (sym c.self.view_is) c.requires.shown in
     let (noted, top, ne) = subst HasPassed (sym c.self.view_is) c.requires.close in
-    let (fits, through) = top_fits n size start v s noted _ c.allot.new.self k top ne c.in-Ok.ensures.answered c.in-Ok.ensures.after in
+    let (fits, through) =
+    top_fits n size start v s noted _ c.allot.new.self k top ne c.in-Ok.ensures.answered c.in-Ok.ensures.after in
     subst (λ (x : FramesValue). KeepsPayloads x.stack c.end_close.new.self.stack) c.self.view_is
     (kept_then v.stack c.allot.new.self c.end_close.new.self.stack
-    (allotted_kept start s.history v.stack c.allot.new.self _ k.stack_is (c.in-Ok.ensures.answered start s.history k.stack_is) c.in-Ok.ensures.after)
-    (ended_kept c.allot.new.self c.end_close.new.self.stack c.end_close.ensures.left (through_lacks v.stack c.allot.new.self record { purpose = Close; progress = Waiting (Some noted) } top.0 noted through.0)))
+    (allotted_kept start s.history v.stack c.allot.new.self _ k.stack_is
+    (c.in-Ok.ensures.answered start s.history k.stack_is) c.in-Ok.ensures.after)
+    (ended_kept c.allot.new.self c.end_close.new.self.stack c.end_close.ensures.left
+    (through_lacks v.stack c.allot.new.self record { purpose = Close; progress = Waiting (Some noted) } top.0 noted
+    through.0)))

@@ -8,14 +8,17 @@ use Rattle.ring_frames.proofs.frames.Frames.push.Goals as goal
 
 pub returns-in-Ok-clause-step : goal.returns-in-Ok-clause-step
 returns-in-Ok-clause-step c = λ n size start s reached now.
-    let are : AreFrames n size start (frames_in c.self.inside) s = subst (λ (x : FramesValue). AreFrames n size start x s) (sym c.self.view_is) now in
+    let are : AreFrames n size start (frames_in c.self.inside) s =
+    subst (λ (x : FramesValue). AreFrames n size start x s) (sym c.self.view_is) now in
     let (few, fits, early) = c.in-Ok.ensures.begun.0 refl in
     rw (c.push_phase.ensures.pushed, c.push_phase.ensures.phase)
-    (record_pushed n size start (frames_in c.self.inside) s c.args.moment c.args.len c.begin.new.self are few fits early c.in-Ok.ensures.ok (c.in-Ok.ensures.pushed start s.history are.stack_is))
+    (record_pushed n size start (frames_in c.self.inside) s c.args.moment c.args.len c.begin.new.self are few fits early
+    c.in-Ok.ensures.ok (c.in-Ok.ensures.pushed start s.history are.stack_is))
 
 pub returns-in-Err-clause-step : goal.returns-in-Err-clause-step
 returns-in-Err-clause-step c = λ n size start s reached now.
-    let are : AreFrames n size start (frames_in c.self.inside) s = subst (λ (x : FramesValue). AreFrames n size start x s) (sym c.self.view_is) now in
+    let are : AreFrames n size start (frames_in c.self.inside) s =
+    subst (λ (x : FramesValue). AreFrames n size start x s) (sym c.self.view_is) now in
     rw c.in-Err.ensures.err
     (record_refused n size start (frames_in c.self.inside) s c.args.moment c.args.len c.in-Err.fault are
     (λ many. same_fault (c.in-Err.ensures.too_deep.1 many))
@@ -27,7 +30,10 @@ returns-in-Err-clause-step c = λ n size start s reached now.
 
 pub returns-in-Ok-clause-payloads : goal.returns-in-Ok-clause-payloads
 returns-in-Ok-clause-payloads c =
-    rw c.push_phase.ensures.phase (kept_called c.self.view_is c.begin.new.self (pushed_kept (frames_in c.self.inside).stack _ _ c.in-Ok.ensures.ok))
+    rw c.push_phase.ensures.phase
+    (kept_called c.self.view_is c.begin.new.self
+    (pushed_kept (frames_in c.self.inside).stack _ _ c.in-Ok.ensures.ok))
 
 pub returns-in-Err-clause-payloads : goal.returns-in-Err-clause-payloads
-returns-in-Err-clause-payloads c = kept_called c.self.view_is c.begin.new.self (same_stack (frames_in c.self.inside).stack _ c.in-Err.ensures.err)
+returns-in-Err-clause-payloads c =
+    kept_called c.self.view_is c.begin.new.self (same_stack (frames_in c.self.inside).stack _ c.in-Err.ensures.err)

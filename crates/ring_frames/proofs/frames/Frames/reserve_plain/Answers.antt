@@ -18,13 +18,21 @@ use Rattle.ring_frames.proofs.frames.Frames.reserve_plain.Goals as goal
 pub returns-clause-step : goal.returns-clause-step
 returns-clause-step c = λ n size start s reached now.
     let v : FramesValue = frames_in c.self.inside in
-    let core : HasFrames n size start v s = record { reached = reached; are = subst (λ (x : FramesValue). AreFrames n size start x s) (sym c.self.view_is) now } in
+    let core : HasFrames n size start v s =
+    record {
+      reached = reached;
+      are = subst (λ (x : FramesValue). AreFrames n size start x s) (sym c.self.view_is) now;
+    } in
     let plain = subst (λ (x : FramesValue). IsPlainTop x.stack c.args.pushed) (sym c.self.view_is) c.requires.plain in
     let (slot, on_top, number) = c.reserve_plain.ensures.slot in
     let (place, allotted) = c.reserve_plain.ensures.after in
     let (other, answered) = c.reserve_plain.ensures.answered start s.history core.are.stack_is in
-    subst (λ (m : ℕ). IsPrivateStep n size start s steps (Reserved record { 0 = m }) (record v { stack = c.reserve_plain.new.self })) number
-    (fits_slot n size start v s core (plain_rests n size start v s c.args.pushed core plain) _ plain.below plain.on_top place other c.reserve_plain.new.self slot answered allotted on_top)
+    subst
+    (λ (m : ℕ).
+    IsPrivateStep n size start s steps (Reserved record { 0 = m })
+    (record v { stack = c.reserve_plain.new.self })) number
+    (fits_slot n size start v s core (plain_rests n size start v s c.args.pushed core plain) _ plain.below plain.on_top
+    place other c.reserve_plain.new.self slot answered allotted on_top)
 
 pub returns-clause-payloads : goal.returns-clause-payloads
 returns-clause-payloads c =
@@ -33,7 +41,8 @@ returns-clause-payloads c =
     let (place, allotted) = c.reserve_plain.ensures.after in
     let (other, answered) = c.reserve_plain.ensures.answered start s.history core.are.stack_is in
     subst (λ (x : FramesValue). KeepsPayloads x.stack c.reserve_plain.new.self) c.self.view_is
-    (allotted_kept start s.history v.stack c.reserve_plain.new.self (Ok (Fits place)) core.are.stack_is (fits_anywhere v.stack s.history v.stack.frames other place answered) allotted)
+    (allotted_kept start s.history v.stack c.reserve_plain.new.self (Ok (Fits place)) core.are.stack_is
+    (fits_anywhere v.stack s.history v.stack.frames other place answered) allotted)
 
 pub returns-clause-zeros : goal.returns-clause-zeros
 returns-clause-zeros c = λ number slot is lacks on_top.

@@ -8,4 +8,8 @@ use Rattle.ring_frames.proofs.frames.Frames.resting_tail.Goals as goal
 
 pub returns-clause-rests : goal.returns-clause-rests
 returns-clause-rests c =
-    subst (λ (v : FramesValue). (start : ℕ) (history : List HistoryEvent) → IsStack start history v.stack → IsRestingTail v.stack.size v.stack.done (fill_of history start v.stack.done) history c.resting_tail.result.now) c.self.view_is c.resting_tail.ensures.rests
+    subst
+    (λ (v : FramesValue).
+    (start : ℕ) (history : List HistoryEvent) → IsStack start history v.stack
+    → IsRestingTail v.stack.size v.stack.done (fill_of history start v.stack.done) history
+    c.resting_tail.result.now) c.self.view_is c.resting_tail.ensures.rests

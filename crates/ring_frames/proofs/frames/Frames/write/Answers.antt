@@ -18,16 +18,20 @@ module _ (v seen : FramesValue) (same : v ≡ seen) (new : Stack) (moment : ℕ)
   steps : wrote ≡ Record → WritesWhatFits moment payload v.stack wrote new → new ≡ with_written v.stack moment payload
       → WritesAtOnce seen moment payload (with_left_frame (record v { stack = new }) moment (length payload))
   steps is fits written =
-      subst (λ (x : FramesValue). WritesAtOnce x moment payload (with_left_frame (record v { stack = new }) moment (length payload))) same
+      subst
+      (λ (x : FramesValue).
+      WritesAtOnce x moment payload (with_left_frame (record v { stack = new }) moment (length payload))) same
       (writes_at_once v new moment payload (fits.wrote.0 is) written (fits.stack is))
 
-  alone : IsFrames seen → wrote ≡ Record → WritesWhatFits moment payload v.stack wrote new → new ≡ with_written v.stack moment payload
+  alone : IsFrames seen → wrote ≡ Record → WritesWhatFits moment payload v.stack wrote new
+      → new ≡ with_written v.stack moment payload
       → IsWrittenAlone seen moment payload (record v { stack = new })
   alone are is fits written =
       subst (λ (x : FramesValue). IsWrittenAlone x moment payload (record v { stack = new })) same
       (written_alone v new moment payload (subst IsFrames (sym same) are) (fits.wrote.0 is) written)
 
-  payloads : (wrote ≡ Record → WritesWhatFits moment payload v.stack wrote new) → (wrote ≡ Nothing → new ≡ v.stack) → KeepsPayloads seen.stack new
+  payloads : (wrote ≡ Record → WritesWhatFits moment payload v.stack wrote new) → (wrote ≡ Nothing → new ≡ v.stack)
+      → KeepsPayloads seen.stack new
   payloads fits nothing = subst (λ (x : FramesValue). KeepsPayloads x.stack new) same (by_result wrote refl)
     where
       by_result : (found : Wrote) → wrote ≡ found → KeepsPayloads v.stack new
@@ -35,19 +39,36 @@ module _ (v seen : FramesValue) (same : v ≡ seen) (new : Stack) (moment : ℕ)
       by_result Nothing is = same_stack v.stack new (nothing is)
 
 pub returns-in-Any-clause-wrote : goal.returns-in-Any-clause-wrote
-returns-in-Any-clause-wrote c = λ is. steps (frames_in c.self.inside) _ c.self.view_is c.write_alone.new.self c.args.moment c.args.payload.now c.write_alone.result is c.write_alone.ensures.at_once (c.write_alone.ensures.written is)
+returns-in-Any-clause-wrote c =
+    λ is.
+    steps (frames_in c.self.inside) _ c.self.view_is c.write_any.new.self c.args.moment c.args.payload.now
+    c.write_any.result is c.write_any.ensures.at_once (c.write_any.ensures.written is)
 
 pub returns-in-Any-clause-alone : goal.returns-in-Any-clause-alone
-returns-in-Any-clause-alone c = λ is. alone (frames_in c.self.inside) _ c.self.view_is c.write_alone.new.self c.args.moment c.args.payload.now c.write_alone.result c.requires.frames is c.write_alone.ensures.at_once (c.write_alone.ensures.written is)
+returns-in-Any-clause-alone c =
+    λ is.
+    alone (frames_in c.self.inside) _ c.self.view_is c.write_any.new.self c.args.moment c.args.payload.now
+    c.write_any.result c.requires.frames is c.write_any.ensures.at_once (c.write_any.ensures.written is)
 
 pub returns-in-Any-clause-payloads : goal.returns-in-Any-clause-payloads
-returns-in-Any-clause-payloads c = payloads (frames_in c.self.inside) _ c.self.view_is c.write_alone.new.self c.args.moment c.args.payload.now c.write_alone.result (λ is. c.write_alone.ensures.at_once) c.write_alone.ensures.at_once.nothing
+returns-in-Any-clause-payloads c =
+    payloads (frames_in c.self.inside) _ c.self.view_is c.write_any.new.self c.args.moment c.args.payload.now
+    c.write_any.result (λ is. c.write_any.ensures.at_once) c.write_any.ensures.at_once.nothing
 
 pub returns-in-Short-clause-wrote : goal.returns-in-Short-clause-wrote
-returns-in-Short-clause-wrote c = λ is. steps (frames_in c.self.inside) _ c.self.view_is c.write_if_short.new.self c.args.moment c.args.payload.now c.write_if_short.result is (c.write_if_short.ensures.at_once is) (c.write_if_short.ensures.written is)
+returns-in-Short-clause-wrote c =
+    λ is.
+    steps (frames_in c.self.inside) _ c.self.view_is c.write_if_short.new.self c.args.moment c.args.payload.now
+    c.write_if_short.result is (c.write_if_short.ensures.at_once is) (c.write_if_short.ensures.written is)
 
 pub returns-in-Short-clause-alone : goal.returns-in-Short-clause-alone
-returns-in-Short-clause-alone c = λ is. alone (frames_in c.self.inside) _ c.self.view_is c.write_if_short.new.self c.args.moment c.args.payload.now c.write_if_short.result c.requires.frames is (c.write_if_short.ensures.at_once is) (c.write_if_short.ensures.written is)
+returns-in-Short-clause-alone c =
+    λ is.
+    alone (frames_in c.self.inside) _ c.self.view_is c.write_if_short.new.self c.args.moment c.args.payload.now
+    c.write_if_short.result c.requires.frames is (c.write_if_short.ensures.at_once is)
+    (c.write_if_short.ensures.written is)
 
 pub returns-in-Short-clause-payloads : goal.returns-in-Short-clause-payloads
-returns-in-Short-clause-payloads c = payloads (frames_in c.self.inside) _ c.self.view_is c.write_if_short.new.self c.args.moment c.args.payload.now c.write_if_short.result c.write_if_short.ensures.at_once c.write_if_short.ensures.nothing
+returns-in-Short-clause-payloads c =
+    payloads (frames_in c.self.inside) _ c.self.view_is c.write_if_short.new.self c.args.moment c.args.payload.now
+    c.write_if_short.result c.write_if_short.ensures.at_once c.write_if_short.ensures.nothing

@@ -5,7 +5,9 @@ use Rattle.trace_model.proofs.steps.StepSound.{cases_of}
 
 pub returns : goal.returns
 returns c = record {
-  window = λ n size start core event answer after r step. (step_owed n size start core event answer after r.links r.stack r.history (cases_of step)).window;
+  window =
+      λ n size start core event answer after r step.
+      (step_owed n size start core event answer after r.links r.stack r.history (cases_of step)).window;
   one = one_window_event;
   none = nothing_happens;
 }

@@ -11,7 +11,9 @@ returns c = let first = c.requires.again in record {
   empty_at = refl;
   is = record {
     part = first_part c.args.seat.shape _ c.requires.shape first;
-    order_is = ap (λ (r : Reading). r.order) first ∙ counted_pages c.args.seat.shape.pages _ c.in_ok-order.ensures.pages c.in_ok-order.ensures.order;
+    order_is =
+        ap (λ (r : Reading). r.order) first
+        ∙ counted_pages c.args.seat.shape.pages _ c.in_ok-order.ensures.pages c.in_ok-order.ensures.order;
     spare_is = ap (λ (r : Reading). r.spare) first;
     phase_is = ap (λ (r : Reading). r.reader.phase) first;
     hint_is = ap (λ (r : Reading). r.reader.hint) first;

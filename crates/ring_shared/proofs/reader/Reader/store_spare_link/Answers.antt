@@ -16,7 +16,9 @@ use Rattle.ring_shared.proofs.reader.Reader.store_spare_link.Goals as goal
 
 pub store_spare_link-requires-clause-due : goal.store_spare_link-requires-clause-due
 store_spare_link-requires-clause-due c =
-    let at = ap (λ (w : ReaderValue). w.part.reader.phase) c.self.view_is ∙ (c.requires.taking.reader.phase_is ∙ ap reader_phase_of c.requires.phase) in
+    let at =
+    ap (λ (w : ReaderValue). w.part.reader.phase) c.self.view_is
+    ∙ (c.requires.taking.reader.phase_is ∙ ap reader_phase_of c.requires.phase) in
     subst (λ (p : ring.ReaderPhase). p ≡ ring.storing_spare_link (page_in p) (fill_in p)) (sym at) refl
 
 pub returns : goal.returns
@@ -31,13 +33,26 @@ returns c =
     let h = subst (λ (w : ReaderValue). SpareLinked w.shape w.part link after) c.self.view_is reported.linked in
     let about : ring.ReaderPhase = ring.swapping c.args.page c.args.fill in
     let reader : ring.Reader = record v.part.reader { phase = about } in
-    let is = subst (λ (p : ring.ReaderPhase). after ≡ reading_after v.part.made record { event = model.reads; answer = model.reading } (record v.part { spare_link = link; reader = record v.part.reader { phase = ring.swapping (page_in p) (fill_in p) }; keeps_spare = true })) at h.after_is in
+    let is =
+    subst
+    (λ (p : ring.ReaderPhase).
+    after
+    ≡ reading_after v.part.made record { event = model.reads; answer = model.reading }
+    (record v.part {
+      spare_link = link;
+      reader = record v.part.reader { phase = ring.swapping (page_in p) (fill_in p) };
+      keeps_spare = true;
+    })) at h.after_is in
     let s = stays v.shape v.part after _ model.reading h.step reader link true _ is in
     record {
       take_step = (refl, nothing v.shape v.part after reader s refl refl (omega arith) (omega arith));
-      answered = record { reported = model.reading; step = so v.shape v.part after _ model.reading h.step; reports = refl };
+      answered =
+          record { reported = model.reading; step = so v.shape v.part after _ model.reading h.step; reports = refl };
       empty = search rules;
       empty_at = search rules;
       ring = search rules;
-      reader = shown _ v c.self.view_is c.requires.taking.reader new.shape (reader_table new) after reader _ c.requires.taking.again reported.same.shape s (refl, old.1, old.2, old.3) reported.spare (subst SawPage c.requires.phase c.requires.taking.reader.saw);
+      reader =
+          shown _ v c.self.view_is c.requires.taking.reader new.shape (reader_table new) after reader _
+          c.requires.taking.again reported.same.shape s (refl, old.1, old.2, old.3) reported.spare
+          (subst SawPage c.requires.phase c.requires.taking.reader.saw);
     }

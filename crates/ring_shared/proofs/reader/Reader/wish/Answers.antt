@@ -16,13 +16,19 @@ pub returns-clause-reader : goal.returns-clause-reader
 returns-clause-reader c =
     let v : ReaderValue = c.args.self.now in let new = c.store_wish.new.self in let after : Reading = reading_in new in
     let is = c.requires.reader in
-    let step = subst (λ (w : ReaderValue). IsReaderStep w.shape w.part (λ core. ⊤) wishes (wished_for c.self.inside.at.seen) after) c.self.view_is c.store_wish.ensures.step in
+    let step =
+    subst
+    (λ (w : ReaderValue).
+    IsReaderStep w.shape w.part (λ core. ⊤) wishes (wished_for c.self.inside.at.seen) after) c.self.view_is
+    c.store_wish.ensures.step in
     let s = wish_stays v.shape v.part after (λ core. ⊤) (wished_for c.self.inside.at.seen) step in
     let old = fields _ v c.self.view_is is in
     let slot = c.store_wish.ensures.spare ∙ ap (λ (w : ReaderValue). w.part.keeps_spare) c.self.view_is in
     let phase = ap (λ (w : ReaderValue). w.at.phase) c.self.view_is in
-    shown_as _ v c.self.view_is is new.shape (reader_table new) after v.part.reader _ after.wish c.store_wish.ensures.same.shape s old
-    (subst (λ (p : ReaderPhase). KeepsSpare p after.keeps_spare) (sym phase) (subst (KeepsSpare v.at.phase) (sym slot) is.keeps))
+    shown_as _ v c.self.view_is is new.shape (reader_table new) after v.part.reader _ after.wish
+    c.store_wish.ensures.same.shape s old
+    (subst (λ (p : ReaderPhase). KeepsSpare p after.keeps_spare) (sym phase)
+    (subst (KeepsSpare v.at.phase) (sym slot) is.keeps))
     (subst SawPage (sym phase) is.saw)
     (λ done e. let found = is.empty done (ap (λ (w : ReaderValue). w.empty_at) (sym c.self.view_is) ∙ e) in record {
       hint_is = ap (λ (x : ring.Reader). x.hint) s.reader_is ∙ found.hint_is;

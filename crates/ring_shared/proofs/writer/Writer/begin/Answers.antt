@@ -8,20 +8,24 @@ use Rattle.ring_shared.specs.Calls.{IsWriter}
 use Rattle.ring_shared.proofs.writer.Writer.begin.Goals as goal
 
 pub note-requires : goal.note-requires
-note-requires c = record { due = push_leads c.self.inside.seat.shape (writing_in c.self.inside.seat) c.args.moment c.args.len }
+note-requires c =
+    record { due = push_leads c.self.inside.seat.shape (writing_in c.self.inside.seat) c.args.moment c.args.len }
 
 pub returns-clause-makes : goal.returns-clause-makes
 unfolding IsWriter
 returns-clause-makes c =
-    seen_call _ _ (λ _. pushes c.args.moment c.args.len) c.push.result _ c.self.view_is c.requires.writer c.note.ensures.same.shape c.note.ensures.same.table c.note.ensures.noted refl c.push.ensures.step
+    seen_call _ _ (λ _. pushes c.args.moment c.args.len) c.push.result _ c.self.view_is c.requires.writer
+    c.note.ensures.same.shape c.note.ensures.same.table c.note.ensures.noted refl c.push.ensures.step
 
 pub returns-clause-room : goal.returns-clause-room
 unfolding IsWriter
-returns-clause-room c pushed = push_rooms _ _ c.push.result _ c.args.moment c.args.len (returns-clause-makes c).call pushed
+returns-clause-room c pushed =
+    push_rooms _ _ c.push.result _ c.args.moment c.args.len (returns-clause-makes c).call pushed
 
 pub returns-clause-refused : goal.returns-clause-refused
 unfolding IsWriter
-returns-clause-refused c fault refused = push_refused_rooms _ _ c.push.result _ c.args.moment c.args.len (returns-clause-makes c).call fault refused
+returns-clause-refused c fault refused =
+    push_refused_rooms _ _ c.push.result _ c.args.moment c.args.len (returns-clause-makes c).call fault refused
 
 pub returns-clause-ring : goal.returns-clause-ring
 unfolding IsWriter

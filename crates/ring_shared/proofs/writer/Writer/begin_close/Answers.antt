@@ -13,7 +13,8 @@ note-requires c = record { due = close_leads c.self.inside.seat.shape (writing_i
 pub returns-clause-makes : goal.returns-clause-makes
 unfolding IsWriter
 returns-clause-makes c =
-    seen_call _ _ (λ _. pushes_close) c.push_close.result _ c.self.view_is c.requires.writer c.note.ensures.same.shape c.note.ensures.same.table c.note.ensures.noted refl c.push_close.ensures.step
+    seen_call _ _ (λ _. pushes_close) c.push_close.result _ c.self.view_is c.requires.writer c.note.ensures.same.shape
+    c.note.ensures.same.table c.note.ensures.noted refl c.push_close.ensures.step
 
 pub returns-clause-room : goal.returns-clause-room
 unfolding IsWriter
@@ -21,7 +22,8 @@ returns-clause-room c pushed = close_rooms _ _ c.push_close.result _ (returns-cl
 
 pub returns-clause-refused : goal.returns-clause-refused
 unfolding IsWriter
-returns-clause-refused c fault refused = close_refused_rooms _ _ c.push_close.result _ (returns-clause-makes c).call fault refused
+returns-clause-refused c fault refused =
+    close_refused_rooms _ _ c.push_close.result _ (returns-clause-makes c).call fault refused
 
 pub returns-clause-ring : goal.returns-clause-ring
 unfolding IsWriter

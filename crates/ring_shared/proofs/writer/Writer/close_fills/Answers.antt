@@ -26,39 +26,58 @@ loop-self-init c =
       writer = c.requires.writer;
       ring = (refl, refl);
       some = (frame, below, top);
-      closes = λ other others is. (other, is, leaving_top c.args.self.now.part.frames frame other below others top leaves is, at_once);
+      closes =
+          λ other others is.
+          (other, is, leaving_top c.args.self.now.part.frames frame other below others top leaves is, at_once);
       payloads = same_stack c.args.self.now.frames.stack c.args.self.now.frames.stack refl;
     }
 
 -- while it closes fills, the frame stands
-still_framed : (shape : Shape) (first : Writing) (now : WriterValue) → IsWriter now → (frame : Frame) × (below : List Frame) × (first.frames ≡ frame ∷ below)
-    → ((frame : Frame) (below : List Frame) → first.frames ≡ frame ∷ below → Closes shape below first Going now.part) → HasFrame now
+still_framed : (shape : Shape) (first : Writing) (now : WriterValue) → IsWriter now
+    → (frame : Frame) × (below : List Frame) × (first.frames ≡ frame ∷ below)
+    → ((frame : Frame) (below : List Frame) → first.frames ≡ frame ∷ below → Closes shape below first Going now.part)
+    → HasFrame now
 unfolding IsWriter
-still_framed shape first now writer (frame, below, top) closes = let (next, at, leaves, goes) = closes frame below top in
+still_framed shape first now writer (frame, below, top) closes =
+    let (next, at, leaves, goes) =
+    closes frame below top in
     record { writer = writer; top = some_stand now writer next below at }
 
 pub release_fill-requires-clause-framed : goal.release_fill-requires-clause-framed
-release_fill-requires-clause-framed c = let h = c.loop-self.invariant in still_framed c.args.self.now.shape c.args.self.now.part c.loop-self.self h.writer h.some h.closes
+release_fill-requires-clause-framed c = let h = c.loop-self.invariant in
+    still_framed c.args.self.now.shape c.args.self.now.part c.loop-self.self h.writer h.some h.closes
 
 pub load_wish-requires-clause-framed : goal.load_wish-requires-clause-framed
-load_wish-requires-clause-framed c = let h = c.loop-self.invariant in still_framed c.args.self.now.shape c.args.self.now.part c.loop-self.self h.writer h.some h.closes
+load_wish-requires-clause-framed c = let h = c.loop-self.invariant in
+    still_framed c.args.self.now.shape c.args.self.now.part c.loop-self.self h.writer h.some h.closes
 
 pub loop-self-preserved : goal.loop-self-preserved
 unfolding IsWriter
 loop-self-preserved c =
     let h = c.loop-self.invariant in
-    let old : WriterValue = c.loop-self.self in let new : WriterValue = c.release_fill.new.self in let shape : Shape = c.args.self.now.shape in
+    let old : WriterValue = c.loop-self.self in
+    let new : WriterValue = c.release_fill.new.self in
+    let shape : Shape = c.args.self.now.shape in
     let makes = c.release_fill.ensures.makes in
     let (frame, below, top) = h.some in
     let (next, at, leaves, goes) = h.closes frame below top in
-    let going = release_goes old h.writer (as_answer c.release_fill.result) new.part (some_stand old h.writer next below at) (ap phase_of (ap (λ (x : WriterValue). x.frames.phase) (sym c.self.view_is) ∙ (sym c.phase.ensures ∙ c.in-Releasing.is))) makes.call in
+    let going =
+    release_goes old h.writer (as_answer c.release_fill.result) new.part (some_stand old h.writer next below at)
+    (ap phase_of
+    (ap (λ (x : WriterValue). x.frames.phase) (sym c.self.view_is)
+    ∙ (sym c.phase.ensures ∙ c.in-Releasing.is))) makes.call in
     record {
       writer = makes.writer;
       ring = same_writer c.args.self.now old new (as_answer c.release_fill.result) h.ring makes;
       some = h.some;
-      closes = λ other others is. closes_then shape others c.args.self.now.part old.part new.part Going (h.closes other others is)
-          (subst (λ (x : Answer). IsCall shape old.part model.steps x new.part) going (call_in shape old new (as_answer c.release_fill.result) h.ring.0 makes));
-      payloads = kept_then c.args.self.now.frames.stack old.frames.stack new.frames.stack h.payloads c.release_fill.ensures.payloads;
+      closes =
+          λ other others is.
+          closes_then shape others c.args.self.now.part old.part new.part Going (h.closes other others is)
+          (subst (λ (x : Answer). IsCall shape old.part model.steps x new.part) going
+          (call_in shape old new (as_answer c.release_fill.result) h.ring.0 makes));
+      payloads =
+          kept_then c.args.self.now.frames.stack old.frames.stack new.frames.stack h.payloads
+          c.release_fill.ensures.payloads;
     }
 
 pub loop-self-smaller : goal.loop-self-smaller
@@ -74,10 +93,13 @@ loop-self-smaller c =
 pub returns-in-Wishing-clause-closes : goal.returns-in-Wishing-clause-closes
 returns-in-Wishing-clause-closes c = λ frame below top.
     let h = c.loop-self.invariant in
-    let old : WriterValue = c.loop-self.self in let new : WriterValue = c.load_wish.new.self in let shape : Shape = c.args.self.now.shape in
+    let old : WriterValue = c.loop-self.self in
+    let new : WriterValue = c.load_wish.new.self in
+    let shape : Shape = c.args.self.now.shape in
     closes_then shape below c.args.self.now.part old.part new.part c.load_wish.result (h.closes frame below top)
     (call_in shape old new (as_answer c.load_wish.result) h.ring.0 c.load_wish.ensures.makes)
 
 pub returns-in-Wishing-clause-payloads : goal.returns-in-Wishing-clause-payloads
 returns-in-Wishing-clause-payloads c =
-    kept_then c.args.self.now.frames.stack c.loop-self.self.frames.stack c.load_wish.new.self.frames.stack c.loop-self.invariant.payloads c.load_wish.ensures.payloads
+    kept_then c.args.self.now.frames.stack c.loop-self.self.frames.stack c.load_wish.new.self.frames.stack
+    c.loop-self.invariant.payloads c.load_wish.ensures.payloads

@@ -13,7 +13,8 @@ invariant-loop-self l = record {
   writer : IsWriter l.self;
   ring : SameWriter l.fn.self l.self;
   some : (frame : Frame) × (below : List Frame) × (l.fn.self.part.frames ≡ frame ∷ below);
-  closes : (frame : Frame) (below : List Frame) → l.fn.self.part.frames ≡ frame ∷ below → Closes l.fn.self.shape below l.fn.self.part Going l.self.part;
+  closes : (frame : Frame) (below : List Frame) → l.fn.self.part.frames ≡ frame ∷ below
+      → Closes l.fn.self.shape below l.fn.self.part Going l.self.part;
   payloads : KeepsPayloads l.fn.self.frames.stack l.self.frames.stack;
 }
 

@@ -6,4 +6,6 @@ use Rattle.ring_shared.proofs.writer.Writer.depth.Goals as goal
 
 pub returns-clause-part : goal.returns-clause-part
 unfolding IsWriter
-returns-clause-part c w = c.depth.ensures.frames ∙ ap (λ (x : WriterValue). length x.frames.stack.frames) c.self.view_is ∙ depth_is c.args.self.now w
+returns-clause-part c w =
+    c.depth.ensures.frames ∙ ap (λ (x : WriterValue). length x.frames.stack.frames) c.self.view_is
+    ∙ depth_is c.args.self.now w

@@ -13,7 +13,9 @@ note-requires c = record { due = end_leads _ (subst IsWriter (sym c.self.view_is
 pub returns-clause-makes : goal.returns-clause-makes
 unfolding IsWriter
 returns-clause-makes c =
-    seen_call _ _ (λ x. ends (top_bytes x.frames.stack x.frames.stack.frames)) c.end.result _ c.self.view_is c.requires.writer c.note.ensures.same.shape c.note.ensures.same.table c.note.ensures.noted refl c.end.ensures.step
+    seen_call _ _ (λ x. ends (top_bytes x.frames.stack x.frames.stack.frames)) c.end.result _ c.self.view_is
+    c.requires.writer c.note.ensures.same.shape c.note.ensures.same.table c.note.ensures.noted refl
+    c.end.ensures.step
 
 pub returns-clause-rooms : goal.returns-clause-rooms
 unfolding IsWriter
@@ -21,7 +23,8 @@ returns-clause-rooms c pending = end_rooms _ _ c.end.result _ _ (returns-clause-
 
 pub returns-clause-refused : goal.returns-clause-refused
 unfolding IsWriter
-returns-clause-refused c fault refused = end_refused_rooms _ _ c.end.result _ _ (returns-clause-makes c).call fault refused
+returns-clause-refused c fault refused =
+    end_refused_rooms _ _ c.end.result _ _ (returns-clause-makes c).call fault refused
 
 pub returns-clause-ring : goal.returns-clause-ring
 unfolding IsWriter

@@ -5,4 +5,9 @@ use Rattle.ring_frames.specs.Answers.{top_bytes}
 use Rattle.ring_shared.proofs.writer.Writer.end.Given as goal
 
 abbrev pub ghosts-note : goal.ghosts-note
-ghosts-note a = record { now = part_after a.self.now.shape (writing_in a.self.now) (ends (top_bytes a.given.now.stack a.given.now.stack.frames)) }
+ghosts-note a =
+    record {
+      now =
+          part_after a.self.now.shape (writing_in a.self.now)
+          (ends (top_bytes a.given.now.stack a.given.now.stack.frames));
+    }

@@ -11,14 +11,22 @@ use Rattle.ring_shared.proofs.writer.Writer.end_record.Goals as goal
 pub returns-then-stands_alone-clause-ends : goal.returns-then-stands_alone-clause-ends
 unfolding IsWriter
 returns-then-stands_alone-clause-ends c =
-    let x : WriterValue = c.args.self.now in let one : WriterValue = c.end.new.self in let two : WriterValue = c.finish_top.new.self in
+    let x : WriterValue = c.args.self.now in
+    let one : WriterValue = c.end.new.self in
+    let two : WriterValue = c.finish_top.new.self in
     let payload : List ℕ = top_bytes x.frames.stack x.frames.stack.frames in
-    let (how, end, goes) = ends_alone x.shape x.part one.part payload c.end.result c.end.ensures.makes.call (reserved_top x c.requires.writer c.args.slot c.requires.slot)
+    let (how, end, goes) =
+    ends_alone x.shape x.part one.part payload c.end.result c.end.ensures.makes.call
+    (reserved_top x c.requires.writer c.args.slot c.requires.slot)
     c.finish_top.result two.part (c.stands_alone.ensures.0 c.if-stands_alone.true)
-    (subst (λ (s : Shape). Finishes s one.part c.finish_top.result two.part) c.end.ensures.makes.shape_is c.finish_top.ensures.finished) in
-    let others = alone_left x.shape x.part one.part payload c.end.result c.end.ensures.makes.call (reserved_top x c.requires.writer c.args.slot c.requires.slot)
+    (subst (λ (s : Shape). Finishes s one.part c.finish_top.result two.part) c.end.ensures.makes.shape_is
+    c.finish_top.ensures.finished) in
+    let others =
+    alone_left x.shape x.part one.part payload c.end.result c.end.ensures.makes.call
+    (reserved_top x c.requires.writer c.args.slot c.requires.slot)
     c.finish_top.result two.part (c.stands_alone.ensures.0 c.if-stands_alone.true)
-    (subst (λ (s : Shape). Finishes s one.part c.finish_top.result two.part) c.end.ensures.makes.shape_is c.finish_top.ensures.finished) in
+    (subst (λ (s : Shape). Finishes s one.part c.finish_top.result two.part) c.end.ensures.makes.shape_is
+    c.finish_top.ensures.finished) in
     record { ended = one.part; how = how; end = end; goes = goes; others = others }
 
 pub returns-else-stands_alone-clause-ends : goal.returns-else-stands_alone-clause-ends
@@ -26,16 +34,24 @@ unfolding IsWriter
 returns-else-stands_alone-clause-ends c =
     let x : WriterValue = c.args.self.now in let one : WriterValue = c.end.new.self in
     let payload : List ℕ = top_bytes x.frames.stack x.frames.stack.frames in
-    let (how, end, goes) = ends_above x.shape x.part one.part payload c.end.result c.end.ensures.makes.call (reserved_top x c.requires.writer c.args.slot c.requires.slot)
+    let (how, end, goes) =
+    ends_above x.shape x.part one.part payload c.end.result c.end.ensures.makes.call
+    (reserved_top x c.requires.writer c.args.slot c.requires.slot)
     (λ e. let truth : false ≡ true = sym c.if-stands_alone.false ∙ c.stands_alone.ensures.1 e in cc) in
-    let others = left_above x.shape x.part one.part payload c.end.result c.end.ensures.makes.call (reserved_top x c.requires.writer c.args.slot c.requires.slot)
+    let others =
+    left_above x.shape x.part one.part payload c.end.result c.end.ensures.makes.call
+    (reserved_top x c.requires.writer c.args.slot c.requires.slot)
     (λ e. let truth : false ≡ true = sym c.if-stands_alone.false ∙ c.stands_alone.ensures.1 e in cc) in
     record { ended = one.part; how = how; end = end; goes = goes; others = others }
 
 pub returns-then-stands_alone-clause-covered : goal.returns-then-stands_alone-clause-covered
 returns-then-stands_alone-clause-covered c =
-    let x : WriterValue = c.args.self.now in let one : WriterValue = c.end.new.self in let two : WriterValue = c.finish_top.new.self in
-    covered_then x.frames.stack one.frames.stack two.frames.stack (ends_covered x.frames.stack one.frames.stack c.end.ensures.payloads) c.finish_top.ensures.slots.payloads
+    let x : WriterValue = c.args.self.now in
+    let one : WriterValue = c.end.new.self in
+    let two : WriterValue = c.finish_top.new.self in
+    covered_then x.frames.stack one.frames.stack two.frames.stack
+    (ends_covered x.frames.stack one.frames.stack c.end.ensures.payloads) c.finish_top.ensures.slots.payloads
 
 pub returns-else-stands_alone-clause-covered : goal.returns-else-stands_alone-clause-covered
-returns-else-stands_alone-clause-covered c = ends_covered c.args.self.now.frames.stack c.end.new.self.frames.stack c.end.ensures.payloads
+returns-else-stands_alone-clause-covered c =
+    ends_covered c.args.self.now.frames.stack c.end.new.self.frames.stack c.end.ensures.payloads

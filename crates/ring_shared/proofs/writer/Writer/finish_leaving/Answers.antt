@@ -12,7 +12,8 @@ returns-in-Some c = record {
   leaves = λ frame below top.
       let v : WriterValue = c.args.self.now in let new : WriterValue = c.leave_on.new.self in
       let (answer, reported, how, leaves) = c.leave_on.ensures.leaves in
-      subst (λ (x : Answer). Leaves v.shape below v.part x new.part) (met_refusal answer c.in-Some.fault (sym reported ∙ c.in-Some.is)) (leaves frame below top);
+      subst (λ (x : Answer). Leaves v.shape below v.part x new.part)
+      (met_refusal answer c.in-Some.fault (sym reported ∙ c.in-Some.is)) (leaves frame below top);
   gone = search rules;
   payloads = search rules;
   ring = search rules;
@@ -25,7 +26,9 @@ returns-in-None c = record {
       let v : WriterValue = c.args.self.now in let new : WriterValue = c.leave_on.new.self in
       let (answer, reported, how, leaves) = c.leave_on.ensures.leaves in
       subst (λ (x : Answer). Leaves v.shape below v.part x new.part)
-      (gone_unrefused answer how (not_refused answer (λ f e. let both : None ≡ Some f = sym c.in-None.is ∙ (reported ∙ e) in cc))) (leaves frame below top);
+      (gone_unrefused answer how
+      (not_refused answer (λ f e. let both : None ≡ Some f = sym c.in-None.is ∙ (reported ∙ e) in cc)))
+      (leaves frame below top);
   gone = search rules;
   payloads = search rules;
   ring = search rules;

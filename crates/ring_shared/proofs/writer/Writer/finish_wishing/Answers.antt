@@ -13,7 +13,8 @@ pub load_wish-requires-clause-framed : goal.load_wish-requires-clause-framed
 unfolding IsWriter
 load_wish-requires-clause-framed c = record {
   writer = search rules;
-  top = let (frame, below, top, is) = c.requires.leaving.top in some_stand c.args.self.now c.requires.leaving.writer frame below top;
+  top = let (frame, below, top, is) = c.requires.leaving.top in
+      some_stand c.args.self.now c.requires.leaving.writer frame below top;
 }
 
 pub finish_leaving-requires : goal.finish_leaving-requires
@@ -22,7 +23,8 @@ finish_leaving-requires c = record {
   top = let (frame, below, top, is) = c.requires.leaving.top in
       let v : WriterValue = c.args.self.now in let one : WriterValue = c.load_wish.new.self in
       closes_still v.shape below v.part one.part c.load_wish.result
-      (closes_then v.shape below v.part v.part one.part c.load_wish.result (frame, top, is, at_once) c.load_wish.ensures.makes.call) c.in-Going.is;
+      (closes_then v.shape below v.part v.part one.part c.load_wish.result (frame, top, is, at_once)
+      c.load_wish.ensures.makes.call) c.in-Going.is;
 }
 
 pub returns-in-Going : goal.returns-in-Going
@@ -31,10 +33,15 @@ returns-in-Going c = record {
       let (frame, below, top, is) = c.requires.leaving.top in
       let v : WriterValue = c.args.self.now in let one : WriterValue = c.load_wish.new.self in
       closes_rest v.shape others v.part one c.load_wish.result
-      (closes_then v.shape others v.part v.part one.part c.load_wish.result (other, at, leaving_top v.part.frames frame other below others top is at, at_once) c.load_wish.ensures.makes.call) c.in-Going.is
-      c.load_wish.ensures.makes.shape_is c.finish_leaving.result c.finish_leaving.new.self.part c.finish_leaving.ensures.leaves;
+      (closes_then v.shape others v.part v.part one.part c.load_wish.result
+      (other, at, leaving_top v.part.frames frame other below others top is at, at_once)
+      c.load_wish.ensures.makes.call) c.in-Going.is
+      c.load_wish.ensures.makes.shape_is c.finish_leaving.result c.finish_leaving.new.self.part
+      c.finish_leaving.ensures.leaves;
   gone = search rules;
-  payloads = kept_then c.args.self.now.frames.stack c.load_wish.new.self.frames.stack c.finish_leaving.new.self.frames.stack c.load_wish.ensures.payloads c.finish_leaving.ensures.payloads;
+  payloads =
+      kept_then c.args.self.now.frames.stack c.load_wish.new.self.frames.stack c.finish_leaving.new.self.frames.stack
+      c.load_wish.ensures.payloads c.finish_leaving.ensures.payloads;
   ring = search rules;
   writer = search rules;
 }
@@ -45,7 +52,9 @@ returns-in-Gone c = record {
       let (frame, below, top, is) = c.requires.leaving.top in
       let v : WriterValue = c.args.self.now in let one : WriterValue = c.load_wish.new.self in
       subst (λ (t : StepAnswer). Closes v.shape others v.part t one.part) c.in-Gone.is
-      (closes_then v.shape others v.part v.part one.part c.load_wish.result (other, at, leaving_top v.part.frames frame other below others top is at, at_once) c.load_wish.ensures.makes.call);
+      (closes_then v.shape others v.part v.part one.part c.load_wish.result
+      (other, at, leaving_top v.part.frames frame other below others top is at, at_once)
+      c.load_wish.ensures.makes.call);
   gone = search rules;
   payloads = search rules;
   ring = search rules;

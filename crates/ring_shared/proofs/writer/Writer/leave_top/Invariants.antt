@@ -13,7 +13,8 @@ invariant-loop-answer l = record {
   ring : SameWriter l.fn.self l.self;
   depth : l.depth ≡ length l.self.part.frames;
   some : (frame : Frame) × (below : List Frame) × (l.fn.self.part.frames ≡ frame ∷ below);
-  part_way : (frame : Frame) (below : List Frame) → l.fn.self.part.frames ≡ frame ∷ below → IsStillLeaving l.fn.self.shape below l.fn.self.part l.met l.self.part;
+  part_way : (frame : Frame) (below : List Frame) → l.fn.self.part.frames ≡ frame ∷ below
+      → IsStillLeaving l.fn.self.shape below l.fn.self.part l.met l.self.part;
   payloads : KeepsPayloads l.fn.self.frames.stack l.self.frames.stack;
 }
 

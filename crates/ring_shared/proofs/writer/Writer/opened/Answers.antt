@@ -7,4 +7,6 @@ use Rattle.ring_shared.proofs.writer.Writer.opened.Goals as goal
 
 pub returns : goal.returns
 unfolding IsWriter
-returns c w = c.opened.ensures.begun ∙ ap (λ (v : WriterValue). opened v.frames.stack) c.self.view_is ∙ opened_there c.args.self.now w
+returns c w =
+    c.opened.ensures.begun ∙ ap (λ (v : WriterValue). opened v.frames.stack) c.self.view_is
+    ∙ opened_there c.args.self.now w

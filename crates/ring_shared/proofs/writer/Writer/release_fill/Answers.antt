@@ -18,7 +18,8 @@ pub release_fill-requires-clause-phase : goal.release_fill-requires-clause-phase
 unfolding IsWriter
 release_fill-requires-clause-phase c =
     let v : WriterValue = the_view c.self.inside in
-    phase_shown v (writer_seen c.self.view_is c.requires.framed.writer) releasing (top_seen c.self.view_is c.requires.framed.top)
+    phase_shown v (writer_seen c.self.view_is c.requires.framed.writer) releasing
+    (top_seen c.self.view_is c.requires.framed.top)
     (phase_seen c.self.view_is c.requires.phase)
 
 pub release_fill-requires-clause-oldest : goal.release_fill-requires-clause-oldest
@@ -32,7 +33,8 @@ pub release_fill-requires-clause-written : goal.release_fill-requires-clause-wri
 unfolding IsWriter
 release_fill-requires-clause-written c =
     let v : WriterValue = the_view c.self.inside in
-    is_written v (writer_seen c.self.view_is c.requires.framed.writer) c.release_fill-page.result c.release_fill-page.new.self c.release_fill-page.ensures.releases
+    is_written v (writer_seen c.self.view_is c.requires.framed.writer) c.release_fill-page.result
+    c.release_fill-page.new.self c.release_fill-page.ensures.releases
 
 pub unreachable-requires : goal.unreachable-requires
 unfolding IsWriter
@@ -46,12 +48,20 @@ unfolding IsWriter
 returns-clause-makes c =
     let v : WriterValue = the_view c.self.inside in
     let w : IsWriter v = writer_seen c.self.view_is c.requires.framed.writer in
-    let new : WriterValue = the_view record { seat = c.release_fill.new.self; frames = c.release_fill-page.new.self; pages = c.pop_front.new.self } in
+    let new : WriterValue =
+    the_view
+    record {
+      seat = c.release_fill.new.self;
+      frames = c.release_fill-page.new.self;
+      pages = c.pop_front.new.self;
+    } in
     subst (λ (x : WriterValue). MakesSome x model.steps Going new) c.self.view_is
-    (closes_fill v new w (top_seen c.self.view_is c.requires.framed.top) c.release_fill.ensures.same.shape c.release_fill.ensures.same.table _ c.release_fill-page.result c.release_fill-page.ensures.releases
+    (closes_fill v new w (top_seen c.self.view_is c.requires.framed.top) c.release_fill.ensures.same.shape
+    c.release_fill.ensures.same.table _ c.release_fill-page.result c.release_fill-page.ensures.releases
     (sym (ap (drop 1) c.in-Some.ensures.items)) c.release_fill.ensures.step)
 
 pub returns-clause-nearer : goal.returns-clause-nearer
 unfolding IsWriter
 returns-clause-nearer c =
-    stays_near c.self.view_is c.requires.framed.writer c.requires.framed.top (releasing) (ap phase_of c.requires.phase) (returns-clause-makes c) c.release_fill.ensures.same.knows tt
+    stays_near c.self.view_is c.requires.framed.writer c.requires.framed.top (releasing) (ap phase_of c.requires.phase)
+    (returns-clause-makes c) c.release_fill.ensures.same.knows tt

@@ -23,12 +23,16 @@ note-requires c = let idle = ap (λ (x : WriterValue). x.frames.phase) c.self.vi
 pub returns-clause-makes : goal.returns-clause-makes
 unfolding IsWriter
 returns-clause-makes c =
-    seen_call _ _ (λ _. steps) c.reserve.result _ c.self.view_is c.requires.framed.writer c.note.ensures.same.shape c.note.ensures.same.table c.note.ensures.noted refl c.reserve.ensures.step
+    seen_call _ _ (λ _. steps) c.reserve.result _ c.self.view_is c.requires.framed.writer c.note.ensures.same.shape
+    c.note.ensures.same.table c.note.ensures.noted refl c.reserve.ensures.step
 
 pub returns-clause-nearer : goal.returns-clause-nearer
 unfolding IsWriter
 returns-clause-nearer c =
-    stays_near c.self.view_is c.requires.framed.writer c.requires.framed.top (idle) (ap phase_of c.requires.phase) (returns-clause-makes c) c.note.ensures.same.knows tt
+    stays_near c.self.view_is c.requires.framed.writer c.requires.framed.top (idle) (ap phase_of c.requires.phase)
+    (returns-clause-makes c) c.note.ensures.same.knows tt
 
 pub returns-clause-zeros : goal.returns-clause-zeros
-returns-clause-zeros c = subst (λ (x : WriterValue). ZerosSlot x.frames.stack c.reserve.result c.reserve.new.self.stack) c.self.view_is c.reserve.ensures.zeros
+returns-clause-zeros c =
+    subst (λ (x : WriterValue). ZerosSlot x.frames.stack c.reserve.result c.reserve.new.self.stack) c.self.view_is
+    c.reserve.ensures.zeros

@@ -12,7 +12,8 @@ invariant-loop-last l = record {
   writer : IsWriter l.self;
   ring : SameWriter l.fn.self l.self;
   some : (frame : Frame) × (below : List Frame) × (l.fn.self.part.frames ≡ frame ∷ below);
-  part_way : (frame : Frame) (below : List Frame) → l.fn.self.part.frames ≡ frame ∷ below → IsStillReserving l.fn.self.shape frame.kind below l.fn.self.part l.self.part;
+  part_way : (frame : Frame) (below : List Frame) → l.fn.self.part.frames ≡ frame ∷ below
+      → IsStillReserving l.fn.self.shape frame.kind below l.fn.self.part l.self.part;
   payloads : KeepsPayloads l.fn.self.frames.stack l.self.frames.stack;
 }
 

@@ -30,37 +30,59 @@ returns-in-Wishing-clause-slots c = record {
   payloads = search rules;
   zeros = search rules;
   room = search rules;
-  gone = λ gone. gone_rooms _ _ (as_answer c.load_wish.result) _ c.load_wish.ensures.makes.call (sym c.answer.ensures ∙ gone);
-  refused = λ fault refused. refused_rooms _ _ (as_answer c.load_wish.result) _ c.load_wish.ensures.makes.call fault (sym c.answer.ensures ∙ refused);
+  gone =
+      λ gone.
+      gone_rooms _ _ (as_answer c.load_wish.result) _ c.load_wish.ensures.makes.call
+      (sym c.answer.ensures ∙ gone);
+  refused =
+      λ fault refused.
+      refused_rooms _ _ (as_answer c.load_wish.result) _ c.load_wish.ensures.makes.call fault
+      (sym c.answer.ensures ∙ refused);
 }
 
 pub returns-in-Wishing-clause-going : goal.returns-in-Wishing-clause-going
-returns-in-Wishing-clause-going c = λ going. going_rooms _ _ (as_answer c.load_wish.result) _ c.load_wish.ensures.makes.call (sym c.answer.ensures ∙ going)
+returns-in-Wishing-clause-going c =
+    λ going.
+    going_rooms _ _ (as_answer c.load_wish.result) _ c.load_wish.ensures.makes.call
+    (sym c.answer.ensures ∙ going)
 
 pub returns-in_default-clause-slots : goal.returns-in_default-clause-slots
 returns-in_default-clause-slots c = record {
   payloads = search rules;
   zeros = search rules;
   room = search rules;
-  gone = λ gone. gone_rooms _ _ (as_answer c.word_step.result) _ c.word_step.ensures.makes.call (sym c.answer-in_default.ensures ∙ gone);
-  refused = λ fault refused. refused_rooms _ _ (as_answer c.word_step.result) _ c.word_step.ensures.makes.call fault (sym c.answer-in_default.ensures ∙ refused);
+  gone =
+      λ gone.
+      gone_rooms _ _ (as_answer c.word_step.result) _ c.word_step.ensures.makes.call
+      (sym c.answer-in_default.ensures ∙ gone);
+  refused =
+      λ fault refused.
+      refused_rooms _ _ (as_answer c.word_step.result) _ c.word_step.ensures.makes.call fault
+      (sym c.answer-in_default.ensures ∙ refused);
 }
 
 pub returns-in_default-clause-going : goal.returns-in_default-clause-going
-returns-in_default-clause-going c = λ going. going_rooms _ _ (as_answer c.word_step.result) _ c.word_step.ensures.makes.call (sym c.answer-in_default.ensures ∙ going)
+returns-in_default-clause-going c =
+    λ going.
+    going_rooms _ _ (as_answer c.word_step.result) _ c.word_step.ensures.makes.call
+    (sym c.answer-in_default.ensures ∙ going)
 
 -- ---- with no frame the step is refused
 
 pub note_step-requires : goal.note_step-requires
 unfolding IsWriter
 note_step-requires c = record {
-  private = subst (λ (fs : List Frame). TopIsPrivate fs c.self.inside.seat.ghost_part.now.opened) (sym (none_in_part _ (subst IsWriter (sym c.self.view_is) c.requires.writer) (c.is_empty.ensures.0 c.if-is_empty.true))) tt;
+  private =
+      subst (λ (fs : List Frame). TopIsPrivate fs c.self.inside.seat.ghost_part.now.opened)
+      (sym (none_in_part _ (subst IsWriter (sym c.self.view_is) c.requires.writer)
+      (c.is_empty.ensures.0 c.if-is_empty.true))) tt;
 }
 
 pub returns-then-is_empty-clause-makes : goal.returns-then-is_empty-clause-makes
 unfolding IsWriter
 returns-then-is_empty-clause-makes c =
-    seen_call _ _ (λ _. steps) (Refused NoFrame) _ c.self.view_is c.requires.writer c.note_step.ensures.same.shape c.note_step.ensures.same.table c.note_step.ensures.noted refl
+    seen_call _ _ (λ _. steps) (Refused NoFrame) _ c.self.view_is c.requires.writer c.note_step.ensures.same.shape
+    c.note_step.ensures.same.table c.note_step.ensures.noted refl
     (refuses_step c.self.inside.frames (c.is_empty.ensures.0 c.if-is_empty.true))
 
 pub returns-then-is_empty-clause-writer : goal.returns-then-is_empty-clause-writer
@@ -70,18 +92,30 @@ returns-then-is_empty-clause-writer c = (returns-then-is_empty-clause-makes c).w
 pub returns-then-is_empty-clause-nearer : goal.returns-then-is_empty-clause-nearer
 unfolding IsWriter
 returns-then-is_empty-clause-nearer c =
-    let none : c.args.self.now.frames.stack.frames ≡ [] = subst (λ (v : WriterValue). v.frames.stack.frames ≡ []) c.self.view_is (c.is_empty.ensures.0 c.if-is_empty.true) in
-    λ frame below top unnumbered stands. absurd (let both : ◌≡◌ {A = List Frame} [] (frame ∷ below) = sym (none_in_part c.args.self.now c.requires.writer none) ∙ top in cc)
+    let none : c.args.self.now.frames.stack.frames ≡ [] =
+    subst (λ (v : WriterValue). v.frames.stack.frames ≡ []) c.self.view_is
+    (c.is_empty.ensures.0 c.if-is_empty.true) in
+    λ frame below top unnumbered stands.
+    absurd (let both : ◌≡◌ {A = List Frame} [] (frame ∷ below) =
+    sym (none_in_part c.args.self.now c.requires.writer none) ∙ top in
+    cc)
 
 -- with no frame none is below another
 pub returns-then-is_empty-clause-slots : goal.returns-then-is_empty-clause-slots
 unfolding IsWriter
 returns-then-is_empty-clause-slots c =
-    let none : c.args.self.now.frames.stack.frames ≡ [] = subst (λ (v : WriterValue). v.frames.stack.frames ≡ []) c.self.view_is (c.is_empty.ensures.0 c.if-is_empty.true) in
+    let none : c.args.self.now.frames.stack.frames ≡ [] =
+    subst (λ (v : WriterValue). v.frames.stack.frames ≡ []) c.self.view_is
+    (c.is_empty.ensures.0 c.if-is_empty.true) in
     record {
       payloads = search rules;
       zeros = search rules;
       room = search rules;
       gone = search rules;
-      refused = λ fault refused top next others is. absurd (let both : ◌≡◌ {A = List (Option ℕ)} [] (top ∷ next ∷ others) = sym (no_rooms c.args.self.now c.requires.writer none) ∙ is in cc);
+      refused =
+          λ fault refused top next others is.
+          absurd
+          (let both : ◌≡◌ {A = List (Option ℕ)} [] (top ∷ next ∷ others) =
+          sym (no_rooms c.args.self.now c.requires.writer none) ∙ is in
+          cc);
     }

@@ -7,4 +7,6 @@ use Rattle.ring_shared.proofs.writer.Writer.tops_close.Goals as goal
 
 pub returns : goal.returns
 unfolding IsWriter
-returns c w = c.tops_close.ensures ∙ ap (λ (v : WriterValue). tops_close v.frames.stack.frames) c.self.view_is ∙ closes_there c.args.self.now w
+returns c w =
+    c.tops_close.ensures ∙ ap (λ (v : WriterValue). tops_close v.frames.stack.frames) c.self.view_is
+    ∙ closes_there c.args.self.now w

@@ -10,5 +10,6 @@ returns-in-Record-clause-rooms c = ap rooms_of (c.write_at_once.ensures.written 
 pub returns-in-Nothing-clause-rooms : goal.returns-in-Nothing-clause-rooms
 returns-in-Nothing-clause-rooms c =
     let v : WriterValue = c.write_at_once.new.self in
-    write_rooms v.shape v.part c.write_rarely.new.self.part c.args.moment c.args.payload.now c.write_rarely.result c.write_rarely.ensures.written c.write_rarely.ensures.refused
+    write_rooms v.shape v.part c.write_rarely.new.self.part c.args.moment c.args.payload.now c.write_rarely.result
+    c.write_rarely.ensures.written c.write_rarely.ensures.refused
     ∙ ap rooms (c.write_at_once.ensures.nothing c.in-Nothing.is)

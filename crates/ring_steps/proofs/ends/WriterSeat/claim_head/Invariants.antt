@@ -4,4 +4,8 @@ use Rattle.ring_steps.specs.Linking.{ClaimReported}
 use Rattle.ring_steps.proofs.ends.WriterSeat.claim_head.Given as goal
 
 abbrev pub ghosts-compare_exchange_step : goal.ghosts-compare_exchange_step
-ghosts-compare_exchange_step a = record { reports = λ before found after. ClaimReported a.self.now.shape (writing_in a.self.now) (passed before.0) found after }
+ghosts-compare_exchange_step a =
+    record {
+      reports =
+          λ before found after. ClaimReported a.self.now.shape (writing_in a.self.now) (passed before.0) found after;
+    }

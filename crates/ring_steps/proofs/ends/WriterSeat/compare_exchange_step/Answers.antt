@@ -3,7 +3,10 @@ use Rattle.ring_steps.proofs.Notes.{rests}
 use Rattle.ring_steps.proofs.ends.WriterSeat.compare_exchange_step.Goals as goal
 
 pub compare_exchange-found-requires-clause-word : goal.compare_exchange-found-requires-clause-word
-compare_exchange-found-requires-clause-word g c = let words = c.args.self.now.table.words in let same = ap (λ z. z.shared.table_id.words) c.deref.ensures in let low = c.requires.word in omega arith
+compare_exchange-found-requires-clause-word g c = let words = c.args.self.now.table.words in
+    let same = ap (λ z. z.shared.table_id.words) c.deref.ensures in
+    let low = c.requires.word in
+    omega arith
 
 pub compare_exchange-found-requires-clause-allowed : goal.compare_exchange-found-requires-clause-allowed
 compare_exchange-found-requires-clause-allowed g c = c.requires.moves.allowed _ _
@@ -12,7 +15,8 @@ pub invariant_of-self-clause-is_writing : goal.invariant_of-self-clause-is_writi
 invariant_of-self-clause-is_writing g c = (c.requires.moves.stays _ _ c.compare_exchange-found.ensures.reported).seat
 
 pub invariant_of-self-clause-reached : goal.invariant_of-self-clause-reached
-invariant_of-self-clause-reached g c = ∣ (c.requires.moves.stays _ _ c.compare_exchange-found.ensures.reported).reached ∣₁
+invariant_of-self-clause-reached g c =
+    ∣ (c.requires.moves.stays _ _ c.compare_exchange-found.ensures.reported).reached ∣₁
 
 pub invariant_of-self-clause-pending : goal.invariant_of-self-clause-pending
 invariant_of-self-clause-pending g c = rests c.args.self.now.shape _ _ c.ghost_part_known-self.ensures

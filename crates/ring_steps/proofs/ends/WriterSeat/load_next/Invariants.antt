@@ -4,4 +4,10 @@ use Rattle.ring_steps.specs.Linking.{LinkReported, after_lost_in}
 use Rattle.ring_steps.proofs.ends.WriterSeat.load_next.Given as goal
 
 abbrev pub ghosts-load_step : goal.ghosts-load_step
-ghosts-load_step a = record { reports = λ before found after. LinkReported a.self.now.shape (writing_in a.self.now) (passed before.0) (after_lost_in a.self.now.shape.pages (writing_in a.self.now)) found after }
+ghosts-load_step a =
+    record {
+      reports =
+          λ before found after.
+          LinkReported a.self.now.shape (writing_in a.self.now) (passed before.0)
+          (after_lost_in a.self.now.shape.pages (writing_in a.self.now)) found after;
+    }

@@ -3,7 +3,10 @@ use Rattle.ring_steps.proofs.Notes.{rests}
 use Rattle.ring_steps.proofs.ends.WriterSeat.load_step.Goals as goal
 
 pub load-found-requires-clause-word : goal.load-found-requires-clause-word
-load-found-requires-clause-word g c = let words = c.args.self.now.table.words in let same = ap (λ z. z.shared.table_id.words) c.deref.ensures in let low = c.requires.word in omega arith
+load-found-requires-clause-word g c = let words = c.args.self.now.table.words in
+    let same = ap (λ z. z.shared.table_id.words) c.deref.ensures in
+    let low = c.requires.word in
+    omega arith
 
 pub load-found-requires-clause-allowed : goal.load-found-requires-clause-allowed
 load-found-requires-clause-allowed g c = c.requires.moves.allowed _ _

@@ -3,4 +3,5 @@ use Rattle.ring_steps.proofs.PartAfter.{end_leads}
 use Rattle.ring_steps.proofs.ends.WriterSeat.note_end.Goals as goal
 
 pub note-requires : goal.note-requires
-note-requires c = record { due = end_leads c.args.self.now.shape (writing_in c.args.self.now) c.args.payload.now c.requires.fills }
+note-requires c =
+    record { due = end_leads c.args.self.now.shape (writing_in c.args.self.now) c.args.payload.now c.requires.fills }

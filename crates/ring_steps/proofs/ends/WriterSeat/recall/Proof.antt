@@ -17,5 +17,8 @@ pub recall_spec : {M : Type 1} → statement M
 recall_spec {M} =
     tie.close (λ 𝓤 𝓛 𝓣 y. let seat = y.0.3.0.now in
     ∥∥₁_elim seat.pending (Entails-prop 𝓤.op _ _) (λ leads.
-    via 𝓤 _ (mono_r 𝓤 (on_entry 𝓛 (sig_of 1 lts.ps lts.r) y.0.0 y.0.1 y.0.3 y.0.4) (fact_mono 𝓤 _ (Leads seat.shape (writing seat.seat.me.0) seat.ghost_part.now) (λ _. leads)))
-    (lts.spec (λ κs a. Leads a.0.now.shape (writing a.0.now.seat.me.0) a.0.now.ghost_part.now) reads.Post (λ c. c.requires) 𝓤 𝓛 𝓣 y)))
+    via 𝓤 _
+    (mono_r 𝓤 (on_entry 𝓛 (sig_of 1 lts.ps lts.r) y.0.0 y.0.1 y.0.3 y.0.4)
+    (fact_mono 𝓤 _ (Leads seat.shape (writing seat.seat.me.0) seat.ghost_part.now) (λ _. leads)))
+    (lts.spec (λ κs a. Leads a.0.now.shape (writing a.0.now.seat.me.0) a.0.now.ghost_part.now) reads.Post
+    (λ c. c.requires) 𝓤 𝓛 𝓣 y)))

@@ -9,17 +9,25 @@ use Rattle.ring_steps.specs.Ends.{writing_in}
 use Rattle.ring_steps.proofs.ends.WriterSeat.release_fill.Goals as goal
 
 pub exchange-requires : goal.exchange-requires
-exchange-requires c = let self = c.args.self.now in let within = now_within self.shape (writing self.seat.me.0) (writing_in c.args.self.now) self.reached c.recall.ensures in
-    (search rules, (None, first_slot self.seat.me c.args.number self.is_writing within.0 (c.requires.oldest ∙ within.1)))
+exchange-requires c = let self = c.args.self.now in
+    let within =
+    now_within self.shape (writing self.seat.me.0) (writing_in c.args.self.now) self.reached c.recall.ensures in (
+      search rules,
+      (None, first_slot self.seat.me c.args.number self.is_writing within.0 (c.requires.oldest ∙ within.1)),
+    )
 
 pub overflow_add-done : goal.overflow_add-done
-overflow_add-done c = let self = c.args.self.now in let within = now_within self.shape (writing self.seat.me.0) (writing_in c.args.self.now) self.reached c.recall.ensures in
+overflow_add-done c = let self = c.args.self.now in
+    let within =
+    now_within self.shape (writing self.seat.me.0) (writing_in c.args.self.now) self.reached c.recall.ensures in
     let below = within.2 in let fill_is = c.requires.written.fill_is in let same = c.fill-fill.ensures in omega arith
 
 pub store-requires-clause-allowed : goal.store-requires-clause-allowed
 store-requires-clause-allowed c = let self = c.args.self.now in
-    release_allowed self.shape _ _ self.seat.me c.exchange.new.seat.me (writing_in c.args.self.now) c.args.number c.fill-fill.result.0 c.args.page
-    self.is_writing c.exchange.ensures.3 c.recall.ensures c.requires.phase c.requires.oldest c.requires.written (c.fill-fill.ensures ∙ c.requires.written.fill_is)
+    release_allowed self.shape _ _ self.seat.me c.exchange.new.seat.me (writing_in c.args.self.now) c.args.number
+    c.fill-fill.result.0 c.args.page
+    self.is_writing c.exchange.ensures.3 c.recall.ensures c.requires.phase c.requires.oldest c.requires.written
+    (c.fill-fill.ensures ∙ c.requires.written.fill_is)
 
 pub invariant_of-self-clause-is_writing : goal.invariant_of-self-clause-is_writing
 invariant_of-self-clause-is_writing c = c.store.ensures.reported.seat

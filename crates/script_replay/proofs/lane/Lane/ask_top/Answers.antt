@@ -12,7 +12,8 @@ use Rattle.script_replay.specs.Value.{LaneValue, lane_of}
 use Rattle.script_replay.specs.Lanes.{IsLane, IsLaneOf}
 use Rattle.script_replay.specs.declared.lane.Lane.TheInside.{Inside}
 use Rattle.script_replay.specs.Frames.{AsksTop}
-use Rattle.script_replay.proofs.FrameTops.{HasTopPayload, has_top_payload, has_room, last_of, is_first, top_has_place, asked_step, asked_end}
+use Rattle.script_replay.proofs.FrameTops.{HasTopPayload, has_top_payload, has_room, last_of, is_first, top_has_place}
+use Rattle.script_replay.proofs.FrameTops.{asked_step, asked_end}
 use Rattle.script_replay.proofs.lane.Lane.ask_top.Goals as goal
 
 -- ---- the payload of the frame on top, whose record has this slot
@@ -60,7 +61,9 @@ returns-in_default-clause-step g c =
     let v : LaneValue = lane_of c.self.inside in
     subst (λ (x : LaneValue). AsksTop x c.step.result c.step.new.self) c.self.view_is
     (asked_step v c.step.result c.step.new.self
-    (λ slot top. let no : false ≡ true = c.in_default.ensures.slot.held slot.place (top_has_place v.core.stack.frames slot top) in absurd (let e = no in cc)) c.step.ensures.obeys.step)
+    (λ slot top. let no : false ≡ true =
+    c.in_default.ensures.slot.held slot.place (top_has_place v.core.stack.frames slot top) in
+    absurd (let e = no in cc)) c.step.ensures.obeys.step)
 
 -- ---- it has one
 
@@ -68,7 +71,9 @@ pub overflow_sub-len : goal.overflow_sub-len
 overflow_sub-len g c =
     let ok = c.self.inside.payloads.ok in
     let slot = c.in-Ok.ensures.slot.lent in
-    let some = one_kept c.self.inside _ slot.slot c.len.result c.self.view_is c.requires slot.on_top (c.in-Ok.ensures.fits slot.slot slot.on_top) (c.len.ensures ∙ ok.0) in
+    let some =
+    one_kept c.self.inside _ slot.slot c.len.result c.self.view_is c.requires slot.on_top
+    (c.in-Ok.ensures.fits slot.slot slot.on_top) (c.len.ensures ∙ ok.0) in
     omega (arith, some)
 
 pub index-payload-requires : goal.index-payload-requires
@@ -104,7 +109,13 @@ returns-clause-step g c =
     (asked_end v lent.slot payload part c.step-2.result c.step-2.new.self lent.on_top fits
     (c.in-Ok.ensures.stays lent.slot lent.on_top)
     (ap (λ (l : List ℕ). length l) (sym c.in-Ok.ensures.slot.payload) ∙ lent.long ∙ place)
-    (λ bs fills. ap (λ (t : Stack). top_bytes t v.core.stack.frames) (sym (lent.in_slot bs)) ∙ c.in-Ok.ensures.slot.written bs (fills ∙ sym place ∙ sym lent.long))
+    (λ bs fills.
+    ap (λ (t : Stack). top_bytes t v.core.stack.frames) (sym (lent.in_slot bs))
+    ∙ c.in-Ok.ensures.slot.written bs (fills ∙ sym place ∙ sym lent.long))
     (is_first bytes kept.items (c.len.result - 1) c.index-payload.result.now last c.index-payload.ensures)
-    (c.write_padded.ensures ∙ ap (λ (k : ℕ). payload ++ replicate (k - length payload) 0) (c.deref_mut.ensures.len ∙ place))
-    (subst (λ (t : Stack). MakesStep (record v.core { stack = t }) (ends (top_bytes t t.frames)) c.step-2.result c.step-2.new.self) (lent.in_slot part) c.step-2.ensures.obeys.step))
+    (c.write_padded.ensures
+    ∙ ap (λ (k : ℕ). payload ++ replicate (k - length payload) 0) (c.deref_mut.ensures.len ∙ place))
+    (subst
+    (λ (t : Stack).
+    MakesStep (record v.core { stack = t }) (ends (top_bytes t t.frames)) c.step-2.result c.step-2.new.self)
+    (lent.in_slot part) c.step-2.ensures.obeys.step))

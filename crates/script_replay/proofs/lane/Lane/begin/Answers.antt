@@ -16,7 +16,8 @@ report-requires c =
     (sym c.self.view_is)
     (may_report c.args.at.line c.args.at.cpu.0 Push c.in_ok-answer.answer c.push.new.self.core n size start lane.core
     p.core (pushes c.args.moment (length c.args.payload.now)) p.reported
-    (pushed_step n size start c.args.at.cpu.0 c.args.self.now lane Push (pushes c.args.moment (length c.args.payload.now))
+    (pushed_step n size start c.args.at.cpu.0 c.args.self.now lane Push
+    (pushes c.args.moment (length c.args.payload.now))
     c.args.payload.now c.in_ok-answer.answer c.push.new.self is (c.args.moment, length c.args.payload.now, refl) p)
     c.args.reports.now knows)
 

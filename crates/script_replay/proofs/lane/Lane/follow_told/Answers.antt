@@ -58,7 +58,8 @@ loop-steps-preserved c =
     record {
       few = omega arith;
       part_way = part_way_turn c.args.at.line c.args.at.cpu.0 c.len-depth.result c.loop-steps.steps c.args.self.now
-          c.loop-steps.self c.step_once-answer.new.self (Top c.index-payload.result.now) c.step_once-answer.result c.args.reports.now
+          c.loop-steps.self c.step_once-answer.new.self (Top c.index-payload.result.now) c.step_once-answer.result
+          c.args.reports.now
           c.loop-steps.reports c.report.new.self
           c.loop-steps.invariant.part_way
           (sym many ∙ c.if-len-depth.true)

@@ -52,7 +52,8 @@ finish-requires c =
       start,
       lane_with lane c.args.payload.now p.reported p.core,
       p.is_lane,
-      knows_after n size c.args.at.line c.args.at.cpu.0 lane.core p.core _ c.args.reports.now c.report.new.self reported,
+      knows_after n size c.args.at.line c.args.at.cpu.0 lane.core p.core _ c.args.reports.now c.report.new.self
+          reported,
     )
 
 pub returns-in_ok-report-in-Pushed : goal.returns-in_ok-report-in-Pushed
@@ -71,7 +72,8 @@ returns-in_ok-report-in-Pushed c =
     c.in_ok-answer.answer c.push.new.self c.finish.new.self c.args.reports.now c.report.new.self
     c.finish.new.reports p c.in-Pushed.is reported
     (has n size start (lane_with lane c.args.payload.now p.reported p.core) p.is_lane
-    (knows_after n size c.args.at.line c.args.at.cpu.0 lane.core p.core _ c.args.reports.now c.report.new.self reported)))
+    (knows_after n size c.args.at.line c.args.at.cpu.0 lane.core p.core _ c.args.reports.now
+    c.report.new.self reported)))
     c.finish.ensures
 
 pub returns-in_default : goal.returns-in_default

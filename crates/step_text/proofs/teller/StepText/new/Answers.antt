@@ -18,14 +18,19 @@ put_new_rings-requires c =
 
 pub returns-clause-text : goal.returns-clause-text
 returns-clause-text c lanes count new =
-    c.in_ok-put_new_rings.ensures c.args.script.now.pages c.args.script.now.start lanes (count ∙ sym c.cpus.ensures.cpus) new c.in_ok-known.ensures
-    ∙ ap (λ text. text ++ new_rings_text lanes) (c.in_ok-put_trace_line.ensures ∙ ap (λ text. text ++ trace_line c.args.script.now) c.new-text.ensures.items)
+    c.in_ok-put_new_rings.ensures c.args.script.now.pages c.args.script.now.start lanes
+    (count ∙ sym c.cpus.ensures.cpus) new c.in_ok-known.ensures
+    ∙ ap (λ text. text ++ new_rings_text lanes)
+    (c.in_ok-put_trace_line.ensures ∙ ap (λ text. text ++ trace_line c.args.script.now) c.new-text.ensures.items)
 
 pub returns-clause-knows : goal.returns-clause-knows
 returns-clause-knows c cpu lane below new =
-    let within : cpu < length c.in_ok-rings.rings.items = omega (arith, c.in_ok-rings.ensures.count, c.cpus-2.ensures.cpus) in
+    let within : cpu < length c.in_ok-rings.rings.items =
+    omega (arith, c.in_ok-rings.ensures.count, c.cpus-2.ensures.cpus) in
     let at = slice_get-get_or c.in_ok-rings.rings.items cpu c.in_ok-known.known within in record {
       known = known_in c.in_ok-known.known;
-      at = get_map known_in c.in_ok-rings.rings.items cpu _ at ∙ ap Some (c.in_ok-rings.ensures.each cpu c.in_ok-known.known within);
+      at =
+          get_map known_in c.in_ok-rings.rings.items cpu _ at
+          ∙ ap Some (c.in_ok-rings.ensures.each cpu c.in_ok-known.known within);
       of_core = c.in_ok-known.ensures lane.core new.0;
     }

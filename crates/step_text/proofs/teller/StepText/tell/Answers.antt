@@ -9,7 +9,9 @@ use Rattle.step_text.proofs.teller.StepText.tell.Goals as goal
 pub tell-requires : goal.tell-requires
 tell-requires c =
     let may = c.requires in
-    let at = subst (λ (v : StepTextValue). slice_get v.rings c.args.at.cpu.0 ≡ Some may.knows.known) (sym c.self.view_is) may.knows.at in
+    let at =
+    subst (λ (v : StepTextValue). slice_get v.rings c.args.at.cpu.0 ≡ Some may.knows.known) (sym c.self.view_is)
+    may.knows.at in
     record {
       n = may.n;
       size = may.size;
@@ -18,17 +20,24 @@ tell-requires c =
       after = may.after;
       event = may.event;
       reported = may.reported;
-      known = subst (λ (k : KnownValue). IsKnownOf k may.before) (item_known c.self.inside.rings.items _ _ _ c.index_mut.ensures.value at) may.knows.of_core;
+      known =
+          subst (λ (k : KnownValue). IsKnownOf k may.before)
+          (item_known c.self.inside.rings.items _ _ _ c.index_mut.ensures.value at) may.knows.of_core;
       step = may.step;
     }
 
 pub returns : goal.returns
 returns c = IfOk-weaker c.tell.result _ _ (λ u tells n size start before after event reported knows step.
-    let at = subst (λ (v : StepTextValue). slice_get v.rings c.args.at.cpu.0 ≡ Some knows.known) (sym c.self.view_is) knows.at in
-    let known = subst (λ (k : KnownValue). IsKnownOf k before) (item_known c.self.inside.rings.items _ _ _ c.index_mut.ensures.value at) knows.of_core in
+    let at =
+    subst (λ (v : StepTextValue). slice_get v.rings c.args.at.cpu.0 ≡ Some knows.known) (sym c.self.view_is)
+    knows.at in
+    let known =
+    subst (λ (k : KnownValue). IsKnownOf k before)
+    (item_known c.self.inside.rings.items _ _ _ c.index_mut.ensures.value at) knows.of_core in
     let told = tells n size start before after event reported known step in
     subst (λ (v : StepTextValue). IsTold c.args.at.line c.args.at.cpu.0 before after event reported v
     (with_ring c.self.inside c.args.at.cpu.0 c.tell.new.text.items c.tell.new.self))
     c.self.view_is
-    (is_told c.self.inside c.args.at.cpu.0 c.args.at.line c.tell.new.text.items c.tell.new.self knows.known before after event reported at told))
+    (is_told c.self.inside c.args.at.cpu.0 c.args.at.line c.tell.new.text.items c.tell.new.self knows.known before after
+    event reported at told))
     c.tell.ensures

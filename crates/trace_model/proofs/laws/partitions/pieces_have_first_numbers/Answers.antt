@@ -3,7 +3,9 @@ use Rattle.trace_model.proofs.laws.partitions.pieces_have_first_numbers.Goals as
 
 pub returns : goal.returns
 returns c = record {
-  some = λ records pieces rest index piece partition at. let (first, is) = numbered_from records pieces rest index piece partition at in
+  some =
+      λ records pieces rest index piece partition at. let (first, is) =
+      numbered_from records pieces rest index piece partition at in
       (first, first_is_count records pieces rest index piece first at is);
   counted = λ records pieces rest index first piece partition at. (
     count_is_first records pieces rest index piece first partition at,

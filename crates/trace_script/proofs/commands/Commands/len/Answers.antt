@@ -4,4 +4,5 @@ use Rattle.trace_script.proofs.commands.Commands.len.Goals as goal
 
 pub returns : goal.returns
 returns c =
-    c.len.ensures ∙ sym (length-commands_kept c.self.inside.payloads.items 0 0 c.self.inside.lines) ∙ ap length c.self.view_is
+    c.len.ensures ∙ sym (length-commands_kept c.self.inside.payloads.items 0 0 c.self.inside.lines)
+    ∙ ap length c.self.view_is

@@ -6,24 +6,42 @@ use Rattle.trace_script.proofs.KeptLemmas.{length-commands_kept, command_at, lin
 use Rattle.trace_script.proofs.commands.Commands.line.Goals as goal
 
 pub line-line-requires : goal.line-line-requires
-line-line-requires c = omega (arith, c.requires, length-commands_kept c.self.inside.payloads.items 0 0 c.self.inside.lines, ap (λ (cs : List (ℕ × Command)). length cs) c.self.view_is)
+line-line-requires c =
+    omega (
+      arith,
+      c.requires,
+      length-commands_kept c.self.inside.payloads.items 0 0 c.self.inside.lines,
+      ap (λ (cs : List (ℕ × Command)). length cs) c.self.view_is,
+    )
 
 pub start-start-requires : goal.start-start-requires
-start-start-requires c = omega (arith, c.requires, length-commands_kept c.self.inside.payloads.items 0 0 c.self.inside.lines, ap (λ (cs : List (ℕ × Command)). length cs) c.self.view_is)
+start-start-requires c =
+    omega (
+      arith,
+      c.requires,
+      length-commands_kept c.self.inside.payloads.items 0 0 c.self.inside.lines,
+      ap (λ (cs : List (ℕ × Command)). length cs) c.self.view_is,
+    )
 
 pub part_of-bytes-requires-clause-order : goal.part_of-bytes-requires-clause-order
 part_of-bytes-requires-clause-order c =
-    let within = line_within 0 0 (length c.self.inside.payloads.items) c.self.inside.lines c.args.index c.line-line.result c.self.invariant c.line-line.ensures in
+    let within =
+    line_within 0 0 (length c.self.inside.payloads.items) c.self.inside.lines c.args.index c.line-line.result
+    c.self.invariant c.line-line.ensures in
     omega (arith, within.0, c.start-start.ensures)
 
 pub part_of-bytes-requires-clause-within : goal.part_of-bytes-requires-clause-within
 part_of-bytes-requires-clause-within c =
-    let within = line_within 0 0 (length c.self.inside.payloads.items) c.self.inside.lines c.args.index c.line-line.result c.self.invariant c.line-line.ensures in
+    let within =
+    line_within 0 0 (length c.self.inside.payloads.items) c.self.inside.lines c.args.index c.line-line.result
+    c.self.invariant c.line-line.ensures in
     omega (arith, within.1, ap (λ (bs : List ℕ). length bs) c.as_slice.ensures.value)
 
 pub overflow_add-result : goal.overflow_add-result
 overflow_add-result c =
-    let within = line_within 0 0 (length c.self.inside.payloads.items) c.self.inside.lines c.args.index c.line-line.result c.self.invariant c.line-line.ensures in
+    let within =
+    line_within 0 0 (length c.self.inside.payloads.items) c.self.inside.lines c.args.index c.line-line.result
+    c.self.invariant c.line-line.ensures in
     omega (arith, within.2)
 
 pub returns : goal.returns
@@ -37,6 +55,11 @@ returns c =
     let number : (0 + c.args.index) + line.above ≡ c.args.index + line.above = omega arith in
     sym (ap (λ (cs : List (ℕ × Command)). slice_get cs c.args.index) c.self.view_is)
     ∙ command_at payloads 0 0 c.self.inside.lines c.args.index line c.line-line.ensures
-    ∙ ap (λ (n : ℕ). let o : Option (ℕ × Command) = Some (n, shown (part payloads (start_of 0 c.self.inside.lines c.args.index) line.end) line) in o) number
-    ∙ ap (λ (bs : List ℕ). let o : Option (ℕ × Command) = Some (c.args.index + line.above, shown bs line) in o) (sym bytes)
-    ∙ ap (λ (command : Command). let o : Option (ℕ × Command) = Some (c.args.index + line.above, command) in o) (sym c.lent.ensures)
+    ∙ ap
+    (λ (n : ℕ). let o : Option (ℕ × Command) =
+    Some (n, shown (part payloads (start_of 0 c.self.inside.lines c.args.index) line.end) line) in
+    o) number
+    ∙ ap (λ (bs : List ℕ). let o : Option (ℕ × Command) = Some (c.args.index + line.above, shown bs line) in o)
+    (sym bytes)
+    ∙ ap (λ (command : Command). let o : Option (ℕ × Command) = Some (c.args.index + line.above, command) in o)
+    (sym c.lent.ensures)

@@ -31,7 +31,8 @@ returns c =
     let seen = ap (λ (l : List Kept). length l) c.self.view_is in
     let behind : ℕ = c.args.index - c.len-2.result in
     let low : behind < length wide.items =
-    omega (arith, c.requires, c.if-index-len.false, c.len.ensures, c.len-2.ensures, narrow.ok.0, wide.ok.0, all, seen) in
+    omega
+    (arith, c.requires, c.if-index-len.false, c.len.ensures, c.len-2.ensures, narrow.ok.0, wide.ok.0, all, seen) in
     let at = slice_get_read wide.items (length wide.items) behind c.index-2.result.now refl low c.index-2.ensures in
     ap (λ (l : List Kept). slice_get l c.args.index) (sym c.self.view_is)
     ∙ behind_at narrow.items wide.items c.args.index behind c.index-2.result.now

@@ -9,7 +9,8 @@ pub returns-in-Page-clause-next : goal.returns-in-Page-clause-next
 returns-in-Page-clause-next c =
     let answers = c.in-Page.ensures in
     let took = answers.took in (
-      is_taken (sym c.take.ensures.value ∙ c.in_default.is) took (record { steps = answers.steps; empty_at = answers.empty_at }),
+      is_taken (sym c.take.ensures.value ∙ c.in_default.is) took
+          (record { steps = answers.steps; empty_at = answers.empty_at }),
       record {
         page = took.is.written.page_reads;
         size_is = answers.size.1 ∙ sym (ap (λ (s : Shape). s.size) answers.ring.0);
@@ -23,7 +24,8 @@ pub returns-in-Empty-clause-next : goal.returns-in-Empty-clause-next
 returns-in-Empty-clause-next c =
     let answers = c.in-Empty.ensures in
     let size = ap (λ (s : Shape). s.size) answers.ring.0 in (
-      is_empty c.in-Empty.field-0 c.in-Empty.back refl (sym c.take.ensures.value ∙ c.in_default.is) answers.took.1 (record { steps = answers.steps; empty_at = answers.empty_at }),
+      is_empty c.in-Empty.field-0 c.in-Empty.back refl (sym c.take.ensures.value ∙ c.in_default.is) answers.took.1
+          (record { steps = answers.steps; empty_at = answers.empty_at }),
       record {
         cpu = c.requires.cpu;
         reader = answers.reader;
@@ -37,7 +39,8 @@ pub returns-in-Moving-clause-next : goal.returns-in-Moving-clause-next
 returns-in-Moving-clause-next c =
     let answers = c.in-Moving.ensures in
     let size = ap (λ (s : Shape). s.size) answers.ring.0 in (
-      is_moving c.in-Moving.field-0 c.in-Moving.back refl (sym c.take.ensures.value ∙ c.in_default.is) answers.took.1 (record { steps = answers.steps; empty_at = answers.empty_at }),
+      is_moving c.in-Moving.field-0 c.in-Moving.back refl (sym c.take.ensures.value ∙ c.in_default.is) answers.took.1
+          (record { steps = answers.steps; empty_at = answers.empty_at }),
       record {
         cpu = c.requires.cpu;
         reader = answers.reader;

@@ -23,10 +23,14 @@ use Rattle.tracering_c.specs.contracts.held.Held.{the_row, the_type}
 
 held_keyless : (p : Ptr) (x : Option End) → Keyless (held p x)
 held_keyless p None = tt
-held_keyless p (Some (inl x)) = (lies writer.the_row writer_sent p x, heap.frees.frees handle (raw (lone writer.the_row.mir)) p)
-held_keyless p (Some (inr (inl x))) = (lies reader.the_row reader_sent p x, heap.frees.frees handle (raw (lone reader.the_row.mir)) p)
-held_keyless p (Some (inr (inr (inl x)))) = (lies collector.the_row collector_sent p x, heap.frees.frees handle (raw (lone collector.the_row.mir)) p)
-held_keyless p (Some (inr (inr (inr x)))) = (lies fleet.the_row fleet_sent p x, heap.frees.frees handle (raw (lone fleet.the_row.mir)) p)
+held_keyless p (Some (inl x)) =
+    (lies writer.the_row writer_sent p x, heap.frees.frees handle (raw (lone writer.the_row.mir)) p)
+held_keyless p (Some (inr (inl x))) =
+    (lies reader.the_row reader_sent p x, heap.frees.frees handle (raw (lone reader.the_row.mir)) p)
+held_keyless p (Some (inr (inr (inl x)))) =
+    (lies collector.the_row collector_sent p x, heap.frees.frees handle (raw (lone collector.the_row.mir)) p)
+held_keyless p (Some (inr (inr (inr x)))) =
+    (lies fleet.the_row fleet_sent p x, heap.frees.frees handle (raw (lone fleet.the_row.mir)) p)
 
 pub send : IsSend the_row
 send =

@@ -31,9 +31,13 @@ none_spec 𝓤 𝓛 𝓜 𝓡 wired =
     let H = 𝓛.H in let 𝓣 = tables 𝓤 H 𝓜 𝓡 𝓡.env in let c = f.clauses 𝓛 𝓜.mem 𝓡.returns in
     proved_at 𝓛 f.ended tt c 𝓜 𝓡 tt f.Key.name code.function (code.unfolded 𝓤 H 𝓜 𝓡 wired) (λ z are.
     let Post : Val → SProp 𝓤 = (walk_of 𝓛 f.ended tt c).post z in
-    qed 𝓛 ((‵ ftrue ⊛ ‵ (owns (types_at f.ended.signature.params z.0.0) z.0.3 z.0.4)) ∷ raw ((c z.0.0 z.0.3).requires z.1) ∷ []) ∵
+    qed 𝓛
+    ((‵ ftrue ⊛ ‵ (owns (types_at f.ended.signature.params z.0.0) z.0.3 z.0.4)) ∷ raw ((c z.0.0 z.0.3).requires z.1)
+    ∷ []) ∵
     enter ! 𝓣.C 𝓣.Λ code.function [] Post $ alloc_all ! (λ l. pass_all ! refl tt $
     sets ! (agg ! (and_then ! (lit ! tt) (no_more !))) refl (tt, (record { fits = lit< tt }, tt)) $
     none_in ! $
-    use0 𝓛 (raw (fact 𝓤 (◌≡◌ {A = Held} nothing_held nothing_held))) (fact_i 𝓤 (◌≡◌ {A = Held} nothing_held nothing_held) (emp 𝓤) refl) $ nothing ! $ nothing ! $
-    returns ! (look_at ! 0 refl) $ free_all ! refl $ keep ! (0 ∷ 1 ∷ 3 ∷ 2 ∷ []) $ by ! (leaves 𝓛 f.ended tt c z (one_val (vint w64 0)) nothing_held tt tt)))
+    use0 𝓛 (raw (fact 𝓤 (◌≡◌ {A = Held} nothing_held nothing_held)))
+    (fact_i 𝓤 (◌≡◌ {A = Held} nothing_held nothing_held) (emp 𝓤) refl) $ nothing ! $ nothing ! $
+    returns ! (look_at ! 0 refl) $ free_all ! refl $ keep ! (0 ∷ 1 ∷ 3 ∷ 2 ∷ []) $ by !
+    (leaves 𝓛 f.ended tt c z (one_val (vint w64 0)) nothing_held tt tt)))

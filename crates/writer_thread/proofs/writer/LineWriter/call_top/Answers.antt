@@ -19,8 +19,10 @@ returns-then-is_err c =
     let is = sym c.is_err.ensures.value ∙ c.if-is_err.true in
     let kept : c.end_top.new.self ≡ c.args.self.now = if_err c.end_top.result is c.end_top.ensures.kept in
     let old : LineWriter = c.args.self.now in
-    subst (λ (x : LineWriter). CallsTop old record { writer = c.step-answer.new.self; payloads = x.payloads }) (sym kept)
+    subst (λ (x : LineWriter). CallsTop old record { writer = c.step-answer.new.self; payloads = x.payloads })
+    (sym kept)
     (step_called old c.step-answer.new.self c.step-answer.result c.requires.is c.requires.top
     (if_err c.end_top.result is c.end_top.ensures.none)
-    (subst (λ (x : LineWriter). MakesSome x.writer steps c.step-answer.result c.step-answer.new.self) kept c.step-answer.ensures.makes)
+    (subst (λ (x : LineWriter). MakesSome x.writer steps c.step-answer.result c.step-answer.new.self) kept
+    c.step-answer.ensures.makes)
     (subst (λ (x : LineWriter). IsNearer x.writer c.step-answer.new.self) kept c.step-answer.ensures.nearer))

@@ -56,8 +56,14 @@ returns-clause-ended c =
     (c.in_ok-top_mut.ensures.fits lent.slot lent.on_top))
     (c.write_padded.ensures
     ∙ ap (λ (k : ℕ). item ++ replicate (k - length item) 0) wide)
-    (λ long. written_is w p lent part (c.in_ok-top_mut.ensures.slot.written part (long ∙ sym (lent_len w.frames.stack p lent))))
-    (subst (λ (x : WriterValue). MakesSome x (ends (top_bytes x.frames.stack x.frames.stack.frames)) c.end-answer.result c.end-answer.new.self) (lent_is w p lent part) c.end-answer.ensures.makes)
+    (λ long.
+    written_is w p lent part
+    (c.in_ok-top_mut.ensures.slot.written part (long ∙ sym (lent_len w.frames.stack p lent))))
+    (subst
+    (λ (x : WriterValue).
+    MakesSome x (ends (top_bytes x.frames.stack x.frames.stack.frames)) c.end-answer.result c.end-answer.new.self)
+    (lent_is w p lent part) c.end-answer.ensures.makes)
 
 pub returns-in_err-top_mut-clause-none : goal.returns-in_err-top_mut-clause-none
-returns-in_err-top_mut-clause-none c = on_err c.from_residual.result (λ slot is. let held = c.in_err-top_mut.ensures.held slot is in cc)
+returns-in_err-top_mut-clause-none c =
+    on_err c.from_residual.result (λ slot is. let held = c.in_err-top_mut.ensures.held slot is in cc)

@@ -27,7 +27,9 @@ loop-self-preserved g c =
             c.loop-self.self c.call_gated.new.self c.loop-self.invariant.part_way.1 some c.loop-self.invariant.deep
             c.in_ok-call_gated.ensures.calls,
       );
-      asks = asks_then g.G.Gate.answers c.args.gate.now c.args.cpu.0 c.args.self.now c.loop-self.self c.call_gated.new.self _
+      asks =
+          asks_then g.G.Gate.answers c.args.gate.now c.args.cpu.0 c.args.self.now c.loop-self.self c.call_gated.new.self
+          _
           c.loop-self.invariant.asks c.in_ok-call_gated.ensures.gate;
     }
 
@@ -36,7 +38,8 @@ returns-then-depth-clause-line g c =
     let some : 0 < c.depth-depth.result = let not = c.if-depth-eq0.false in omega arith in
     finished c.depth-depth.result (c.loop-self.invariant.part_way.0 + 1) c.args.self.now c.call_gated.new.self
     c.depth-depth.ensures some
-    (part_way_more c.depth-depth.result c.loop-self.invariant.part_way.0 c.args.self.now c.loop-self.self c.call_gated.new.self
+    (part_way_more c.depth-depth.result c.loop-self.invariant.part_way.0 c.args.self.now c.loop-self.self
+    c.call_gated.new.self
     c.loop-self.invariant.part_way.1 some c.loop-self.invariant.deep c.in_ok-call_gated.ensures.calls)
     c.args.cpu.0
     (λ same. c.if-depth.true (c.depth.ensures ∙ same))
@@ -44,7 +47,9 @@ returns-then-depth-clause-line g c =
 pub returns-in_err-call_gated-clause-gate : goal.returns-in_err-call_gated-clause-gate
 returns-in_err-call_gated-clause-gate g c =
     let p = err_from_is_err_and c.from_residual.result c.from_residual.ensures.1 in
-    rw (p.1, p.2) (asks_then g.G.Gate.answers c.args.gate.now c.args.cpu.0 c.args.self.now c.loop-self.self c.call_gated.new.self _
+    rw (p.1, p.2)
+    (asks_then g.G.Gate.answers c.args.gate.now c.args.cpu.0 c.args.self.now c.loop-self.self c.call_gated.new.self
+    _
     c.loop-self.invariant.asks c.in_err-call_gated.ensures.gate)
 
 pub returns-then-depth-clause-gate : goal.returns-then-depth-clause-gate

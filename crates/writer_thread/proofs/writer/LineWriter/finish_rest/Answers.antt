@@ -24,5 +24,6 @@ loop-cpu-preserved g c = (
 pub returns-in_err-finish-clause-gate : goal.returns-in_err-finish-clause-gate
 returns-in_err-finish-clause-gate g c =
     let p = err_from_is_err_and c.from_residual.result c.from_residual.ensures.1 in
-    rw (p.1, p.2) (asks_then g.G.Gate.answers c.args.gate.now c.args.cpu.0 c.args.self.now c.loop-cpu.self c.finish.new.self _
+    rw (p.1, p.2)
+    (asks_then g.G.Gate.answers c.args.gate.now c.args.cpu.0 c.args.self.now c.loop-cpu.self c.finish.new.self _
     c.loop-cpu.invariant.1 c.in_err-finish.ensures.gate)

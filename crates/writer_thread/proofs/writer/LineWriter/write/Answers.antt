@@ -13,5 +13,6 @@ returns-clause-line g c = on_ok c.pass_closed.result c.write_whole.ensures
 pub pass_closed-requires-clause-forward : goal.pass_closed-requires-clause-forward
 pass_closed-requires-clause-forward g c κs within =
     let was = c.done-done.ensures.part c.requires.writer in
-    let rises = whole_forward c.args.moment c.args.payload.now c.args.self.now c.write_whole.new.self c.write_whole.ensures in
+    let rises =
+    whole_forward c.args.moment c.args.payload.now c.args.self.now c.write_whole.new.self c.write_whole.ensures in
     omega (arith, was, rises)

@@ -5,4 +5,5 @@ use Rattle.library_values.proofs.listed_fleet.listed.ListedFleet.next_cpu.Goals 
 
 pub returns-clause-none : goal.returns-clause-none
 returns-clause-none c =
-    subst (λ (s : Stream). IfNone c.next_cpu_of.result (HasNoneFrom (IsToldOf s) c.args.from)) c.known_of.ensures c.next_cpu_of.ensures.none
+    subst (λ (s : Stream). IfNone c.next_cpu_of.result (HasNoneFrom (IsToldOf s) c.args.from)) c.known_of.ensures
+    c.next_cpu_of.ensures.none
