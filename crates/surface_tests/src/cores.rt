@@ -3,7 +3,7 @@ ghost use Rattle.std.specs.Prelude.{◌≡◌, ◌∷◌, length, Some, IfOk};
 ghost use Rattle.ring_frames.specs.Lens.{lens};
 ghost use Rattle.ring_core.specs.Steps.{IsReachedCore};
 
-use nested_writer::{Ended, WriteFault};
+use nested_writer::{Ended, WriteFault, Wrote};
 use page_image::Body;
 use ring_core::{Answer, Core, Event};
 use std::alloc::Global;
@@ -70,6 +70,14 @@ fn write_by_steps(rt: &impl Abort, core: &mut Core) -> Result<(), Fail>
 fn a_record_is_written_by_its_steps(rt: HostRuntime) -> Result<(), Fail> {
     let mut core = Core::new(rt.alloc(), 2, 32)?;
     write_by_steps(&rt, &mut core)
+}
+
+#[test]
+fn a_record_is_written_at_once(rt: HostRuntime) -> Result<(), Fail> {
+    let mut core = Core::new(rt.alloc(), 2, 32)?;
+    assert!(rt; matches!(core.write(100, &[1, 2, 3, 4]), Wrote::Record));
+    assert!(rt; core.depth() == 0);
+    Ok(())
 }
 
 /// Begins a record and reserves it by its first step.
