@@ -32,9 +32,9 @@
 //
 // Signals. A handler may call write, begin, put, finish, end, begin_close, depth and peek on the handle of the thread
 // that it interrupts: its records are nested. Amid a call on that handle they answer BUSY: the handler's record isn't
-// written, and the handle counts it. It may call take and wish on a reader's handle in the same way, and refused
-// always. It must not call new, settle, those that free, pack, or any call on a collector or a fleet: most of these
-// take or release memory. It completes what it begins.
+// written, and the handle counts it. It may call take and wish on a reader's handle in the same way, and at any time,
+// amid a call too, written, refused, writer_room and reader_room. It must not call new, settle, those that free, pack,
+// or any call on a collector or a fleet: most of these take or release memory. It completes what it begins.
 // No record of a handler is refused so if it has a ring that nothing which it interrupts writes: one ring for the
 // thread's own code, and one for each level of handlers. Handlers are of one level if each blocks the signals of all of
 // them (sa_mask). examples/c_recorder/levels.c is a program to copy; a collector puts the records of all in order.
@@ -687,8 +687,8 @@ static inline int32_t tracering_depth(struct tracering_writer *w)
 
 // Copies to `out` how many records write, begin and finish lost so far, by their answers. It may be made amid a call on
 // the handle, by any handler, and by another thread. (`missed` of a page that is taken has none of these records: it
-// counts those that were written and overwritten.) settle and writer_free set the counts to 0, so read them first. It
-// answers DONE, of a handle that has nothing too.
+// counts those that were written and overwritten.) settle, writer_free and writer_abandon set the counts to 0, so read
+// them first. It answers DONE, of a handle that has nothing too.
 // (In C++ the struct is written `struct tracering_refused`, since the call has its name; that is no slip.)
 #pragma GCC diagnostic push
 #pragma GCC diagnostic ignored "-Wshadow"

@@ -1,7 +1,7 @@
 // A flight recorder: each thread's newest events, kept in memory, and dumped in one call or as the program crashes.
 //
 //     flight_start(NULL);
-//     flight_dump_on_crash("program.flight");
+//     flight_dump_on_crash("crash.flight");
 //     TRACE("request %u took %lu ns", id, ns);
 //
 // or kept in a file, so that they outlive the process, whatever ends it:
@@ -10,29 +10,35 @@
 //     flight_start(&config);
 //
 // TRACE has the format of printf, which the compiler checks. What is recorded is which TRACE it is, the time and the
-// arguments as they are: nothing is formatted before `tracering-flight show program.flight` prints the dump's events by
-// time, with each loss counted. It is over tracering.h; the program links out/libtracering.a (`./tracering-lib`).
+// arguments as they are: nothing is formatted before `tracering-flight show FILE` prints the events by time, with each
+// loss counted.
+//
+// The recorder is over tracering.h, and needs Linux, and C11 or C++17. A program links out/libtracering.a
+// (`./tracering-lib`) and -lpthread; with an installed library, what `pkg-config --libs tracering` prints.
 //
 // Threads. A thread has rings of its own from its first TRACE on, and hands them back when it ends. The rings are made
 // by flight_start: if all are in use, the events of a further thread are counted and not recorded. With them are
 // counted those of sites beyond 65,536: a site is a TRACE that is reached.
 // A thread whose cancel type is asynchronous must make no call of these, and no TRACE.
 //
-// Signals. TRACE and flight_dump may be called in handlers. They take no memory and no lock. What interrupts a TRACE
-// writes to the thread's next ring (`levels`); an event for which no ring is left is counted. A handler that doesn't
-// return while it holds an interrupted TRACE leaves that ring in use.
-// A dump asks each other thread for its newest events by a signal (`signal`), which must not be blocked; of a thread
-// that blocks it, a dump lacks those newest events, and says how many. The signal's handler interrupts calls that wait:
-// nanosleep, poll and others then answer EINTR. The signal belongs to the recorder until flight_stop.
+// Signals. A handler may call TRACE, flight_dump and flight_name, which take no memory and no lock, and no other call
+// of these. What interrupts a TRACE writes to the thread's next ring (`levels`); an event for which no ring is left is
+// counted. A handler that doesn't return while it holds an interrupted TRACE leaves that ring in use.
+// A dump asks each other thread for its newest events by a signal (`signal`). Of a thread that blocks it, a dump lacks
+// the newest events, and says how many. The signal's handler interrupts calls that wait: nanosleep, poll and others
+// then answer EINTR. The signal belongs to the recorder until flight_stop.
 //
 // Files. With `file`, all that a first dump would have lies in that file from flight_start on. So after SIGKILL, a
 // crash, or whatever else ends the process, `tracering-flight show FILE` shows each event whose TRACE had returned, but
-// for those that it counts: overwritten, refused, or taken by an earlier flight_dump, whose file alone has them. It may
-// also be called while the program runs. Then no crash needs to be handled, but the file doesn't say which signal ended
-// the process: flight_dump_on_crash is for programs without a file. A TRACE takes no longer, but where the kernel
-// writes the file back to a disk its first store to a page may wait for that: a file in /dev/shm isn't written
-// anywhere. A crash of the machine leaves what was written back. The file has room for the sites of some 10,000 TRACE;
-// the arguments of further ones are shown as bytes. Of a forked child nothing is in its parent's file.
+// for those that it counts: overwritten, refused, or taken by an earlier flight_dump, whose file alone has them. `show`
+// may also read it while the program runs (on x86-64). So no crash needs to be handled, but the file doesn't say which
+// signal ended the process. If that is wanted, flight_dump_on_crash may be called too, with another path: at the
+// recorder's own the dump is refused (EEXIST), and nobody is told. What the dump took is in it alone, as with
+// flight_dump.
+// `tracering_write` takes no longer there (docs/SPEED.md), but where the kernel writes the file back to a disk its
+// first store to a page may wait for that: a file in /dev/shm isn't written anywhere. A crash of the machine leaves
+// what was written back. The file has room for the sites of some 10,000 TRACE; the arguments of further ones are shown
+// as bytes. Of a forked child nothing is in its parent's file.
 //
 // Arguments. Integers, enumerations, floating numbers, pointers and texts, 8 at most. A `char *` is copied if its
 // conversion is %s: to its end, its precision or 255 bytes, whichever comes first. For %p its address is recorded, as
@@ -41,11 +47,12 @@
 // the event is switched off. In C, TRACE can't stand in an inline function that isn't static.
 //
 // Shared objects. An object with TRACE must not be unloaded while a dump can be made (link it with `-z nodelete`), and
-// all objects of a process share one copy of the recorder.
+// all objects of a process share one copy of the recorder: link the archive into the program alone (with -rdynamic, if
+// it loads objects by dlopen), or all of them with the shared library.
 //
 // fork. The child has no recorder: its TRACE does nothing, and flight_dump answers ENODEV, until it calls flight_start.
 //
-// Each function answers 0 or an error number.
+// Each function answers 0 or an error number; EINVAL if a pointer is null (flight_start's may be).
 #ifndef TRACERING_FLIGHT_H
 #define TRACERING_FLIGHT_H
 
@@ -62,7 +69,8 @@ extern "C" {
 // Which clock the moments of events are read from.
 enum flight_clock {
     FLIGHT_MONOTONIC, // CLOCK_MONOTONIC, in nanoseconds
-    FLIGHT_TSC,       // the processor's counter (x86: TSC, arm64: its virtual counter)
+    FLIGHT_TSC,       // the processor's counter (x86: TSC, arm64: its virtual counter). Nothing checks that it runs
+                      // evenly, and alike on all processors
     FLIGHT_CALLER     // the caller's
 };
 
@@ -74,27 +82,35 @@ struct flight_config {
     uint32_t threads;        // how many threads record at once (32); threads times levels are 256 at most
     uint32_t levels;         // how many rings each thread has: 1 to 4 (2)
     uint32_t pages;          // how many pages a thread's first ring has: 2 to 1,024 (8); its others have 2
-    uint32_t size;           // bytes of data on a page: 32 to 65,520, a multiple of 4 (4,080)
-    uint32_t keep;           // how many pages that a dump took are kept for the next one (threads times (pages + 1))
+    uint32_t size;           // bytes of data on a page: 32 to 65,520, a multiple of 4 (4,080). An event that has no
+                             // room on an empty page is counted as refused (too long)
+    uint32_t keep;           // how many pages that a dump took are kept for the next one: 2^24 at most, or
+                             // FLIGHT_KEEP_NONE (threads times (pages + 1))
     enum flight_clock clock; // (FLIGHT_MONOTONIC)
-    uint64_t (*now)(void);   // FLIGHT_CALLER: the clock, below 2^59; it may be called in handlers
+    uint64_t (*now)(void);   // FLIGHT_CALLER: the clock, below 2^59; it may be called in handlers. Null for others
     int signal;              // the signal that asks a thread for its newest events (SIGRTMAX - 1)
-    uint32_t wait_ms;        // how many milliseconds a dump waits for a thread's answer (100)
+    uint32_t wait_ms;        // how many milliseconds a dump waits for each thread's answer, one thread after the other;
+                             // up to twice as many for one that answers that it is amid a TRACE (100)
     const char *file;        // a file that has all events from the start on, after a kill, too: "Files" (none)
 };
 
 // Starts the recorder: all its memory is taken here. Null stands for all defaults.
-// If there is a file at the path of `file`, it is named PATH~ first, and what had that name is gone: so a program
-// that is begun anew keeps what it left. The new file is readable by its owner alone, and its blocks are allocated.
-// EALREADY: it runs already. EINVAL: a number is out of its range, or `signal` is one of those of a crash. EBUSY: the
-// program has a handler of `signal`. EEXIST: what is at the path of `file` is no regular file. ENOMEM. And what
-// sigaction, open and others answer. If there is no start, there is no new file, but the former one may be PATH~.
+// If there is a file at the path of `file`, it is named PATH~ first, and what had that name is gone: so what one run
+// leaves is there until the second start after it. Nothing looks whether a process still records in it: processes that
+// run at once, a forked child and its parent too, need paths of their own. The new file is readable by its owner alone,
+// and its blocks are allocated. It may not be called in handlers.
+// EALREADY: it runs already. EINVAL: a number is out of its range, this machine has no such clock, `now` is null with
+// FLIGHT_CALLER or given without it, or `signal` is one of those of a crash. EBUSY: the program has a handler of
+// `signal`. EEXIST: what is at the path of `file` is no regular file. ENOMEM. And what sigaction, open and others
+// answer. If there is no start, there is no new file, but the former one may be PATH~.
 // (LeakSanitizer doesn't look into all of this memory: unless flight_stop is called, it reports the rings as lost.)
 int flight_start(const struct flight_config *config);
 
-// Stops it and releases its memory. Its file says so, and stays; of each ring the page that is written is closed, which
-// in a full ring overwrites the oldest page. No thread may be amid a TRACE; one that ends, or answers a dump late, is
-// waited for, up to five seconds.
+// Stops it and releases its memory. No thread or handler may be amid a TRACE when it is called, or begin one before it
+// returns. A thread that ends, or answers a dump late, is waited for, up to five seconds. The file says that it was
+// stopped, and stays; of each ring the page that is written is closed, which in a full ring overwrites the oldest page.
+// The signals of a crash do again what they did before: after a new start flight_dump_on_crash is to be called again.
+// Switches stay, and so do the names of threads. It may not be called in handlers.
 // ENODEV: none runs. EBUSY: a dump is made. ETIMEDOUT: such a thread wasn't done by then, and the recorder goes on.
 int flight_stop(void);
 
@@ -105,9 +121,9 @@ int flight_stop(void);
 // pipe or another file at PATH that holds no bytes is written as it is. Processes that dump at once need paths of their
 // own.
 // All signals of the thread are blocked meanwhile. A request to cancel the thread isn't acted on.
-// ENODEV: no recorder runs. EBUSY: another dump is made. EEXIST: the recorder's file is there, or at PATH~. And what
-// open, write, close and rename answer: then the next dump has the same events, as many of them as `keep` says, and the
-// newer ones.
+// ENODEV: no recorder runs. ENAMETOOLONG: PATH~ has no room in PATH_MAX. EBUSY: another dump is made. EEXIST: the
+// recorder's file is there, or at PATH~. And what open, write, close and rename answer: then the next dump has the same
+// events, as many of them as `keep` says, and the newer ones.
 int flight_dump(const char *path);
 
 // From now on SIGSEGV, SIGBUS, SIGILL, SIGFPE, SIGABRT and SIGTERM dump to this path, which is copied, and then do what
@@ -121,13 +137,14 @@ int flight_dump(const char *path);
 // ENODEV, ENAMETOOLONG, ENOMEM.
 int flight_dump_on_crash(const char *path);
 
-// This thread's name in dumps, 63 bytes at most, from its next event on. Until then it is the name that the kernel has
-// of the thread at its first TRACE. May be called in handlers.
+// This thread's name in dumps, from its next event on; what is beyond 63 bytes is left out. Until then it is the name
+// that the kernel has of the thread at its first TRACE. May be called in handlers.
 int flight_name(const char *name);
 
-// Switches on or off the events whose text "FILE:LINE FORMAT" matches the pattern, those also that are first reached
-// later: all are on at first, and the last switch counts whose pattern matches. In a pattern * stands for any bytes, ?
-// for one, [a-z] and [!a-z] for one of a set or not of it, and \ for the byte after it. ENOMEM.
+// Switches on or off the events whose text "FILE:LINE FORMAT" the whole pattern matches (so "*cache.c:*" for a file),
+// FILE as __FILE__ has it; those also that are first reached later. All are on at first, and the last switch counts
+// whose pattern matches. In a pattern * stands for any bytes, ? for one, [a-z] and [!a-z] for one of a set or not of
+// it, and \ for the byte after it. It may be called before flight_start. It may not be called in handlers. ENOMEM.
 int flight_switch(const char *pattern, bool on);
 
 // ---- What TRACE is made of. The structs and calls from here to TRACE are for macros, of other languages too.

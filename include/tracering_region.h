@@ -1,14 +1,15 @@
 // Rings whose pages lie in memory of the caller's: a file, or memory that is shared. If the process is killed, at any
-// instruction, its records are still there, and while it runs, other threads and processes can look at them.
+// instruction, its records are still there, and while it runs, others can look at them (on x86-64).
 //
 //     size_t len = tracering_region_size(64, 4080);
 //     void *region = tracering_region_file("ring.0", len);
-//     if (!region || tracering_new_in(&writer, &reader, 0, 64, 4080, 1, region, len) != TRACERING_DONE)
+//     if (!region || tracering_new_in(&writer, &reader, 0, 64, 4080, stream, region, len) != TRACERING_DONE)
 //         return 1;
 //     tracering_write(&writer, moment, "begun", 5);
 //     kill(getpid(), SIGKILL);
 //
-// `tracering recover ring.0` prints what was written. examples/c_recorder/survive.c is a program to copy.
+// `tracering recover ring.0` prints what was written. `stream` is an id, another one for each run. A program to copy,
+// which also makes such an id, is examples/c_recorder/survive.c.
 //
 // Regions. A ring of N pages of S bytes of data has N + 1 slots in its region, one for each page and one for the
 // reader's. Records are written there and nowhere else: a call on such a ring takes no longer than on any other, but
@@ -23,7 +24,12 @@
 // process, and a crash of the machine only if they were written back (msync).
 //
 // Order. That the stores of a call are seen in their order is tested, and not proved: after a kill it follows from the
-// order of instructions, and another thread sees it on x86-64, which stores in order.
+// order of instructions, and another thread sees it on x86-64, which stores in order. So elsewhere a copy of a region
+// that is written may be wrong.
+//
+// Threads. One writer and one reader use a ring at a time, as tracering.h says. Any thread or process may call
+// tracering_region_about, tracering_region_copy and tracering_region_slot, and so may a handler: they take no memory
+// and no lock. No handler may make a ring here, or map or unmap memory.
 //
 // Lengths are in bytes. A region begins at a multiple of 64 bytes, as all that is mapped here does. It stays mapped
 // until both ends of its ring are freed or settled; then it may be unmapped, or have another ring. An end that was
@@ -64,9 +70,9 @@ int32_t tracering_raw_new_in(struct tracering_held *, struct tracering_held *, u
     void *, size_t);
 
 // A new ring, as `tracering_new` makes it, whose pages lie in the `len` bytes from `region` on. What was there before
-// is gone. All other memory of the ring is malloc's. `stream` is an id for its records, one for each ring and each run
-// (docs/FORMATS.md, "Streams of parcels"). The region becomes one last, when all else is stored: a process that is
-// killed in this call leaves none.
+// is gone. All other memory of the ring is malloc's. `stream` is an id for its records: another one for each run. Rings
+// of one run may share it, if each has a CPU of its own (examples/c_recorder/survive.c; docs/FORMATS.md, "Streams of
+// parcels"). The region becomes one last, when all else is stored: a process that is killed in this call leaves none.
 // IN_USE, BAD_CPU, BAD_SIZE as new answers them. BAD_REGION: there are fewer bytes than `tracering_region_size` says,
 // they begin at no multiple of TRACERING_REGION_ALIGN, or an end of another ring in them isn't freed. Then nothing is
 // changed. NO_MEMORY: the handles aren't changed; the bytes may be, and then are no region.
@@ -90,9 +96,11 @@ static inline int32_t tracering_new_in(struct tracering_writer *w, struct tracer
 // ---- Memory for regions. Each answers where `len` bytes of zeros begin, or null and sets errno.
 
 // A new file of this name, of mode 0600, mapped as shared; its blocks are allocated, so that no write finds the disk
-// full. If there is a file of this name, it is named PATH~ first, and what had that name is gone: so a program that is
-// begun anew keeps what it left when it was killed. What is there and is no regular file is left alone (EEXIST).
-// EINVAL: `len` is 0. ENOSPC and others: there is no new file then, but the former one may be PATH~ already.
+// full. If there is a file of this name, it is named PATH~ first, and what had that name is gone: so what one run
+// leaves is there until the second start after it. Nothing looks whether a process still has the file mapped: processes
+// that run at once, a forked child and its parent too, need paths of their own. What is there and is no regular file is
+// left alone (EEXIST). EINVAL: `len` is 0. ENOSPC and others: there is no new file then, but the former one may be
+// PATH~ already.
 void *tracering_region_file(const char *path, size_t len);
 
 // A new object of POSIX shared memory, of mode 0600; `name` begins with a slash. On Linux it is the file /dev/shm/NAME,
