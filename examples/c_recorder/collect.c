@@ -7,6 +7,12 @@
 
 enum { CPUS = 2, SIZE = 128, RUNS = 16 };
 
+static int failed(const char *what, int32_t code)
+{
+    fprintf(stderr, "collect: %s: %s\n", what, tracering_text(code));
+    return 1;
+}
+
 static int collect(struct tracering_collector *collector)
 {
     uint8_t parcel[TRACERING_HEADER + SIZE];
@@ -32,25 +38,28 @@ static int list(struct tracering_collector *collector)
     char text[SIZE];
     size_t count;
     for (uint32_t cpu = 0; cpu < CPUS; cpu++) {
-        if (tracering_collector_missing(collector, cpu, runs, RUNS, &count) != TRACERING_DONE)
-            return 1;
+        int32_t code = tracering_collector_missing(collector, cpu, runs, RUNS, &count);
+        if (code != TRACERING_DONE)
+            return failed("the missing numbers", code);
         for (size_t k = 0; k < count; k++)
             printf("missing %u %llu-%llu\n", cpu, (unsigned long long)runs[k].first, (unsigned long long)runs[k].last);
     }
-    if (tracering_collector_list(collector, &count) != TRACERING_DONE)
-        return 1;
+    int32_t code = tracering_collector_list(collector, &count);
+    if (code != TRACERING_DONE)
+        return failed("the listing", code);
     // The text is followed by the zeros of its slot, which may be none.
-    while (tracering_collector_next(collector, text, sizeof text, &line) == TRACERING_DONE)
+    while ((code = tracering_collector_next(collector, text, sizeof text, &line)) == TRACERING_DONE)
         printf("%llu %u %llu %.*s\n", (unsigned long long)line.moment, line.cpu, (unsigned long long)line.number,
             (int)line.len, text);
-    return 0;
+    return code == TRACERING_END ? 0 : failed("the listing", code);
 }
 
 int main(void)
 {
     struct tracering_collector collector = {0};
-    if (tracering_collector_new(&collector) != TRACERING_DONE)
-        return 1;
+    int32_t code = tracering_collector_new(&collector);
+    if (code != TRACERING_DONE)
+        return failed("a new collector", code);
     int status = collect(&collector) || list(&collector);
     tracering_collector_free(&collector);
     return status;

@@ -1,7 +1,7 @@
-// A flight recorder, to be copied. Two threads record events, each in a ring of its own, and a signal's handler
-// records its own between them. Nobody reads meanwhile: each ring keeps the newest events. When the program is hit by
-// a fault, the handler of that dumps what the rings have to standard output, as parcels of TRACERING_HEADER + SIZE
-// bytes each.
+// A ring for each thread, written and taken by hand, to be copied where tracering_flight.h doesn't do (for that see
+// examples/flight/crash.c). Two threads record events, each in a ring of its own, and a signal's handler records its
+// own between them. Nobody reads meanwhile: each ring keeps the newest events. When the program is hit by a fault, the
+// handler of that dumps what the rings have to standard output, as parcels of TRACERING_HEADER + SIZE bytes each.
 //
 // `./tracering-lib` prints how to compile and link it; add `-lpthread`. `recorder >DUMP` hits itself by such a fault
 // when all is recorded, so that it ends with status 139 (SIGSEGV); `list DUMP` and `collect <DUMP` then print what the
@@ -27,7 +27,7 @@ static _Thread_local int cpu;
 
 static void record(uint64_t moment, const char *event)
 {
-    // A flight recorder goes on if an event is refused: in a handler that interrupts this very call, for example. The
+    // The thread goes on if an event is refused: in a handler that interrupts this very call, for example. The
     // handle counts it (`tracering_refused`); levels.c shows how no handler is refused so.
     (void)tracering_write(&writers[cpu], moment, event, strlen(event));
 }

@@ -1,8 +1,9 @@
 // Records that outlive their process, to be copied. Four threads record events, each in a ring of its own, whose pages
-// lie in the file ring.N of the folder that is named. Then the process kills itself, as another one might at any moment:
-// `tracering recover ring.*` prints the events all the same, those of all threads by time.
+// lie in the file ring.N of the folder that is named. Then the process kills itself, as another one might at any
+// moment: `tracering recover ring.*` prints the events all the same, those of all threads by time.
 //
-// `./tracering-lib` prints how to compile and link it; add `-lpthread`. `survive FOLDER` ends with status 137 (SIGKILL).
+// `./tracering-lib` prints how to compile and link it; add `-lpthread`. `survive FOLDER` ends with status 137
+// (SIGKILL).
 #define _POSIX_C_SOURCE 200809L
 #include "tracering_region.h"
 
@@ -22,7 +23,8 @@ struct recorder {
 
 static struct recorder recorders[THREADS];
 
-// One id for this run: its parts are told apart from those of others, on this machine and elsewhere.
+// One id for all rings of this run, each of which has a CPU of its own. By it they are told apart from those of other
+// runs, on this machine and elsewhere.
 static uint64_t stream_of_this_run(void)
 {
     struct timespec now;
@@ -37,7 +39,7 @@ static uint64_t moment(void)
     return (uint64_t)now.tv_sec * 1000000000u + (uint64_t)now.tv_nsec;
 }
 
-// A file of before is put aside as ring.N~, so that a program that is begun anew keeps what it left.
+// A file of before is put aside as ring.N~, so what one run leaves is there until the second start after it.
 static bool start(uint32_t thread, uint64_t stream)
 {
     char path[16];

@@ -24,6 +24,7 @@ int main(void)
     if (flight_start(NULL) || flight_dump_on_crash("crash.flight"))
         return 1;
     for (int k = 0; k < 4; k++)
-        pthread_create(&threads[k], NULL, serve, names[k]);
+        if (pthread_create(&threads[k], NULL, serve, names[k]))
+            return 1;
     return pthread_join(threads[0], NULL);
 }

@@ -1,4 +1,5 @@
-// Four threads record, and the process is killed. The newest events of all are in killed.flight: nothing had to be called.
+// Four threads record, and the process is killed. The newest events of all are in killed.flight, and nothing had to be
+// called.
 #define _POSIX_C_SOURCE 200809L
 #include "tracering_flight.h"
 #include <pthread.h>
@@ -21,7 +22,8 @@ int main(void)
     if (flight_start(&config))
         return 1;
     for (int k = 0; k < 4; k++)
-        pthread_create(&threads[k], NULL, serve, names[k]);
+        if (pthread_create(&threads[k], NULL, serve, names[k]))
+            return 1;
     for (int k = 0; k < 4; k++)
         pthread_join(threads[k], NULL);
     return kill(getpid(), SIGKILL);
