@@ -301,8 +301,8 @@ impl Fleet {
         done(unsafe { tracering_raw_fleet_frontier(self.0.get(), &mut moment) }).ok().map(|()| moment)
     }
 
-    /// Raises the bound of each CPU to its cut at this moment. If memory is refused, some streams may have been done: it
-    /// may be called again.
+    /// Raises the bound of each CPU to its cut at this moment. If memory is refused, some streams may have been done:
+    /// it may be called again.
     pub fn forget_before(&mut self, moment: u64) -> Result<(), Fault> {
         done(unsafe { tracering_raw_fleet_forget_before(self.0.get_mut(), moment) })
     }

@@ -12,7 +12,7 @@
 //! ```
 //!
 //! `tracering-flight show program.flight` prints the events by time, formatted, with each loss counted. With a `file`
-//! in the configuration the newest events are there from the start on, after a kill, too.
+//! in the configuration that file has the events as they are recorded, so they outlive a kill, and no dump is needed.
 use std::ffi::{c_char, c_int, CString};
 use std::io;
 use std::mem::{size_of, MaybeUninit};
@@ -115,7 +115,7 @@ pub fn start(config: &Config) -> io::Result<()> {
 /// Stops the recorder, and releases its memory.
 ///
 /// # Safety
-/// No thread is amid a `trace!`, and none begins one before this returns.
+/// No thread or handler is amid a `trace!`, and none begins one before this returns.
 pub unsafe fn stop() -> io::Result<()> {
     done(flight_stop())
 }
@@ -138,7 +138,7 @@ pub fn name(name: &str) -> io::Result<()> {
     done(unsafe { flight_name(name.as_ptr()) })
 }
 
-/// Switches on or off the events whose text "FILE:LINE FORMAT" matches the pattern.
+/// Switches on or off the events whose text "FILE:LINE FORMAT" the whole pattern matches (`*cache.rs:*` for a file).
 pub fn switch(pattern: &str, on: bool) -> io::Result<()> {
     let pattern = text(pattern.as_bytes())?;
     done(unsafe { flight_switch(pattern.as_ptr(), on) })

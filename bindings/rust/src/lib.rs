@@ -1,12 +1,13 @@
 //! A trace ring with a writer's end and a reader's end, each of which may go to a thread of its own; collectors of the
 //! parcels that are taken; and fleets, which collect the packed parcels of many streams.
 //!
-//! `./tracering-lib`, in the folder above `bindings`, builds the static library that this crate links; `tests/` shows
-//! the calls in use.
+//! `./tracering-lib`, in the folder above `bindings`, builds the static library that this crate links, in `out`; the
+//! environment's TRACERING_LIB names another folder that has it. `tests/` shows the calls in use.
 //!
 //! `include/tracering.h` says what each call does. What is a condition there is kept here by types: an end is in one
-//! call at a time, since calls borrow it, and it is freed when it is dropped. That two ends are of one ring is looked at
-//! when they are settled: both carry its number. What a writer refuses, it answers to its caller, so nothing counts it.
+//! call at a time, since calls borrow it, and it is freed when it is dropped. That two ends are of one ring is looked
+//! at when they are settled: both carry its number. What a writer refuses, it answers to its caller, so nothing counts
+//! it.
 mod fleet;
 pub mod flight;
 pub mod region;

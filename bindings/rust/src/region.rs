@@ -5,8 +5,10 @@
 //! # fn main() -> Result<(), Box<dyn std::error::Error>> {
 //! use std::sync::Arc;
 //! use tracering::region::{ring_in, Region};
+//! // An id for the rings of this run, each of which has a CPU of its own.
+//! let stream = std::time::UNIX_EPOCH.elapsed()?.as_nanos() as u64;
 //! let region = Arc::new(Region::file("ring.0".as_ref(), 64, 4080)?);
-//! let (mut writer, _reader) = ring_in(&region, 0, 64, 4080, 1)?;
+//! let (mut writer, _reader) = ring_in(&region, 0, 64, 4080, stream)?;
 //! writer.write(7, b"begun")?;
 //! std::process::abort();
 //! # }
@@ -137,7 +139,8 @@ impl Drop for Region {
 }
 
 /// The two ends of a new ring, as `tracering::ring` makes it, whose pages lie in this region. `stream` is an id for its
-/// records. `Fault::BadRegion`: the region is shorter than the ring needs, or has another ring, or is only read.
+/// records: another one for each run; rings of one run may share it, if each has a CPU of its own. `Fault::BadRegion`:
+/// the region is shorter than the ring needs, or has another ring, or is only read.
 pub fn ring_in(
     region: &Arc<Region>, cpu: u32, pages: usize, size: usize, stream: u64,
 ) -> Result<(Writer, Reader), Fault> {
