@@ -132,7 +132,8 @@ def larger(program):
     for ring in LARGER:
         plain, region = (nanoseconds(program, [way, *ring]) for way in ("library", "region"))
         memory = count.output([program, "region", *ring, "1", "1"]).split()[2].decode()
-        yield tables.line([f"{int(ring[0]):,}", f"{plain:.1f}", f"{region:.1f}", f"{region / plain:.2f}", f"{memory} pages"])
+        pages, ratio = f"{int(ring[0]):,}", f"{region / plain:.2f}"
+        yield tables.line([pages, f"{plain:.1f}", f"{region:.1f}", ratio, f"{memory} pages"])
         if region > MOST_TIMES * plain:
             tables.OVER.append(f"a record in a region of {ring[0]} pages")
 
