@@ -1,5 +1,5 @@
-"""What tools share that try made inputs of `collect` and `recover` on the built program: a call over files beside what a
-plain program says of it, how often each thing has to be printed, and the inputs of a difference, which are kept."""
+"""What tools share that try made inputs of `collect` and `recover` on the built program: a call over files beside what
+a plain program says of it, how often each thing has to be printed, and the inputs of a difference, which are kept."""
 
 import importlib.machinery
 import importlib.util
