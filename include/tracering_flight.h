@@ -134,6 +134,8 @@ int flight_dump(const char *path);
 // A handler that is installed over these later stays at flight_stop, and is to call the one that it found.
 // If it is called again, only the path changes (and the calling thread gets a stack); a thread that is dumping goes on
 // with the former path. A copy of each path stays in memory. It may not be called in handlers.
+// In a crash nothing says why a dump fails: so the path must not be that of the recorder's file, nor that file's with a
+// ~ cut off, and its folder must let files be made (flight_dump).
 // ENODEV, ENAMETOOLONG, ENOMEM.
 int flight_dump_on_crash(const char *path);
 

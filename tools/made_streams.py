@@ -5,30 +5,19 @@ again and in any order, and some are forged. Marks are true or not. Bytes are ch
 and cut.
 """
 
-import importlib.machinery
-import importlib.util
 import random
 import struct
-from pathlib import Path
 
+from made_cases import load
 from plain_fleet import HEAD, SUM, Collected, mark_bytes, sealed
 from printed_texts import CAPTURES, data_of
 
 from lib.images import LIMIT, Fault, reading
 
-TOOLS = Path(__file__).resolve().parent
 # Captures whose pages have been read, and are numbered here anew; and how many pages a CPU has of them at most.
 REAL, PAGES = ("exact/cpu0.raw.gz", "stamps/cpu0.raw.gz", "overrun/cpu1.raw", "live/cpu0.raw.gz"), 3
 STREAMS = [0, 1, 2, 7, 1 << 32, 1 << 63, LIMIT - 1]
 PIECES, FILES = 14, 3
-
-
-def load(name):
-    """A script of tools/ as a module."""
-    loader = importlib.machinery.SourceFileLoader(name.replace("-", "_"), str(TOOLS / name))
-    found = importlib.util.module_from_spec(importlib.util.spec_from_loader(loader.name, loader))
-    loader.exec_module(found)
-    return found
 
 
 parcels = load("random-parcels")

@@ -1,5 +1,5 @@
-"""A plain `collect`, to compare with the program's: it works out from the bytes of captures what docs/FORMATS.md says is
-printed of them, in "Captures".
+"""A plain `collect`, to compare with the program's: it works out from the bytes of captures what docs/FORMATS.md says
+is printed of them, in "Captures".
 """
 
 import struct
@@ -257,7 +257,9 @@ def collected(files, page=4096, json=False, names=False, formats=()):
     kinds = {
         "missing": ('{"cpu":%d,"missing":[%d,%d]}' if json else "missing %d %d-%d"),
         "unknown": ('{"cpu":%d,"unknown":%d}' if json else "unknown %d %d"),
-        "damaged": ('{"cpu":%d,"damaged":%d,"page":%d,"byte":%d,"fault":"%s"}' if json else "damaged %d %d page %d byte %d: %s"),
+        "damaged": (
+            '{"cpu":%d,"damaged":%d,"page":%d,"byte":%d,"fault":"%s"}' if json else "damaged %d %d page %d byte %d: %s"
+        ),
     }
     rows = [("missing", run) for cpu in order for run in ((cpu.cpu, *run) for run in cpu.runs())]
     rows += [("unknown", (cpu.cpu, number)) for cpu in order for number in cpu.unknown]

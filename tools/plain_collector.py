@@ -1,6 +1,6 @@
-"""A plain collector, to compare with `collector_rows`: it keeps its records in a dictionary and its missing numbers in a
-list, and works out from them what the rules say: those of docs/FORMATS.md, in "Page image", "Parcel bytes" and "Printed
-text", and those of docs/PROVED.md, in "`collector`".
+"""A plain collector, to compare with `collector_rows`: it keeps its records in a dictionary and its missing numbers in
+a list, and works out from them what the rules say: those of docs/FORMATS.md, in "Page image", "Parcel bytes" and
+"Printed text", and those of docs/PROVED.md, in "`collector`".
 """
 
 import re
@@ -25,8 +25,8 @@ def named(fault):
 
 
 class Parcel:
-    """A page under its CPU, fill, first number and missed count. Its records are found by CPU and number, and of what it
-    misses it has the CPU, the first number and the one after the last."""
+    """A page under its CPU, fill, first number and missed count. Its records are found by CPU and number, and of what
+    it misses it has the CPU, the first number and the one after the last."""
 
     def __init__(self, cpu, fill, first, missed, image):
         self.cpu, self.fill, self.first, self.missed = cpu, fill, first, missed

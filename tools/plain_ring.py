@@ -34,8 +34,8 @@ class Record:
 
 
 class Frame:
-    """A frame of the writer: of a record its moment and length, else None; the number of its record once it is reserved,
-    or "left"; and how far it has come with the ring's words: a name, and what it has noted."""
+    """A frame of the writer: of a record its moment and length, else None; the number of its record once it is
+    reserved, or "left"; and how far it has come with the ring's words: a name, and what it has noted."""
 
     def __init__(self, record):
         self.record, self.state, self.phase = record, None, ("idle",)
@@ -346,7 +346,9 @@ class Value(Plain):
         self.push_close()
         self.finish()
         answer = self.take()
-        return re.sub(r"^taken (.*) missed \d+", r"unread \1", answer) if answer.startswith("taken") else "nothing unread"
+        if not answer.startswith("taken"):
+            return "nothing unread"
+        return re.sub(r"^taken (.*) missed \d+", r"unread \1", answer)
 
 
 def answer_of(rings, call, arguments):

@@ -72,7 +72,8 @@ def run(folder):
     yield f"{size >> 20} MB with {records:,} records; seconds of the processor, and the most memory in MB."
     yield ""
     yield from tables.head("What", "Seconds", "of the rival's", "Limit", "Memory", "of the capture's size", "Limit")
-    rows = {"raw": raw, "raw, `--json`": ["--json", *raw], "`trace.dat`": [dat], "`trace.dat`, `--names`": ["--names", dat]}
+    rows = {"raw": raw, "raw, `--json`": ["--json", *raw]}
+    rows |= {"`trace.dat`": [dat], "`trace.dat`, `--names`": ["--names", dat]}
     for name, words in rows.items():
         seconds, memory = count.timed([*ours, *words], sink)
         listed = sum(line[:1] in b"01{" for line in sink.open("rb"))
@@ -82,4 +83,5 @@ def run(folder):
             tables.OVER.append(name)
         cells = [f"{seconds:.2f}", f"{seconds / rival[0]:.2f}", f"{MOST_TIME:.2f}"]
         yield tables.line([name, *cells, f"{memory / 2**20:,.0f}", f"{memory / size:.2f}", MOST_MEMORY])
-    yield tables.line(["`trace-cmd report -R`", f"{rival[0]:.2f}", "", "", f"{rival[1] / 2**20:,.0f}", f"{rival[1] / size:.2f}", ""])
+    memory = f"{rival[1] / 2**20:,.0f}", f"{rival[1] / size:.2f}"
+    yield tables.line(["`trace-cmd report -R`", f"{rival[0]:.2f}", "", "", *memory, ""])

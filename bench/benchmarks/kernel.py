@@ -1,8 +1,8 @@
 """The kernel's own ring buffer and ours on the same scripts: what both print, and each page image byte for byte
 
-The source is that of Debian's package linux-source-6.1, fetched and built in a scratch folder. The scripts are made from
-seeds (bench/lib/lockstep.py). Then eight changes of one line each are made to a copy of the kernel's file, and the same
-comparison has to notice each.
+The source is that of Debian's package linux-source-6.1, fetched and built in a scratch folder. The scripts are made
+from seeds (bench/lib/lockstep.py). Then eight changes of one line each are made to a copy of the kernel's file, and the
+same comparison has to notice each.
 """
 
 import subprocess

@@ -12,12 +12,14 @@ NEEDS = ("rt", "valgrind", "taskset", "chrt")
 ROUND = 8_400
 # The name of a way to write, what it calls, and the most instructions a record that it may take.
 WAYS = (
-    ("write", "`write`", 85),
-    ("calls", "`begin`, `finish_top`, `top_mut` and a copy, `end`, `finish_top`", 127),
+    ("write", "`write`", 66),
+    ("calls", "`begin`, `finish_top`, `top_mut` and a copy, `end`, `finish_top`", 110),
     ("steps", "the same with `step` in place of `finish_top`", None),
 )
 TIMED = (("alone", "mixed", "alone, mixed lengths"), ("alone", "turn", "alone, lengths in turn"))
 TIMED += (("beside", "mixed", "beside a reader, mixed lengths"),)
+# How many times the copy's time a record may take that `write` writes alone, in both orders of lengths.
+MOST_TIMES = 1.5
 # The cores that a writer and a restless reader have, and how often its time alone a record may take there.
 CORES, BESIDE = (("two cores", "0-1"), ("four cores", "0-3")), 1.2
 # How many rounds are timed, how many runs count, how many there are at most until as many do, and what part of the
@@ -79,7 +81,7 @@ def run(folder):
         for reader, mix, when in TIMED:
             found = numbers([program, reader, way, mix, "10", "200"])
             copied, wrote = (found[name] / (10 * ROUND) for name in ("copy", reader))
-            times = 1.6 if (way, reader, mix) == ("write", "alone", "mixed") else None
+            times = MOST_TIMES if (way, reader) == ("write", "alone") else None
             yield tables.compared(f"{what}, {when}", wrote, copied, times=times, digits=1)
     yield ""
     yield "Nanoseconds a record beside a reader that takes all the time; the rival is the writer alone, right before."

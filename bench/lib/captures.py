@@ -1,8 +1,8 @@
 """Captures made at random, whole and forged, with what has to be printed of them.
 
-Raw pages are made word by word, of one CPU and of several, in one file and in several; captures of a running kernel have
-bytes changed and are cut; files of trace-cmd have numbers changed, and ranges that lie anywhere. They are listed as text
-and as JSON, with and without names.
+Raw pages are made word by word, of one CPU and of several, in one file and in several; captures of a running kernel
+have bytes changed and are cut; files of trace-cmd have numbers changed, and ranges that lie anywhere. They are listed
+as text and as JSON, with and without names.
 """
 
 import gzip
@@ -20,11 +20,16 @@ CAPTURES = TOP / "examples" / "captures"
 FORMATS = [(b"ftrace", b"print", 5), (b"sched", b"sched_switch", 314), (b"odd", b'a"b\\c \x80', 7)]
 
 
+def bytes_of(file):
+    """A file's bytes, unpacked."""
+    return gzip.decompress(file.read_bytes()) if file.suffix == ".gz" else file.read_bytes()
+
+
 def kept_captures():
     """The captures of running kernels that are kept: raw pages, and files of trace-cmd."""
     raw = [CAPTURES / "damaged.raw", *(CAPTURES / name / "cpu0.raw.gz" for name in ("exact", "stamps", "clock_tai"))]
     dat = [CAPTURES / "dat_v7none" / "trace.dat", CAPTURES / "dat_v6" / "trace.dat.gz"]
-    read = [[gzip.decompress(file.read_bytes()) if file.suffix == ".gz" else file.read_bytes() for file in files] for files in (raw, dat)]
+    read = [[bytes_of(file) for file in files] for files in (raw, dat)]
     return read
 
 
@@ -67,7 +72,8 @@ class Source:
                 data += word
         flags, count = chance.choice([0, 0, 0, 1 << 31, 3 << 30]), b""
         if flags == 3 << 30:
-            count = struct.pack("<Q", chance.choice([0, 1, 2, 500, chance.choice([(1 << 63) + 1, (1 << 64) - 2, (1 << 64) - 1])]))
+            large = chance.choice([(1 << 63) + 1, (1 << 64) - 2, (1 << 64) - 1])
+            count = struct.pack("<Q", chance.choice([0, 1, 2, 500, large]))
             flags = flags if len(data) + 8 <= room else 1 << 31
         commit = (len(data) + chance.choice([0] * 12 + [4, -4, 1 << 20])) % (1 << 30) | flags
         page = bytearray((struct.pack("<QQ", time, commit) + data + count).ljust(size, b"\0")[:size])
@@ -87,7 +93,8 @@ class Source:
         data = bytearray(self.chance.choice(self.raw))
         for _ in range(self.chance.choice([0, 1, 3, 20])):
             page = self.chance.randrange(len(data) // 4096) * 4096
-            data[page + self.chance.choice([self.chance.randrange(4096), self.chance.randrange(24)])] = self.chance.randrange(256)
+            value = self.chance.randrange(256)
+            data[page + self.chance.choice([self.chance.randrange(4096), self.chance.randrange(24)])] = value
         return bytes(data[: self.chance.choice([len(data), len(data), self.chance.randrange(len(data))])])
 
     def forged_dat(self):
@@ -95,9 +102,11 @@ class Source:
         data = bytearray(self.chance.choice(self.dat))
         for _ in range(self.chance.choice([0, 1, 1, 2, 5])):
             width = self.chance.choice([1, 2, 4, 8])
-            at = self.chance.choice([self.chance.randrange(len(data) - 8), self.chance.randrange(40), len(data) - self.chance.randrange(8, 200)])
+            few = self.chance.randrange(len(data) - 8), self.chance.randrange(40), len(data) - self.chance.randrange(8, 200)
+            at = self.chance.choice(few)
             number = int.from_bytes(data[at : at + width], "little")
-            others = [0, 1, 255, 256, 4095, 8192, 65537, len(data), number + 1, number - 1, number ^ 1 << self.chance.randrange(8 * width)]
+            others = [0, 1, 255, 256, 4095, 8192, 65537, len(data), number + 1, number - 1]
+            others.append(number ^ 1 << self.chance.randrange(8 * width))
             data[at : at + width] = (self.chance.choice(others) % (1 << 8 * width)).to_bytes(width, "little")
         return bytes(data[: self.chance.choice([len(data)] * 4 + [self.chance.randrange(len(data))])])
 
@@ -114,10 +123,14 @@ class Source:
             file += own
         if chance.random() < 0.05:
             entries = struct.pack("<IQQ", 0, 0, len(file)) * 2
-        buffer = bytes(8) + chance.choice([b"\0"] * 4 + [b"one\0"]) + b"local\0" + struct.pack("<II", page_size, 2) + entries
-        texts = [b"CPU: %d\noverrun: %d\n" % (chance.choice([*cpus, 9]), chance.choice([0, 1, 7, 900])) for _ in range(2)]
-        options = [(3, buffer), *((2, text) for text in texts), (3, bytes(8) + b"two\0local\0" + struct.pack("<II", 4096, 0))]
-        body = b"".join(struct.pack("<HI", kind, len(own)) + own for kind, own in options) + struct.pack("<HIQ", 0, 8, 0)
+        name = chance.choice([b"\0"] * 4 + [b"one\0"])
+        buffer = bytes(8) + name + b"local\0" + struct.pack("<II", page_size, 2) + entries
+        counted = [(chance.choice([*cpus, 9]), chance.choice([0, 1, 7, 900])) for _ in range(2)]
+        texts = [b"CPU: %d\noverrun: %d\n" % each for each in counted]
+        other = bytes(8) + b"two\0local\0" + struct.pack("<II", 4096, 0)
+        options = [(3, buffer), *((2, text) for text in texts), (3, other)]
+        body = b"".join(struct.pack("<HI", kind, len(own)) + own for kind, own in options)
+        body += struct.pack("<HIQ", 0, 8, 0)
         file = file[:pointer] + struct.pack("<Q", len(file)) + file[pointer + 8 :]
         return file + struct.pack("<HHI", 0, 0, 0) + struct.pack("<Q", len(body)) + body
 

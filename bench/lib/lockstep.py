@@ -1,7 +1,7 @@
 """Scripts that the kernel's ring and ours are to obey alike, made from seeds.
 
-A script has one CPU, one collector and pages of 4,080 bytes. Records are written whole, or by frames that interrupt each
-other up to four deep, each after the one below has reserved; pages are taken where no frame is open, and each is
+A script has one CPU, one collector and pages of 4,080 bytes. Records are written whole, or by frames that interrupt
+each other up to four deep, each after the one below has reserved; pages are taken where no frame is open, and each is
 delivered. Payloads have any length but 5 to 8 bytes, for which the kernel makes longer records. No record is refused
 but for its length: while frames are open, others write only as long as the ring has a closed page to lose.
 """

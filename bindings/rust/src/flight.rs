@@ -126,7 +126,8 @@ pub fn dump(path: impl AsRef<Path>) -> io::Result<()> {
     done(unsafe { flight_dump(path.as_ptr()) })
 }
 
-/// From now on the signals of a crash, and SIGTERM, dump to this path, and then do what they did before.
+/// From now on the signals of a crash, and SIGTERM, dump to this path, and then do what they did before. A dump that
+/// fails in a crash fails unseen, as it does if the recorder's own file is at this path, or at it with a `~` behind it.
 pub fn dump_on_crash(path: impl AsRef<Path>) -> io::Result<()> {
     let path = text(path.as_ref().as_os_str().as_bytes())?;
     done(unsafe { flight_dump_on_crash(path.as_ptr()) })
