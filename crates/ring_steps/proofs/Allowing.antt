@@ -150,3 +150,13 @@ module _ (shape : Shape) where
         },
         m.reported,
       )
+
+-- the rule of a ring of the same shape allows the same step on the same word
+pub allows_as : (shape key : Shape) (slots id : ℕ) (me : SeatState) (i j : ℕ) (f : ℕ → ℕ)
+    (reports : ℕ → SeatState → Type 0)
+    → key ≡ shape → j ≡ i
+    → Allows (Shows shape.pages shape.size shape.start) slots id me i f reports
+    → Allows (Shows key.pages key.size key.start) slots id me j f reports
+allows_as shape key slots id me i j f reports same at allowed =
+    subst (λ (k : Shape). Allows (Shows k.pages k.size k.start) slots id me j f reports) (sym same)
+    (subst (λ (n : ℕ). Allows (Shows shape.pages shape.size shape.start) slots id me n f reports) (sym at) allowed)

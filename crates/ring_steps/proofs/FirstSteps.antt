@@ -15,6 +15,7 @@ use Rattle.ring_steps.specs.Made.{writer_made_of}
 use Rattle.ring_steps.specs.Views.{Writing, writing_of, Reading, SeatView, laid, whole, writes, reads, writing, passed}
 use Rattle.ring_steps.specs.Views.{reading, AreSeated, made, running}
 use Rattle.ring_steps.specs.Shown.{Homes, AreHomes, Shows}
+use Rattle.ring_steps.specs.Words.{opened_word}
 use Rattle.ring_steps.specs.Seats.{SeatState}
 use Rattle.ring_steps.proofs.Placed.{laid_at, whole_at}
 
@@ -67,7 +68,7 @@ oldest_taken n size start c r homes page k spare is a =
 
 module _ (shape : Shape) (first_w : Writing) (first_r : Reading) where
   pub tail_taken : (slots id : ℕ) (me : SeatState) → me ≡ (laid first_w first_r, [])
-      → Allows (Shows shape.pages shape.size shape.start) slots id me 0 (λ n. n)
+      → Allows (Shows shape.pages shape.size shape.start) slots id me opened_word (λ n. n)
       (λ _ after. (after.0 ≡ whole first_w first_r) × (after.1 ≡ (get_or first_w.open_pages 0 0, None) ∷ []))
   tail_taken slots id me is s h deep at range =
       let (views, first, w_is, r_is) =
@@ -86,8 +87,8 @@ module _ (shape : Shape) (first_w : Writing) (first_r : Reading) where
             pages_fit = h.shown.pages_fit;
             reached = h.shown.reached;
             are_words =
-                subst (Rattle.ring_steps.specs.Shown.AreWords shape.pages h.core) (sym (set-get_or s.words 0 0))
-                h.shown.are_words;
+                subst (Rattle.ring_steps.specs.Shown.AreWords shape.pages h.core)
+                (sym (set-get_or s.words opened_word 0)) h.shown.are_words;
             are_homes =
                 oldest_taken shape.pages shape.size shape.start h.core h.reader s.homes page k
                 h.shown.is_reading.spare_is (ap (λ (w : Writing). get_or w.open_pages 0 0) w_is) h.shown.are_homes;

@@ -9,6 +9,7 @@ use Rattle.ring_steps.specs.Made.{writer_made_of}
 use Rattle.ring_steps.specs.Views.{Writing, writing_of, Reading, SeatView, laid, writes, reads, joined, spent, writing}
 use Rattle.ring_steps.specs.Views.{passed, reading, AreSeated, settled}
 use Rattle.ring_steps.specs.Shown.{AreWords, IsReading, Shows}
+use Rattle.ring_steps.specs.Words.{done_word}
 use Rattle.ring_steps.specs.Seats.{SeatState, AreParts}
 use Rattle.ring_steps.proofs.Placed.{writer_at, joined_at}
 
@@ -45,7 +46,7 @@ joins n size start id view other with is its s h at ne there =
     }
 
 pub looks : (shape : Shape) (slots id : ℕ) (me : SeatState) → me.0 ≡ joined (writing me.0) (reading me.0)
-    → Allows (Shows shape.pages shape.size shape.start) slots id me 1 (λ n. n)
+    → Allows (Shows shape.pages shape.size shape.start) slots id me done_word (λ n. n)
     (λ _ after. (after.0 ≡ me.0) × AreParts shape (writing me.0) (reading me.0))
 looks shape slots id me is s h deep at range =
     let (views, first, w_is, r_is) =
@@ -62,7 +63,7 @@ looks shape slots id me is s h deep at range =
         shown = record {
           pages_fit = h.shown.pages_fit;
           reached = h.shown.reached;
-          are_words = subst (AreWords shape.pages h.core) (sym (set-get_or s.words 1 0)) h.shown.are_words;
+          are_words = subst (AreWords shape.pages h.core) (sym (set-get_or s.words done_word 0)) h.shown.are_words;
           are_homes = h.shown.are_homes;
           is_reading = h.shown.is_reading;
           reader_made_is = h.shown.reader_made_is;

@@ -3,7 +3,7 @@ pub mod Placed
 pub mod Observed
 pub mod Private
 pub mod Allowing
-pub mod Words
+pub mod CountWords
 pub mod LinkWords
 pub mod Notes
 pub mod PartAfter

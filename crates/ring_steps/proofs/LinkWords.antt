@@ -7,7 +7,8 @@ use mathlib.Core.Logic.{dite}
 use native.Mathlib.Decide.{ℕ_discrete}
 use Rattle.trace_model.specs.Links.{Link, word_of, normal_link}
 use Rattle.trace_model.specs.Ring.{Core, AreApart, links_with}
-use Rattle.ring_steps.specs.Shown.{page_word, page_before, AreWords}
+use Rattle.ring_steps.specs.Shown.{page_before, AreWords}
+use Rattle.ring_steps.specs.Words.{opened_word, done_word, wish_word, page_word}
 
 -- ---- two fills, and the positions before theirs
 
@@ -53,9 +54,9 @@ with_link_word n c words f l some wide apart a =
     let count = a.count in
     let below = before_below n c.order c.spare f some apart in record {
       count = length-set words word (word_of l) ∙ a.count;
-      opened = get_or-set_other words word 0 (word_of l) 0 (λ e. omega arith) ∙ a.opened;
-      done = get_or-set_other words word 1 (word_of l) 0 (λ e. omega arith) ∙ a.done;
-      wish = get_or-set_other words word 2 (word_of l) 0 (λ e. omega arith) ∙ a.wish;
+      opened = get_or-set_other words word opened_word (word_of l) 0 (λ e. omega arith) ∙ a.opened;
+      done = get_or-set_other words word done_word (word_of l) 0 (λ e. omega arith) ∙ a.done;
+      wish = get_or-set_other words word wish_word (word_of l) 0 (λ e. omega arith) ∙ a.wish;
       links = λ g. dite (ℕ_discrete (g % n) (f % n))
           (λ e.
           ap (λ (i : ℕ). get_or (set words word (word_of l)) (page_word (get_or c.order i 0)) 0)

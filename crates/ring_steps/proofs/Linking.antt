@@ -36,7 +36,8 @@ use Rattle.ring_model.proofs.steps.StepsGiven.{each_event_is_a_step}
 use Rattle.ring_steps.specs.declared.rule.Shape.{Shape}
 use Rattle.ring_steps.specs.Made.{writer_made, writer_made_of}
 use Rattle.ring_steps.specs.Views.{Writing, writing_of, Reading, writing, passed}
-use Rattle.ring_steps.specs.Shown.{page_word, page_before, AreWords, Homes}
+use Rattle.ring_steps.specs.Shown.{page_before, AreWords, Homes}
+use Rattle.ring_steps.specs.Words.{wish_word, page_word}
 use Rattle.ring_steps.specs.Seats.{SeatState, emptied, IsWriting, WriterReported}
 use Rattle.ring_steps.specs.Paging.{IsTopIn}
 use Rattle.ring_steps.specs.Linking.{tail_in, LooksNext, MarksNext, number_or_zero, noted_on_top, role_in, role_on_top}
@@ -349,7 +350,8 @@ module _ (shape : Shape) (me : SeatState) (is : IsWriting me) (now : Writing) (c
 
   asks : (answer : Answer) (after next : Core) → Step shape.pages shape.size c steps answer after → after ≡ next
       → IsPrivateOf c next → ((page : ℕ) → contents_of next page ≡ contents_of c page) → next.open_pages ≡ c.open_pages
-      → WriterMoves shape r me ws homes 2 (λ n. n) (λ found after. WishReported shape now (passed me.0) found after)
+      → WriterMoves shape r me ws homes wish_word (λ n. n)
+      (λ found after. WishReported shape now (passed me.0) found after)
   asks answer after next step after_is own holds same =
       let shown =
       stays_shown shape.pages shape.size shape.start c steps answer next r ws homes s
@@ -364,7 +366,7 @@ module _ (shape : Shape) (me : SeatState) (is : IsWriting me) (now : Writing) (c
         shown = record {
           pages_fit = shown.pages_fit;
           reached = shown.reached;
-          are_words = subst (AreWords shape.pages next) (sym (set-get_or ws 2 0)) shown.are_words;
+          are_words = subst (AreWords shape.pages next) (sym (set-get_or ws wish_word 0)) shown.are_words;
           are_homes = shown.are_homes;
           is_reading = shown.is_reading;
           reader_made_is = shown.reader_made_is;
@@ -391,7 +393,8 @@ module _ (shape : Shape) (me : SeatState) (is : IsWriting me) (now : Writing) (c
 
   wishes_at : (frame : Frame) (below : List Frame) (answer : Answer) (after : Core)
       → Step shape.pages shape.size c steps answer after → LoadWishStep shape.pages c frame below answer after
-      → WriterMoves shape r me ws homes 2 (λ n. n) (λ found after. WishReported shape now (passed me.0) found after)
+      → WriterMoves shape r me ws homes wish_word (λ n. n)
+      (λ found after. WishReported shape now (passed me.0) found after)
   wishes_at frame below answer after step (grants alone granted a after_is) =
       asks answer after _ step after_is refl (λ page. refl) refl
   wishes_at frame below answer after step (closes_more alone denied more a after_is) =
@@ -400,7 +403,8 @@ module _ (shape : Shape) (me : SeatState) (is : IsWriting me) (now : Writing) (c
       asks answer after _ step after_is refl (λ page. refl) refl
 
   pub load_wish_moves : IsTopIn now.frames wishing
-      → WriterMoves shape r me ws homes 2 (λ n. n) (λ found after. WishReported shape now (passed me.0) found after)
+      → WriterMoves shape r me ws homes wish_word (λ n. n)
+      (λ found after. WishReported shape now (passed me.0) found after)
   load_wish_moves phase =
       let top = top_of c.frames wishing (top_now wishing phase) in
       let (answer, after, step) = each_event_is_a_step shape.pages shape.size shape.start c steps kept tt in

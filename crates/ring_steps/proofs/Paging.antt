@@ -33,10 +33,11 @@ use Rattle.ring_steps.specs.declared.rule.Shape.{Shape}
 use Rattle.ring_steps.specs.Made.{writer_made, writer_made_of, reader_made_of}
 use Rattle.ring_steps.specs.Views.{Writing, writing_of, Reading, writing, passed}
 use Rattle.ring_steps.specs.Shown.{Homes, IsHome, HasBody, AreWords, AreHomes, IsReading, Shows}
+use Rattle.ring_steps.specs.Words.{opened_word, done_word}
 use Rattle.ring_steps.specs.Seats.{SeatState, emptied, IsWriting, Leads, WriterReported}
 use Rattle.ring_steps.specs.Paging.{IsTopIn, begun_answer, OpenReported}
 use Rattle.ring_steps.proofs.Made.{reached_on, writer_then, reader_same}
-use Rattle.ring_steps.proofs.Words as words
+use Rattle.ring_steps.proofs.CountWords as words
 use Rattle.ring_steps.proofs.Observed.{first_records, observed_stays}
 use Rattle.ring_steps.proofs.Allowing.{IsShownBy, WriterMoves, writer_allows}
 
@@ -211,7 +212,7 @@ module _ (shape : Shape) (c : Core) (r : Reading) (ws : List ℕ) (homes : Homes
 
     released_shown : (fill : ℕ) (frames : List Frame) → fill ≡ c.done
         → Step shape.pages shape.size c steps going (released_in frames)
-        → IsShownBy shape (released_in frames) r (slice_set ws 1 (fill + 1)) homes_with
+        → IsShownBy shape (released_in frames) r (slice_set ws done_word (fill + 1)) homes_with
     released_shown fill frames fill_is step = let w = words.with_done shape.pages c ws (fill + 1) s.are_words in
         record {
           pages_fit = s.pages_fit;
@@ -310,11 +311,13 @@ module _ (shape : Shape) (c : Core) (r : Reading) (ws : List ℕ) (homes : Homes
           spare = spare_stays number c.opened at none;
         }
 
-    begun_shown : (fill : ℕ) → fill ≡ c.opened → IsShownBy shape begun r (slice_set ws 0 (fill + 1)) homes_without
+    begun_shown : (fill : ℕ) → fill ≡ c.opened
+        → IsShownBy shape begun r (slice_set ws opened_word (fill + 1)) homes_without
     begun_shown fill fill_is =
         let w = words.with_opened shape.pages c ws (fill + 1) s.are_words in
         let new_words : AreWords shape.pages
-        (private_state (with_new_tail c number) begun.frames begun.history begun.held) (slice_set ws 0 (fill + 1)) =
+        (private_state (with_new_tail c number) begun.frames begun.history begun.held)
+        (slice_set ws opened_word (fill + 1)) =
         record {
           count = w.count;
           opened = w.opened ∙ ap (λ (k : ℕ). k + 1) fill_is;
@@ -326,7 +329,9 @@ module _ (shape : Shape) (c : Core) (r : Reading) (ws : List ℕ) (homes : Homes
         record {
           pages_fit = s.pages_fit;
           reached = reached_on shape.pages shape.size shape.start c steps _ begun s.reached opened_step;
-          are_words = subst (λ (d : Core). AreWords shape.pages d (slice_set ws 0 (fill + 1))) (sym begun_is) new_words;
+          are_words =
+              subst (λ (d : Core). AreWords shape.pages d (slice_set ws opened_word (fill + 1))) (sym begun_is)
+              new_words;
           are_homes =
               subst (λ (d : Core). AreHomes shape.pages shape.size d r homes_without) (sym begun_is)
               (begun_homes begun.frames begun.history begun.held others_hold);
@@ -351,7 +356,7 @@ module _ (shape : Shape) (me : SeatState) (now : Writing) (c : Core) (r : Readin
   release_moves : (number fill : ℕ) (page : Contents) → rest me.1 ≡ emptied (drop 1 c.open_pages)
       → IsTopIn now.frames releasing → number ≡ slice_index_or now.open_pages 0 0
       → IsWrittenPage shape.size now.done (fill_of now.history shape.start now.done) page → fill ≡ now.done
-      → WriterMoves shape r (me.0, (number, Some page) ∷ rest me.1) ws homes 1 (λ _. fill + 1)
+      → WriterMoves shape r (me.0, (number, Some page) ∷ rest me.1) ws homes done_word (λ _. fill + 1)
       (λ _. WriterReported shape now (passed me.0) (λ _. ⊤) going)
   unfolding released_shown
   release_moves number fill page hand phase oldest written fill_is =
@@ -390,7 +395,7 @@ module _ (shape : Shape) (me : SeatState) (now : Writing) (c : Core) (r : Readin
 
   open_moves : (number fill : ℕ) → me.1 ≡ emptied c.open_pages → IsTopIn now.frames (opening fill number)
       → fill ≡ now.opened
-      → WriterMoves shape r me ws homes 0 (λ _. fill + 1) (λ _. OpenReported shape now (passed me.0))
+      → WriterMoves shape r me ws homes opened_word (λ _. fill + 1) (λ _. OpenReported shape now (passed me.0))
   unfolding begun_shown
   open_moves number fill hand phase fill_is =
       let now_opened : fill ≡ c.opened = fill_is ∙ ap (λ (w : Writing). w.opened) (sym now_is) in
@@ -449,14 +454,14 @@ pub release_allowed : (shape : Shape) (slots id : ℕ) (me mid : SeatState) (now
     → IsWriting me → mid ≡ (me.0, (number, Some page) ∷ rest me.1) → Leads shape (writing me.0) now
     → IsTopIn now.frames releasing → number ≡ slice_index_or now.open_pages 0 0
     → IsWrittenPage shape.size now.done (fill_of now.history shape.start now.done) page → fill ≡ now.done
-    → Allows (Shows shape.pages shape.size shape.start) slots id mid 1 (λ _. fill + 1)
+    → Allows (Shows shape.pages shape.size shape.start) slots id mid done_word (λ _. fill + 1)
     (λ _. WriterReported shape now (passed mid.0) (λ _. ⊤) going)
 release_allowed shape slots id me mid now number fill page is mid_is leads phase oldest written fill_is =
     subst
     (λ (m : SeatState).
-    Allows (Shows shape.pages shape.size shape.start) slots id m 1 (λ _. fill + 1)
+    Allows (Shows shape.pages shape.size shape.start) slots id m done_word (λ _. fill + 1)
     (λ _. WriterReported shape now (passed m.0) (λ _. ⊤) going)) (sym mid_is)
-    (writer_allows shape slots id (me.0, (number, Some page) ∷ rest me.1) now 1 (λ _. fill + 1)
+    (writer_allows shape slots id (me.0, (number, Some page) ∷ rest me.1) now done_word (λ _. fill + 1)
     (λ _. WriterReported shape now (passed me.0) (λ _. ⊤) going) is.view leads
     (λ c r ws homes s now_is pages low. release_moves shape me now c r ws homes s now_is low number fill page
     (ap rest is.hand ∙ (rest_emptied (writing me.0).open_pages ∙ ap (λ (ps : List ℕ). emptied (drop 1 ps)) (sym pages)))
@@ -464,10 +469,11 @@ release_allowed shape slots id me mid now number fill page is mid_is leads phase
 
 pub open_allowed : (shape : Shape) (slots id : ℕ) (me : SeatState) (now : Writing) (number fill : ℕ)
     → IsWriting me → Leads shape (writing me.0) now → IsTopIn now.frames (opening fill number) → fill ≡ now.opened
-    → Allows (Shows shape.pages shape.size shape.start) slots id me 0 (λ _. fill + 1)
+    → Allows (Shows shape.pages shape.size shape.start) slots id me opened_word (λ _. fill + 1)
     (λ _. OpenReported shape now (passed me.0))
 open_allowed shape slots id me now number fill is leads phase fill_is =
-    writer_allows shape slots id me now 0 (λ _. fill + 1) (λ _. OpenReported shape now (passed me.0)) is.view leads
+    writer_allows shape slots id me now opened_word (λ _. fill + 1) (λ _. OpenReported shape now (passed me.0)) is.view
+    leads
     (λ c r ws homes s now_is pages low.
     open_moves shape me now c r ws homes s now_is low number fill (is.hand ∙ ap emptied (sym pages)) phase fill_is)
 

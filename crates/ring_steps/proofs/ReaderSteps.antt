@@ -13,9 +13,10 @@ use Rattle.ring_steps.specs.declared.rule.Shape.{Shape}
 use Rattle.ring_steps.specs.Made.{WriterMade, writer_made_of, reader_made_of}
 use Rattle.ring_steps.specs.Views.{writing_of, Reading, reading_after, reading}
 use Rattle.ring_steps.specs.Shown.{Homes, IsReading}
+use Rattle.ring_steps.specs.Words.{wish_word}
 use Rattle.ring_steps.specs.Seats.{SeatState, IsSeatOfReader, IsReaderWithin, IsReaderStep, ReaderReported}
 use Rattle.ring_steps.proofs.Made.{of_reader, reached_on, writer_same, reader_then}
-use Rattle.ring_steps.proofs.Words as words
+use Rattle.ring_steps.proofs.CountWords as words
 use Rattle.ring_steps.proofs.Allowing.{IsShownBy, ReaderMoves}
 
 -- what a reader's part is in a state that steps reach
@@ -61,7 +62,7 @@ module _ (shape : Shape) (me : SeatState) (is : IsSeatOfReader me) (c : Core) (w
     (s : IsShownBy shape c (reading me.0) ws homes) where
   -- the wish is stored
   pub wish_moves : (fill : ℕ) → fill ≡ (reading me.0).reader.seen
-      → ReaderMoves shape c (writer_made_of s.reached) me ws homes 2 (λ _. fill + 1)
+      → ReaderMoves shape c (writer_made_of s.reached) me ws homes wish_word (λ _. fill + 1)
       (λ _ after. ReaderReported shape (λ _. ⊤) wishes (wished_for (reading me.0).reader.seen) me after)
   wish_moves fill due =
       let seen : fill ≡ c.reader.seen = due ∙ ap (λ (x : Reader). x.seen) s.is_reading.reader_is in
@@ -92,7 +93,7 @@ module _ (shape : Shape) (me : SeatState) (is : IsSeatOfReader me) (c : Core) (w
               subst
               (λ (w : ℕ).
               Rattle.ring_steps.specs.Shown.AreWords shape.pages (record c { wish = w })
-              (Rattle.std.specs.Prelude.slice_set ws 2 (fill + 1))) (ap (λ (k : ℕ). k + 1) seen)
+              (Rattle.std.specs.Prelude.slice_set ws wish_word (fill + 1))) (ap (λ (k : ℕ). k + 1) seen)
               (words.with_wish shape.pages c ws (fill + 1) s.are_words);
           are_homes =
               record {

@@ -23,10 +23,11 @@ use Rattle.page_image.specs.Contents.{Contents}
 use Rattle.ring_steps.specs.declared.rule.Shape.{Shape}
 use Rattle.ring_steps.specs.Made.{writer_made_of}
 use Rattle.ring_steps.specs.Views.{Writing, writing_of, laid, AreSeated, begun}
-use Rattle.ring_steps.specs.Shown.{HasBody, page_word, page_before, AreWords, AreHomes, IsReading, Shows}
+use Rattle.ring_steps.specs.Shown.{HasBody, page_before, AreWords, AreHomes, IsReading, Shows}
+use Rattle.ring_steps.specs.Words.{page_word}
 use Rattle.ring_steps.specs.Seats.{IsReaderWithin}
 use Rattle.ring_steps.specs.Paging.{IsWriterReached}
-use Rattle.ring_steps.specs.NewRings.{IsShape, counted, first_writing, first_reading, IsFirstWord, AreFirstWords}
+use Rattle.ring_steps.specs.NewRings.{IsShape, counted, first_writing, first_reading, AreFirstWords}
 use Rattle.ring_steps.specs.NewRings.{IsFirstSlot, AreFirstSlots}
 
 pub counted_length : (from count : ℕ) → length (counted from count) ≡ count
@@ -44,7 +45,7 @@ elem_at [] i x e = absurd (cc)
 elem_at (y ∷ xs) zero x e = ap some (let same : y ≡ x = cc in same)
 elem_at (y ∷ xs) (suc i) x e = elem_at xs i x e
 
-module _ (shape : Shape) (is : IsShape shape) (ws : List ℕ) (first_ws : AreFirstWords shape ws)
+module _ (shape : Shape) (is : IsShape shape) (ws : List ℕ) (first_ws : AreFirstWords shape shape.pages ws)
     (slots : List (Option Contents)) (first_slots : AreFirstSlots shape slots) where
   abbrev n : ℕ
   n = shape.pages
@@ -54,9 +55,6 @@ module _ (shape : Shape) (is : IsShape shape) (ws : List ℕ) (first_ws : AreFir
 
   some_pages : 1 ≤ n
   some_pages = let a = is.limits.some_pages in omega arith
-
-  word_at : (i : ℕ) → i < n + 4 → IsFirstWord shape i (get_or ws i 0)
-  word_at i low = let count = first_ws.0 in first_ws.1 i (get_or ws i 0) (slice_get-get_or ws i 0 (omega arith))
 
   slot_at : (page : ℕ) → page < n + 1 → IsFirstSlot shape page (get_or slots page None)
   slot_at page low = let count = first_slots.0 in
@@ -97,18 +95,18 @@ module _ (shape : Shape) (is : IsShape shape) (ws : List ℕ) (first_ws : AreFir
         ∙ (ap (λ (k : ℕ). normal_link k g) position ∙ sym (first.others g (omega arith) high position)))
 
     first_are_words : AreWords n c ws
-    first_are_words = let many = some_pages in record {
-      count = first_ws.0;
-      opened = (word_at 0 (omega arith)).opened refl ∙ sym s.opened;
-      done = (word_at 1 (omega arith)).done refl ∙ sym s.done;
-      wish = (word_at 2 (omega arith)).wish refl ∙ sym s.wish;
+    first_are_words = record {
+      count = first_ws.count;
+      opened = first_ws.opened ∙ sym s.opened;
+      done = first_ws.done ∙ sym s.done;
+      wish = first_ws.wish ∙ sym s.wish;
       links = λ f. let p : ℕ = (f + n - 1) % n in let low : p < n = mod-lt (f + n - 1) some_pages in
-          let (link, word, first) = (word_at (p + 3) (omega arith)).link p low refl in
+          let (link, word, first) = first_ws.links p low in
           ap (λ (k : ℕ). get_or ws (page_word k) 0) (before_is f)
           ∙ (word ∙ ap word_of (sym (link_is f link (subst (λ (k : ℕ). IsFirstLink n start k link) (behind f) first))));
       spare =
           ap (λ (k : ℕ). get_or ws (page_word k) 0) s.spare
-          ∙ ((word_at (n + 3) (omega arith)).spare refl ∙ ap word_of (sym s.spare_link));
+          ∙ (first_ws.spare ∙ ap word_of (sym s.spare_link));
     }
 
     first_are_homes : AreHomes n shape.size c (first_reading shape) (map some slots)

@@ -18,7 +18,8 @@ use Rattle.ring_model.proofs.contents.PageChanges.{pages_differ}
 use Rattle.ring_model.proofs.seats.SeatPages.{IsHeadTaken, head_taken}
 use Rattle.page_image.specs.Contents.{Contents}
 use Rattle.ring_steps.specs.Views.{Reading}
-use Rattle.ring_steps.specs.Shown.{page_word, page_before, AreWords, Homes, IsHome, HasBody, AreHomes}
+use Rattle.ring_steps.specs.Shown.{page_before, AreWords, Homes, IsHome, HasBody, AreHomes}
+use Rattle.ring_steps.specs.Words.{opened_word, done_word, wish_word, page_word}
 use Rattle.ring_steps.proofs.LinkWords.{one_before, one_behind, befores_differ, before_below}
 use Rattle.ring_steps.proofs.Taking.{reading_of}
 
@@ -149,9 +150,9 @@ module _ (n size start : ℕ) (c : Core) (k : IsRingKept n size start c) (page f
         (set ws (page_word (page_before n c.order fill)) (word_of (normal_link c.spare (fill + n))))
     swapped_words = record {
       count = length-set ws word word_behind ∙ a.count;
-      opened = get_or-set_other ws word 0 word_behind 0 (λ e. omega arith) ∙ a.opened;
-      done = get_or-set_other ws word 1 word_behind 0 (λ e. omega arith) ∙ a.done;
-      wish = get_or-set_other ws word 2 word_behind 0 (λ e. omega arith) ∙ a.wish;
+      opened = get_or-set_other ws word opened_word word_behind 0 (λ e. omega arith) ∙ a.opened;
+      done = get_or-set_other ws word done_word word_behind 0 (λ e. omega arith) ∙ a.done;
+      wish = get_or-set_other ws word wish_word word_behind 0 (λ e. omega arith) ∙ a.wish;
       links = λ g. dite (ℕ_discrete (g % n) (suc fill % n))
           (λ e. reports_next g e)
           (λ ne. dite (ℕ_discrete (g % n) (fill % n)) (λ e. reports_here g ne e) (λ ne'. reports_else g ne ne'));

@@ -30,6 +30,7 @@ use Rattle.ring_steps.specs.declared.rule.Shape.{Shape}
 use Rattle.ring_steps.specs.Made.{writer_made_of}
 use Rattle.ring_steps.specs.Views.{Reading, reading_after, reading}
 use Rattle.ring_steps.specs.Shown.{page_before, AreWords, Homes, AreHomes, Shows}
+use Rattle.ring_steps.specs.Words.{page_word}
 use Rattle.ring_steps.specs.Seats.{SeatState, kept_slots, IsSeatOfReader, IsReaderStep}
 use Rattle.ring_steps.specs.Swapping.{HeadTaken, HeadGone, head_to_take, SwapReported}
 use Rattle.ring_steps.proofs.Allowing.{IsShownBy, ReaderMoves, reader_allows}
@@ -52,11 +53,11 @@ module _ (shape : Shape) (me : SeatState) (c : Core) (ws : List ℕ) (homes : Ho
     (to_is : to ≡ word_of (normal_link (reading me.0).spare (fill + shape.pages))) where
   abbrev Moves : Type 0
   Moves =
-      ReaderMoves shape c (writer_made_of s.reached) me ws homes (front + 3) (λ k. either (k == from) to k)
+      ReaderMoves shape c (writer_made_of s.reached) me ws homes (page_word front) (λ k. either (k == from) to k)
       (λ found after. SwapReported shape me (spot fill page) found after)
 
   abbrev found : ℕ
-  found = slice_index ws (front + 3)
+  found = slice_index ws (page_word front)
 
   ring : IsRingKept shape.pages shape.size shape.start c
   ring = kept shape me c ws homes s
@@ -115,14 +116,14 @@ module _ (shape : Shape) (me : SeatState) (c : Core) (ws : List ℕ) (homes : Ho
         step_in shape me c ws homes s (swapping page fill) model.reading next at
         (cases.swap_fails differs refl refl) in
         let on : suc fill ≡ fill + 1 = omega arith in
-        reads_on shape me c ws homes s (front + 3) (λ k. either (k == from) to k)
+        reads_on shape me c ws homes s (page_word front) (λ k. either (k == from) to k)
         (λ found after. SwapReported shape me (spot fill page) found after) (λ _. ⊤) true model.reading next keeps
         step (omega arith) tt
         tt
-        (exchanged found from to (λ (word : ℕ). AreWords shape.pages next (slice_set ws (front + 3) word))
+        (exchanged found from to (λ (word : ℕ). AreWords shape.pages next (slice_set ws (page_word front) word))
         (λ e. absurd (other e))
         (λ _.
-        subst (AreWords shape.pages next) (sym (set-get_or ws (front + 3) 0))
+        subst (AreWords shape.pages next) (sym (set-get_or ws (page_word front) 0))
         (words_on shape.pages c ws reader_on s.are_words)))
         (homes_on shape.pages shape.size c (reading me.0) homes reader_on c.spare_link true s.are_homes
         (λ e. absurd (cc)))
@@ -255,7 +256,7 @@ module _ (shape : Shape) (me : SeatState) (c : Core) (ws : List ℕ) (homes : Ho
     unfolding next home
     done =
         let hand_here : me.1 ≡ (c.spare, Some blank) ∷ [] = hand ∙ (λ i. (spare_here i, Some blank) ∷ []) in
-        reads_on shape me c ws homes s (front + 3) (λ k. either (k == from) to k)
+        reads_on shape me c ws homes s (page_word front) (λ k. either (k == from) to k)
         (λ found after. SwapReported shape me (spot fill page) found after) (λ _. ⊤) true
         (model.page_taken (model.taken_fill c page fill)) next act step (omega arith) tt (
           tt,
@@ -264,13 +265,13 @@ module _ (shape : Shape) (me : SeatState) (c : Core) (ws : List ℕ) (homes : Ho
               homes
               blank sized s.are_homes,
         )
-        (exchanged found from to (λ (word : ℕ). AreWords shape.pages next (slice_set ws (front + 3) word))
+        (exchanged found from to (λ (word : ℕ). AreWords shape.pages next (slice_set ws (page_word front) word))
         (λ _.
-        subst (λ (word : ℕ). AreWords shape.pages next (slice_set ws (front + 3) word))
+        subst (λ (word : ℕ). AreWords shape.pages next (slice_set ws (page_word front) word))
         (sym (to_is ∙ ap (λ (spare : ℕ). word_of (normal_link spare (fill + shape.pages))) spare_here))
         (subst
         (λ (f : ℕ).
-        AreWords shape.pages next (slice_set ws (f + 3) (word_of (normal_link c.spare (fill + shape.pages)))))
+        AreWords shape.pages next (slice_set ws (page_word f) (word_of (normal_link c.spare (fill + shape.pages)))))
         (sym front_here)
         (behind.swapped_words shape.pages shape.size shape.start c ring page fill facts reported ws s.are_words)))
         (λ other. absurd (other same)))
@@ -306,18 +307,18 @@ module _ (shape : Shape) (me mid : SeatState) (page fill spare : ℕ) (blank : C
   pub swap_allowed : (slots id front from to : ℕ) → blank.size ≡ shape.size
       → front ≡ page_before shape.pages (reading me.0).order fill → FitsWord (header_link page fill)
       → from ≡ word_of (header_link page fill) → to ≡ word_of (normal_link spare (fill + shape.pages))
-      → Allows (Shows shape.pages shape.size shape.start) slots id mid (front + 3) (λ k. either (k == from) to k)
+      → Allows (Shows shape.pages shape.size shape.start) slots id mid (page_word front) (λ k. either (k == from) to k)
       (SwapReported shape mid (head_to_take (reading mid.0).reader.phase))
   swap_allowed slots id front from to sized front_is fits from_is to_is =
       subst
       (λ (m : SeatState).
-      Allows (Shows shape.pages shape.size shape.start) slots id m (front + 3) (λ k. either (k == from) to k)
+      Allows (Shows shape.pages shape.size shape.start) slots id m (page_word front) (λ k. either (k == from) to k)
       (SwapReported shape m (head_to_take (reading m.0).reader.phase))) (sym laid_is)
       (subst
       (λ (head : Spot).
-      Allows (Shows shape.pages shape.size shape.start) slots id (laid_into me blank) (front + 3)
+      Allows (Shows shape.pages shape.size shape.start) slots id (laid_into me blank) (page_word front)
       (λ k. either (k == from) to k) (SwapReported shape (laid_into me blank) head)) (sym (ap head_to_take at))
-      (reader_allows shape slots id (laid_into me blank) (front + 3) (λ k. either (k == from) to k)
+      (reader_allows shape slots id (laid_into me blank) (page_word front) (λ k. either (k == from) to k)
       (SwapReported shape (laid_into me blank) (spot fill page)) is.view
       (λ core ws homes s.
       swap_moves shape (laid_into me blank) core ws homes s page fill front from to blank at keeps_slot refl sized

@@ -34,7 +34,8 @@ use Rattle.page_image.specs.Contents.{Contents}
 use Rattle.ring_steps.specs.declared.rule.Shape.{Shape}
 use Rattle.ring_steps.specs.Made.{writer_made_of}
 use Rattle.ring_steps.specs.Views.{Reading, reading_after, reading, reads}
-use Rattle.ring_steps.specs.Shown.{page_word, page_before, AreWords, Homes, AreHomes, IsReading}
+use Rattle.ring_steps.specs.Shown.{page_before, AreWords, Homes, AreHomes, IsReading}
+use Rattle.ring_steps.specs.Words.{opened_word, done_word, wish_word, page_word}
 use Rattle.ring_steps.specs.Seats.{SeatState, kept_slots, IsSeatOfReader}
 use Rattle.ring_steps.specs.Taking.{ReadReported, SeatReported, IsWordInto}
 use Rattle.ring_steps.proofs.Made.{reached_on, writer_same, reader_then}
@@ -125,9 +126,9 @@ words_set : (n : ℕ) (c : Core) (words : List ℕ) (reader : Reader) (link : Li
 words_set n c words reader link some_pages a w =
     let below = a.spare_below in let count = w.count in let word : ℕ = page_word c.spare in record {
       count = length-set words word (word_of link) ∙ w.count;
-      opened = get_or-set_other words word 0 (word_of link) 0 (λ e. omega arith) ∙ w.opened;
-      done = get_or-set_other words word 1 (word_of link) 0 (λ e. omega arith) ∙ w.done;
-      wish = get_or-set_other words word 2 (word_of link) 0 (λ e. omega arith) ∙ w.wish;
+      opened = get_or-set_other words word opened_word (word_of link) 0 (λ e. omega arith) ∙ w.opened;
+      done = get_or-set_other words word done_word (word_of link) 0 (λ e. omega arith) ∙ w.done;
+      wish = get_or-set_other words word wish_word (word_of link) 0 (λ e. omega arith) ∙ w.wish;
       links = λ f. get_or-set_other words word (page_word (page_before n c.order f)) (word_of link) 0
           (λ e.
           a.spare_differs ((f + n - 1) % n) (mod-lt (f + n - 1) some_pages)
@@ -191,9 +192,9 @@ module _ (shape : Shape) (me : SeatState) (c : Core) (ws : List ℕ) (homes : Ho
       (subst (λ (p : ReaderPhase). cases.ReadStep shape.pages c p answer next) (phase_in phase at) step))
 
   pub word_into : (page fill : ℕ) → page ≡ page_before shape.pages (reading me.0).order fill
-      → slice_index ws (page + 3) ≡ word_of (link_into shape.pages c.links fill)
+      → slice_index ws (page_word page) ≡ word_of (link_into shape.pages c.links fill)
   word_into page fill is =
-      ap (λ (p : ℕ). get_or ws (p + 3) 0)
+      ap (λ (p : ℕ). get_or ws (page_word p) 0)
       (is ∙ ap (λ (order : List ℕ). page_before shape.pages order fill) s.is_reading.order_is)
       ∙ s.are_words.links fill
 
@@ -295,17 +296,17 @@ module _ (shape : Shape) (me : SeatState) (is : IsSeatOfReader me) (c : Core) (w
 
   -- the number of closed fills is loaded
   pub load_done_moves : (page fill : ℕ) → (reading me.0).reader.phase ≡ loading_done page fill
-      → ReaderMoves shape c (writer_made_of s.reached) me ws homes 1 (λ k. k)
+      → ReaderMoves shape c (writer_made_of s.reached) me ws homes done_word (λ k. k)
       (λ found after. SeatReported shape (λ core. core.done ≡ found) (reading me.0).keeps_spare me after)
   load_done_moves page fill at = let seen = sym s.are_words.done in
       dite (dec_le c.done fill)
       (λ le.
-      loads_on 1 (λ found core. core.done ≡ found) (model.empty c.done)
+      loads_on done_word (λ found core. core.done ≡ found) (model.empty c.done)
       (record c.reader { phase = loading_head; seen = c.done })
       (step_in shape me c ws homes s (loading_done page fill) (model.empty c.done) (model.reader_saw c loading_head) at
       (cases.finds_none le refl refl)) seen)
       (λ not.
-      loads_on 1 (λ found core. core.done ≡ found) model.reading
+      loads_on done_word (λ found core. core.done ≡ found) model.reading
       (record c.reader { phase = storing_spare_link page fill; seen = c.done })
       (step_in shape me c ws homes s (loading_done page fill) model.reading
       (model.reader_saw c (storing_spare_link page fill)) at (cases.finds_closed (lt_of_not-le not) refl refl)) seen)
@@ -313,7 +314,7 @@ module _ (shape : Shape) (me : SeatState) (is : IsSeatOfReader me) (c : Core) (w
   -- the link into the position of the hint is loaded, and the spare's slot is put home
   pub load_link_moves : (page : ℕ) → (reading me.0).reader.phase ≡ loading_head
       → page ≡ page_before shape.pages (reading me.0).order (reading me.0).reader.hint
-      → ReaderMoves shape c (writer_made_of s.reached) me ws homes (page + 3) (λ k. k)
+      → ReaderMoves shape c (writer_made_of s.reached) me ws homes (page_word page) (λ k. k)
       (λ found after. SeatReported shape (IsWordInto shape (reading me.0).reader.hint found) false me after)
   load_link_moves page at page_is =
       let k = kept shape me c ws homes s in let some_pages = some_position shape me c ws homes s in
@@ -329,15 +330,15 @@ module _ (shape : Shape) (me : SeatState) (is : IsSeatOfReader me) (c : Core) (w
       let next : Core = gone_on c reader c.spare_link in
       let step : model.Step shape.pages shape.size c model.reads answer next =
       subst (λ (d : Core). model.Step shape.pages shape.size c model.reads answer d) on made in
-      reads_on shape me c ws homes s (page + 3) (λ k. k)
+      reads_on shape me c ws homes s (page_word page) (λ k. k)
       (λ found after. SeatReported shape (IsWordInto shape hint found) false me after)
-      (IsWordInto shape hint (slice_index ws (page + 3))) false answer next gives step (omega arith)
+      (IsWordInto shape hint (slice_index ws (page_word page))) false answer next gives step (omega arith)
       record {
         word_is = sym (word_into shape me c ws homes s page hint page_is);
         fits = link_fits shape.pages shape.size shape.start c hint s.pages_fit k;
       }
       tt
-      (subst (AreWords shape.pages next) (sym (set-get_or ws (page + 3) 0))
+      (subst (AreWords shape.pages next) (sym (set-get_or ws (page_word page) 0))
       (words_on shape.pages c ws reader s.are_words))
       (subst
       (λ (l : List (ℕ × Option Contents)).
@@ -351,7 +352,7 @@ module _ (shape : Shape) (me : SeatState) (is : IsSeatOfReader me) (c : Core) (w
       → spare ≡ (reading me.0).spare → (reading me.0).keeps_spare ≡ false
       → new ≡ word_of link
       → link ≡ header_link (page_at shape.pages (reading me.0).order (fill + 1)) (fill + 1)
-      → ReaderMoves shape c (writer_made_of s.reached) me ws homes (spare + 3) (λ _. new)
+      → ReaderMoves shape c (writer_made_of s.reached) me ws homes (page_word spare) (λ _. new)
       (λ _ after. SeatReported shape (λ _. ⊤) true me after)
   store_moves page fill spare new link at spare_is empty new_is link_is =
       let k = kept shape me c ws homes s in let some_pages = some_position shape me c ws homes s in
@@ -363,14 +364,15 @@ module _ (shape : Shape) (me : SeatState) (is : IsSeatOfReader me) (c : Core) (w
       let next : Core = gone_on c reader behind in
       let here : c.spare ≡ spare = sym (spare_is ∙ s.is_reading.spare_is) in
       let none : me.1 ≡ [] = is.hand ∙ ap (λ (b : Bool). kept_slots b (reading me.0).spare) empty in
-      reads_on shape me c ws homes s (spare + 3) (λ _. new) (λ _ after. SeatReported shape (λ _. ⊤) true me after)
+      reads_on shape me c ws homes s (page_word spare) (λ _. new) (λ _ after. SeatReported shape (λ _. ⊤) true me after)
       (λ _. ⊤) true model.reading next (takes c.spare None)
       (step_in shape me c ws homes s (storing_spare_link page fill) model.reading next at
       record { answer_is = refl; after_is = refl })
       (omega arith) tt
       (s.are_homes.spare empty)
-      (subst (λ (w : ℕ). AreWords shape.pages next (slice_set ws (spare + 3) w)) (ap word_of (sym header) ∙ sym new_is)
-      (subst (λ (p : ℕ). AreWords shape.pages next (slice_set ws (p + 3) (word_of behind))) here
+      (subst (λ (w : ℕ). AreWords shape.pages next (slice_set ws (page_word spare) w))
+      (ap word_of (sym header) ∙ sym new_is)
+      (subst (λ (p : ℕ). AreWords shape.pages next (slice_set ws (page_word p) (word_of behind))) here
       (words_set shape.pages c ws reader behind some_pages k.links.apart s.are_words)))
       (homes_set shape.pages shape.size c (reading me.0) homes reader behind true maybe.none some_pages k.links.apart
       s.are_homes (λ e. absurd (cc)))

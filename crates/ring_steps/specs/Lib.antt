@@ -1,5 +1,6 @@
 pub mod Made
 pub mod Views
+pub mod Words
 pub mod Shown
 pub mod Seats
 pub mod Ends

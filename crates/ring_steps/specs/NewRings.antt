@@ -1,5 +1,6 @@
 -- A new ring's table: its words and slots, and what its two ends know at first.
 use Rattle.std.specs.Prelude.{◌≡◌, ◌≢◌, ℕ, zero, suc, ◌+◌, ◌%◌, ◌<◌, List, [], ◌∷◌, length, Option, Some, None, false}
+use Rattle.std.specs.Prelude.{slice_index_or}
 use Rattle.trace_model.specs.declared.limits.TheConstants.{LINK_FILLS}
 use Rattle.trace_model.specs.Links.{Link, word_of, normal_link}
 use Rattle.trace_model.specs.Ring.{HasRingLimits, first_reader}
@@ -10,6 +11,7 @@ use Rattle.ring_steps.specs.declared.ends.WriterSeat.{WriterSeat}
 use Rattle.ring_steps.specs.declared.ends.ReaderSeat.{ReaderSeat}
 use Rattle.ring_steps.specs.Views.{Writing, Reading, whole}
 use Rattle.ring_steps.specs.Seats.{SeatState}
+use Rattle.ring_steps.specs.Words.{opened_word, done_word, wish_word, page_word, word_count}
 use Rattle.ring_steps.specs.Ends.{writing_in, passed_in, reading_in, writer_table, reader_table}
 
 -- a ring may have this shape
@@ -51,17 +53,15 @@ abbrev pub IsFirstLinkWord : Shape → (page word : ℕ) → Type 0
 IsFirstLinkWord shape page word =
     (link : Link) × (word ≡ word_of link) × IsFirstLink shape.pages shape.start ((page + 1) % shape.pages) link
 
--- A word of a new ring: its counts and the wish, for each page of it the link into the next position, and 0 for the
--- spare.
-pub record IsFirstWord (shape : Shape) (i word : ℕ) : Type 0 where
-  pub opened : i ≡ 0 → word ≡ shape.start + 1
-  pub done : i ≡ 1 → word ≡ shape.start
-  pub wish : i ≡ 2 → word ≡ 0
-  pub link : (page : ℕ) → page < shape.pages → i ≡ page + 3 → IsFirstLinkWord shape page word
-  pub spare : i ≡ shape.pages + 3 → word ≡ 0
-
-abbrev pub AreFirstWords : Shape → List ℕ → Type 0
-AreFirstWords shape words = (length words ≡ shape.pages + 4) × EachAt (IsFirstWord shape) words
+-- The words of a new ring in which each page below this number has its link, into the next position: its counts, and 0
+-- for the wish and for the spare's link.
+pub record AreFirstWords (shape : Shape) (until : ℕ) (words : List ℕ) : Type 0 where
+  pub count : length words ≡ word_count shape.pages
+  pub opened : slice_index_or words opened_word 0 ≡ shape.start + 1
+  pub done : slice_index_or words done_word 0 ≡ shape.start
+  pub wish : slice_index_or words wish_word 0 ≡ 0
+  pub links : (page : ℕ) → page < until → IsFirstLinkWord shape page (slice_index_or words (page_word page) 0)
+  pub spare : slice_index_or words (page_word shape.pages) 0 ≡ 0
 
 -- A slot of a new ring: an empty page for each position but that of the first fill, whose page the writer keeps; none
 -- for the spare.

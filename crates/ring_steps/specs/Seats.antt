@@ -13,6 +13,7 @@ use Rattle.ring_steps.specs.Made.{writer_made_of, reader_made_of, privately_made
 use Rattle.ring_steps.specs.Views.{Writing, writing_of, writing_after, Reading, reading_made, SeatView, writes, reads}
 use Rattle.ring_steps.specs.Views.{writing, passed, reading}
 use Rattle.ring_steps.specs.Shown.{IsReading}
+use Rattle.ring_steps.specs.Words.{word_count}
 
 -- what a seat has: its view, and the slots that are out with it
 abbrev pub SeatState : Type 0
@@ -20,10 +21,10 @@ SeatState = Me (Option Contents) SeatView
 
 -- ---- the table
 
--- a ring of this shape has such a table: two counts, the wish, a link for each page, and a slot for each page
+-- a ring of this shape has such a table: its words, and a slot for each page
 pub record IsTableOf (shape : Shape) (table : TableId) : Type 0 where
   pub pages_fit : shape.pages ≤ MAX_PAGES
-  pub words : table.words ≡ shape.pages + 4
+  pub words : table.words ≡ word_count shape.pages
   pub slots : table.slots ≡ shape.pages + 1
 
 -- a seat at the table of a ring of this shape

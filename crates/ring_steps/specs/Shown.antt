@@ -14,15 +14,11 @@ use Rattle.trace_model.specs.Steps.{contents_of}
 use Rattle.ring_model.specs.Reached.{IsReached}
 use Rattle.page_image.specs.Contents.{Contents}
 use Rattle.nested_writer.specs.Released.{IsWrittenPage}
-use Rattle.ring_steps.specs.declared.rule.TheConstants.{OPENED_WORD, DONE_WORD, WISH_WORD, LINKS_WORD}
 use Rattle.ring_steps.specs.Made.{writer_made_of, reader_made_of}
 use Rattle.ring_steps.specs.Views.{Writing, writing_of, Reading, SeatView, laid, AreSeated}
+use Rattle.ring_steps.specs.Words.{opened_word, done_word, wish_word, page_word, word_count}
 
 -- ---- words
-
--- the word of a page's link
-abbrev pub page_word : ℕ → ℕ
-page_word page = page + LINKS_WORD
 
 -- the page whose link leads into the position of a fill: it is at the position before
 abbrev pub page_before : ℕ → List ℕ → ℕ → ℕ
@@ -31,10 +27,10 @@ page_before n order f = page_at n order (f + n - 1)
 -- The words show the counts and the links of a state: each page has one, the link into the position after its own, and
 -- the page outside the ring too.
 pub record AreWords (n : ℕ) (c : Core) (words : List ℕ) : Type 0 where
-  pub count : length words ≡ n + 4
-  pub opened : slice_index_or words OPENED_WORD 0 ≡ c.opened
-  pub done : slice_index_or words DONE_WORD 0 ≡ c.done
-  pub wish : slice_index_or words WISH_WORD 0 ≡ c.wish
+  pub count : length words ≡ word_count n
+  pub opened : slice_index_or words opened_word 0 ≡ c.opened
+  pub done : slice_index_or words done_word 0 ≡ c.done
+  pub wish : slice_index_or words wish_word 0 ≡ c.wish
   pub links : (f : ℕ)
       → slice_index_or words (page_word (page_before n c.order f)) 0 ≡ word_of (link_into n c.links f)
   pub spare : slice_index_or words (page_word c.spare) 0 ≡ word_of c.spare_link

@@ -3,6 +3,7 @@ ghost use Rattle.std.specs.Prelude.{◌%◌, ◌<◌, IfOk, Some, None};
 ghost use Rattle.ring_steps.specs.NewRings.{IsShape, IsFirstLinkWord, AreFirstWords, IsFirstSlot, AreFirstSlots};
 
 use crate::rule::Shape;
+use crate::words::Word;
 use link_marks::first_link;
 use page_image::{Body, Page};
 use std::alloc::Global;
@@ -11,16 +12,14 @@ use trace_model::{FillNo, NoMemory, RecordNo};
 /// The words of a new ring: how many fills are begun and closed, the reader's wish, and a link for each page.
 pub(crate) fn first_words(alloc: Global, shape: Shape) -> Result<Vec<u64>, NoMemory>
     requires { IsShape shape }
-    ensures { IfOk result (λ words. AreFirstWords shape words.items) }
+    ensures { IfOk result (λ words. AreFirstWords shape shape.pages words.items) }
 {
-    let mut words = Vec::with_capacity(alloc, shape.pages + 4)?;
-    words.push_reserved(shape.start + 1);
-    words.push_reserved(shape.start);
-    words.push_reserved(0);
+    let mut words = vec![in alloc; 0; Word::count(shape.pages)]?;
+    words[Word::Opened.place()] = shape.start + 1;
+    words[Word::Done.place()] = shape.start;
     for page in 0..shape.pages as u16 {
-        words.push_reserved(first_link_word(page, shape));
+        words[Word::Link(page).place()] = first_link_word(page, shape);
     }
-    words.push_reserved(0);
     Ok(words)
 }
 

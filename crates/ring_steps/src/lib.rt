@@ -18,6 +18,7 @@ mod rule;
 mod settling;
 mod swapping;
 mod views;
+mod words;
 mod writer;
 
 pub use ends::{ReaderSeat, WriterSeat};

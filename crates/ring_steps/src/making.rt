@@ -12,6 +12,7 @@ use crate::laying::{first_slots, first_words};
 use crate::plays::{TableSeat, load};
 use crate::rule::{Board, Shape};
 use crate::views::View;
+use crate::words::Word;
 use atomic_table::{Split, Table};
 use std::alloc::Global;
 use std::marker::Brand;
@@ -56,7 +57,7 @@ fn take_tail(board: &Board, shape: Shape, seat: &mut TableSeat)
     ensures seated { seat.new.table_id ≡ seat.old.table_id }
     ensures seat { IsWholeSeat shape seat.new.me }
 {
-    load::<Brand, _>(board, shape, seat, 0, &());
+    load::<Brand, _>(board, shape, seat, Word::Opened, &());
 }
 
 /// The seats of a new ring of `pages` pages and a spare, of `size` bytes of data each, whose first fill has the number

@@ -4,9 +4,11 @@ ghost use prog.Atomic.{either};
 ghost use Rattle.atomic_table.specs.Table.{Allows};
 ghost use Rattle.ring_steps.specs.Seats.{SitsAt};
 ghost use Rattle.ring_steps.specs.Shown.{Shows};
+ghost use Rattle.ring_steps.specs.Words.{place_of};
 
 use crate::rule::{Board, Shape};
 use crate::views::View;
+use crate::words::Word;
 use atomic_table::{Play, Seat};
 use page_image::Page;
 use std::marker::{Brand, PhantomData};
@@ -41,19 +43,19 @@ pub(crate) fn load<J: StepReport, G>(
     board: &Board,
     shape: Shape,
     seat: &mut TableSeat,
-    word: usize,
+    word: Word,
     given: &G,
 ) -> u64
     requires at { SitsAt shape board.now.shared.key board.now.shared.table_id seat.old.table_id }
-    requires word { word < board.now.shared.table_id.words }
+    requires word { place_of word < board.now.shared.table_id.words }
     requires allowed { Allows (Shows shape.pages shape.size shape.start)
-        board.now.shared.table_id.slots seat.old.id seat.old.me word (λ n. n) (J.reports seat.old.me) }
+        board.now.shared.table_id.slots seat.old.id seat.old.me (place_of word) (λ n. n) (J.reports seat.old.me) }
     ensures seated { (seat.new.table_id ≡ seat.old.table_id) × (seat.new.id ≡ seat.old.id) }
     ensures reported { J.reports seat.old.me result seat.new.me }
 {
     let _shape = shape;
     let _given = given;
-    board.shared.load::<Reporting<J>>(seat, word)
+    board.shared.load::<Reporting<J>>(seat, word.place())
 }
 
 /// Stores a word. `given` is as for `load`.
@@ -62,20 +64,21 @@ pub(crate) fn store<J: StepReport, G>(
     board: &Board,
     shape: Shape,
     seat: &mut TableSeat,
-    word: usize,
+    word: Word,
     new: u64,
     given: &G,
 )
     requires at { SitsAt shape board.now.shared.key board.now.shared.table_id seat.old.table_id }
-    requires word { word < board.now.shared.table_id.words }
+    requires word { place_of word < board.now.shared.table_id.words }
     requires allowed { Allows (Shows shape.pages shape.size shape.start)
-        board.now.shared.table_id.slots seat.old.id seat.old.me word (λ _. new) (λ _. J.reports seat.old.me new) }
+        board.now.shared.table_id.slots seat.old.id seat.old.me (place_of word) (λ _. new)
+        (λ _. J.reports seat.old.me new) }
     ensures seated { (seat.new.table_id ≡ seat.old.table_id) × (seat.new.id ≡ seat.old.id) }
     ensures reported { J.reports seat.old.me new seat.new.me }
 {
     let _shape = shape;
     let _given = given;
-    board.shared.store::<Reporting<J>>(seat, word, new);
+    board.shared.store::<Reporting<J>>(seat, word.place(), new);
 }
 
 /// Makes a word `to` if it is `from`, and answers what it was.
@@ -84,14 +87,14 @@ pub(crate) fn compare_exchange<J: StepReport>(
     board: &Board,
     shape: Shape,
     seat: &mut TableSeat,
-    word: usize,
+    word: Word,
     from: u64,
     to: u64,
 ) -> u64
     requires at { SitsAt shape board.now.shared.key board.now.shared.table_id seat.old.table_id }
-    requires word { word < board.now.shared.table_id.words }
+    requires word { place_of word < board.now.shared.table_id.words }
     requires allowed { Allows (Shows shape.pages shape.size shape.start)
-        board.now.shared.table_id.slots seat.old.id seat.old.me word (λ n. either (n == from) to n)
+        board.now.shared.table_id.slots seat.old.id seat.old.me (place_of word) (λ n. either (n == from) to n)
         (J.reports seat.old.me) }
     ensures seated { (seat.new.table_id ≡ seat.old.table_id) × (seat.new.id ≡ seat.old.id) }
     ensures reported { J.reports seat.old.me result seat.new.me }
@@ -99,5 +102,5 @@ pub(crate) fn compare_exchange<J: StepReport>(
     let _shape = shape;
     board
         .shared
-        .compare_exchange::<Reporting<J>>(seat, word, from, to)
+        .compare_exchange::<Reporting<J>>(seat, word.place(), from, to)
 }

@@ -13,7 +13,7 @@ ghost use Rattle.ring_steps.specs.Taking.{page_found, fill_found, IsLoadingDone,
 use crate::ends::ReaderSeat;
 use crate::links::link_in;
 use crate::plays::{load, store};
-use crate::rule::{DONE_WORD, LINKS_WORD, WISH_WORD};
+use crate::words::Word;
 use link_marks::Link;
 use std::marker::Brand;
 use trace_model::FillNo;
@@ -31,7 +31,7 @@ impl ReaderSeat {
             &self.board,
             self.shape,
             &mut self.seat,
-            WISH_WORD,
+            Word::Wish,
             fill.0 + 1,
             &(),
         );
@@ -52,7 +52,7 @@ impl ReaderSeat {
         ensures all { result ≤ fill_found (reading_in self.old) → (reading_in self.old).reader.hint ≡ result }
         ensures spare { (reading_in self.new).keeps_spare ≡ (reading_in self.old).keeps_spare }
     {
-        load::<Brand, _>(&self.board, self.shape, &mut self.seat, DONE_WORD, &())
+        load::<Brand, _>(&self.board, self.shape, &mut self.seat, Word::Done, &())
     }
 
     /// A load of the link into the position of the reader's hint, from the word of the page before that position. At a
@@ -85,7 +85,7 @@ impl ReaderSeat {
             → (reading_in self.old).reader.hint + self.old.shape.pages ≤ result.fill }
         ensures spare { (reading_in self.new).keeps_spare ≡ false }
     {
-        let word = front as usize + LINKS_WORD;
+        let word = Word::Link(front);
         link_in(load::<Brand, _>(&self.board, self.shape, &mut self.seat, word, &()))
     }
 
@@ -102,13 +102,13 @@ impl ReaderSeat {
         ensures linked { SpareLinked self.old.shape (reading_in self.old) (link_of link) (reading_in self.new) }
         ensures spare { (reading_in self.new).keeps_spare ≡ true }
     {
-        let word = link.pack();
+        let new = link.pack();
         store::<Brand, _>(
             &self.board,
             self.shape,
             &mut self.seat,
-            spare as usize + LINKS_WORD,
-            word,
+            Word::Link(spare),
+            new,
             &(),
         );
     }

@@ -1,20 +1,8 @@
-//! The table of a ring, its words, and its rule.
+//! The table of a ring, and its rule.
 use crate::views::View;
 use atomic_table::{Table, TableRule};
 use page_image::Page;
 use std::alloc::Global;
-
-/// The word that has the number of begun fills.
-pub(crate) const OPENED_WORD: usize = 0;
-
-/// The word that has the number of closed fills.
-pub(crate) const DONE_WORD: usize = 1;
-
-/// The word that has the reader's wish.
-pub(crate) const WISH_WORD: usize = 2;
-
-/// The word that has the link of the first page; those of the others follow.
-pub(crate) const LINKS_WORD: usize = 3;
 
 /// The number of a ring's pages, their data size in bytes, and the number of its first fill.
 #[derive(Clone, Copy, Debug)]

@@ -7,8 +7,9 @@ ghost use Rattle.ring_steps.specs.Ends.{writing_in, reading_in, writing_settled,
 use crate::ends::{ReaderSeat, WriterSeat};
 use crate::ghost_part::GhostPart;
 use crate::plays::{TableSeat, load};
-use crate::rule::{Board, DONE_WORD, Shape};
+use crate::rule::{Board, Shape};
 use crate::views::View;
+use crate::words::Word;
 use atomic_table::Join;
 use std::fmt;
 use std::marker::Brand;
@@ -33,7 +34,7 @@ fn load_done_joined(board: &Board, shape: Shape, seat: &mut TableSeat)
     ensures same { seat.new.me.0 ≡ seat.old.me.0 }
     ensures parts { AreParts shape (writing seat.old.me.0) (reading seat.old.me.0) }
 {
-    load::<Brand, _>(board, shape, seat, DONE_WORD, &());
+    load::<Brand, _>(board, shape, seat, Word::Done, &());
 }
 
 /// The two seats of a ring in one, which has no bytes: what contracts see of it is the part of each end, as it was when

@@ -11,7 +11,8 @@ ghost use Rattle.ring_steps.specs.Swapping.{HeadTaken, HeadGone};
 use crate::ends::ReaderSeat;
 use crate::links::{header_word, normal_word};
 use crate::plays::{TableSeat, compare_exchange};
-use crate::rule::{Board, LINKS_WORD};
+use crate::rule::Board;
+use crate::words::Word;
 use page_image::{Body, Page};
 use std::marker::Brand;
 use trace_model::{FillNo, RecordNo};
@@ -47,7 +48,7 @@ impl ReaderSeat {
         self.board
             .shared
             .exchange(&mut self.seat, spare as usize, Some(blank));
-        let word = front as usize + LINKS_WORD;
+        let word = Word::Link(front);
         let from = header_word(page, fill);
         let to = normal_word(spare, FillNo(fill.0 + self.shape.pages as u64));
         if compare_exchange::<Brand>(&self.board, self.shape, &mut self.seat, word, from, to)

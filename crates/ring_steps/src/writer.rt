@@ -16,12 +16,13 @@ ghost use Rattle.ring_steps.specs.Paging.{IsTopIn, begun_answer};
 ghost use Rattle.ring_steps.specs.Linking.{tail_in, noted_on_top, role_on_top, LooksNext, MarksNext, part_in, found_at, claimed_at, next_at};
 ghost use Rattle.ring_steps.specs.Moving.{IsWriterMove, HasStepped};
 ghost use Rattle.ring_steps.specs.Notes.{part_after, part_after_wish};
+ghost use Rattle.ring_steps.specs.Words.{place_of, word_count};
 
 use crate::ends::WriterSeat;
 use crate::ghost_part::ghost_part_known;
 use crate::links::{header_word, link_in, normal_word, update_word};
 use crate::plays::{StepReport, compare_exchange, load, store};
-use crate::rule::{DONE_WORD, LINKS_WORD, OPENED_WORD, WISH_WORD};
+use crate::words::Word;
 use link_marks::Link;
 use page_image::{Body, Page};
 use std::marker::Brand;
@@ -37,9 +38,10 @@ impl WriterSeat {
 
     /// A load of this word, as a step of the writer.
     #[inline(always)]
-    fn load_step<J: StepReport>(&mut self, word: usize) -> u64
-        requires word { word < self.old.shape.pages + 4 }
-        requires moves { IsWriterMove self.old.shape self.old.seat.me word (λ n. n) (J.reports self.old.seat.me) }
+    fn load_step<J: StepReport>(&mut self, word: Word) -> u64
+        requires word { place_of word < word_count self.old.shape.pages }
+        requires moves { IsWriterMove self.old.shape self.old.seat.me (place_of word) (λ n. n)
+            (J.reports self.old.seat.me) }
         ensures { HasStepped self.old self.new (J.reports self.old.seat.me result) }
     {
         let found = load::<J, _>(&self.board, self.shape, &mut self.seat, word, &());
@@ -49,9 +51,9 @@ impl WriterSeat {
 
     /// A compare and exchange of this word, as a step of the writer; what the word was.
     #[inline(always)]
-    fn compare_exchange_step<J: StepReport>(&mut self, word: usize, from: u64, to: u64) -> u64
-        requires word { word < self.old.shape.pages + 4 }
-        requires moves { IsWriterMove self.old.shape self.old.seat.me word (λ n. either (n == from) to n)
+    fn compare_exchange_step<J: StepReport>(&mut self, word: Word, from: u64, to: u64) -> u64
+        requires word { place_of word < word_count self.old.shape.pages }
+        requires moves { IsWriterMove self.old.shape self.old.seat.me (place_of word) (λ n. either (n == from) to n)
             (J.reports self.old.seat.me) }
         ensures { HasStepped self.old self.new (J.reports self.old.seat.me result) }
     {
@@ -77,7 +79,7 @@ impl WriterSeat {
             (found_at (mark_of result.mark) (writing_in self.old).opened result.page) }
     {
         self.recall();
-        let found = self.load_step::<Brand>(tail as usize + LINKS_WORD);
+        let found = self.load_step::<Brand>(Word::Link(tail));
         link_in(found)
     }
 
@@ -96,7 +98,7 @@ impl WriterSeat {
     {
         let _after_lost = after_lost;
         self.recall();
-        let found = self.load_step::<Brand>(page as usize + LINKS_WORD);
+        let found = self.load_step::<Brand>(Word::Link(page));
         link_in(found)
     }
 
@@ -110,7 +112,7 @@ impl WriterSeat {
         ensures part { writing_in self.new ≡ part_after_wish self.old.shape (writing_in self.old) result }
     {
         self.recall();
-        self.load_step::<Brand>(WISH_WORD)
+        self.load_step::<Brand>(Word::Wish)
     }
 
     /// A compare and exchange of the link in the tail page's word from HEADER to UPDATE, by which the head, this page
@@ -130,7 +132,7 @@ impl WriterSeat {
             (claimed_at result (writing_in self.old).opened page) }
     {
         self.recall();
-        let word = tail as usize + LINKS_WORD;
+        let word = Word::Link(tail);
         let from = header_word(page, lost);
         let to = update_word(page, lost);
         let found = self.compare_exchange_step::<Brand>(word, from, to);
@@ -150,7 +152,7 @@ impl WriterSeat {
             (after_next (role_on_top (writing_in self.old).frames) (noted_on_top (writing_in self.old).frames) page) }
     {
         self.recall();
-        let word = page as usize + LINKS_WORD;
+        let word = Word::Link(page);
         let from = normal_word(next, after_lost);
         let to = header_word(next, after_lost);
         let found = self.compare_exchange_step::<Brand>(word, from, to);
@@ -171,7 +173,7 @@ impl WriterSeat {
         ensures part { writing_in self.new ≡ part_in (writing_in self.old) (opening noted.0 page) }
     {
         self.recall();
-        let word = front as usize + LINKS_WORD;
+        let word = Word::Link(front);
         let from = update_word(page, FillNo(noted.0 - self.shape.pages as u64));
         let to = normal_word(page, noted);
         let found = self.compare_exchange_step::<Brand>(word, from, to);
@@ -194,7 +196,7 @@ impl WriterSeat {
             &self.board,
             self.shape,
             &mut self.seat,
-            OPENED_WORD,
+            Word::Opened,
             fill.0 + 1,
             &self.ghost_part,
         );
@@ -228,7 +230,7 @@ impl WriterSeat {
             &self.board,
             self.shape,
             &mut self.seat,
-            DONE_WORD,
+            Word::Done,
             done,
             &self.ghost_part,
         );

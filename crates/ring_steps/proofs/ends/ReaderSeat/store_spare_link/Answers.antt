@@ -9,7 +9,7 @@ store-requires-clause-allowed c = let is = c.args.self.now.is_reading in
     reader_allows c.args.self.now.shape _ _ _ _ _ _ is.view
     (λ core words homes s.
     store_moves c.args.self.now.shape _ is core words homes s _ _ c.args.spare _ _ c.requires.due c.requires.spare
-    c.requires.given_back c.pack-word.ensures c.requires.link)
+    c.requires.given_back c.pack-new.ensures c.requires.link)
 
 pub returns-clause-linked : goal.returns-clause-linked
 returns-clause-linked c = let reported = c.store.ensures.reported.1 in
