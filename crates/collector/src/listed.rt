@@ -104,6 +104,7 @@ impl<'a> Iterator for CpuRecords<'a> {
 
     ghost remaining = { item_count (λ left. left) };
 
+    #[inline(always)]
     fn next(&mut self) -> Option<Entry<'a>> {
         if self.number >= self.end {
             let Some(kept) = next_kept(self.collector, self.cpu, self.number) else {

@@ -3,6 +3,7 @@ pub mod Pairs
 pub mod StretchWalks
 pub mod Takes
 pub mod Trees
+pub mod Turns
 pub mod ByNumber
 pub mod Merging
 pub mod Ranked

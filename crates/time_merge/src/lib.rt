@@ -1,7 +1,7 @@
 //! Listings: what a collector has, in the order of time.
 //!
-//! Lines are merged from sources, each of which gives lines of one CPU by number. One line of each source is at hand, and
-//! a tree of their moments says which of them goes first.
+//! Lines are merged from sources, each of which gives lines of one CPU by number. One line of each source is at hand,
+//! and a tree of their moments says which of them goes first.
 //!
 //! `lines_by_time` makes no list. Its sources are stretches of each CPU's records, which end where a moment falls.
 //! `walk_lines` has each of those lines taken. `listing` makes a list, and merges whole CPUs; a single one gives its
