@@ -1,5 +1,5 @@
 //! The lines of a collector's records.
-ghost use Rattle.std.specs.Prelude.{◌≡◌, ◌+◌, ◌≤◌, [], ◌∷◌, ◌++◌, List, OnOk, OnErr, drop, flat_map, map};
+ghost use Rattle.std.specs.Prelude.{◌≡◌, ◌+◌, ◌≤◌, [], ◌∷◌, ◌++◌, List, OnOk, OnErr, drop, flat_map};
 ghost use Rattle.std.specs.Fmt.{decimal};
 ghost use Rattle.text_model.specs.Text.{space};
 ghost use Rattle.trace_model.specs.Sublist.{IsPrefix};
@@ -11,7 +11,7 @@ use collector::Collector;
 use itoa::write_digits;
 use std::alloc::Global;
 use text_values::put_payload;
-use time_merge::{Line, listing};
+use time_merge::{Line, LinesByTime, lines_by_time};
 use trace_model::NoMemory;
 
 /// Room for the three numbers of a line, each of which takes at most 21 bytes with the space after it.
@@ -57,17 +57,17 @@ fn put_line(out: &mut Vec<u8>, line: &Line<'_>) -> Result<(), NoMemory>
 }
 
 /// These lines, in their order. On an error a part of that may be put.
-fn put_each(out: &mut Vec<u8>, lines: &[Line<'_>]) -> Result<(), NoMemory>
-    ensures text { OnOk result (out.new.items ≡ out.old.items ++ flat_map printed_line (map line_seen lines.now)) }
+fn put_each(out: &mut Vec<u8>, lines: LinesByTime<'_>) -> Result<(), NoMemory>
+    ensures text { OnOk result (out.new.items ≡ out.old.items ++ flat_map printed_line lines.entry) }
     ensures behind { IsPrefix out.old.items out.new.items }
 {
     for line in lines {
-        put_line(out, line)?;
+        put_line(out, &line)?;
     }
     Ok(())
 }
 
-/// The lines of the collector's records, by time. On an error a part of that may be put.
+/// The lines of the collector's records, by time; no list of them is made. On an error a part of that may be put.
 pub(crate) fn put_lines(
     alloc: Global,
     out: &mut Vec<u8>,
@@ -77,6 +77,6 @@ pub(crate) fn put_lines(
         × (out.new.items ≡ out.old.items ++ flat_map printed_line lines)) }
     ensures behind { IsPrefix out.old.items out.new.items }
 {
-    let lines = listing(alloc, collector)?;
-    put_each(out, &lines)
+    let lines = lines_by_time(alloc, collector)?;
+    put_each(out, lines)
 }

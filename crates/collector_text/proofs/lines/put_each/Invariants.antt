@@ -1,8 +1,11 @@
-use Rattle.std.proofs.Common.{◌≡◌, ◌++◌, take, flat_map, map}
-use Rattle.time_merge.specs.Lines.{line_seen}
+use Rattle.std.proofs.Common.{◌≡◌, ◌++◌, flat_map}
+use Rattle.trace_model.specs.Sublist.{IsPrefix}
 use Rattle.world_model.specs.Printing.{printed_line}
 use Rattle.collector_text.proofs.lines.put_each.Given as goal
 
 abbrev pub invariant-loop-line : goal.invariant-loop-line
-invariant-loop-line l =
-    l.out.items ≡ l.initial.out.items ++ flat_map printed_line (map line_seen (take l.line-index l.lines))
+invariant-loop-line l = record {
+  text : l.out.items ++ flat_map printed_line l.line-iterator
+      ≡ l.initial.out.items ++ flat_map printed_line l.initial.line-iterator;
+  behind : IsPrefix l.initial.out.items l.out.items;
+}
