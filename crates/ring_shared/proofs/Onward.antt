@@ -1,5 +1,5 @@
 -- Steps of a take, one after the other, and the wish.
-use Rattle.std.proofs.Common.{◌≡◌, ℕ, ◌+◌, List, [], ◌∷◌, ◌++◌, length, take, map, refl, sym, ap, ◌∙◌, subst, arith}
+use Rattle.std.proofs.Common.{◌≡◌, ℕ, ◌+◌, List, [], ◌∷◌, ◌++◌, length, take, map, refl, sym, ap, ◌∙◌, arith}
 use Rattle.trace_model.specs.Record.{Record}
 use Rattle.trace_model.specs.History.{as_record, reserved_records}
 use Rattle.trace_model.specs.Ring as ring
@@ -15,8 +15,7 @@ use Rattle.ring_steps.proofs.Made.{reached_on}
 use Rattle.ring_steps.proofs.ReaderSteps.{step_read}
 use Rattle.ring_shared.specs.declared.take.Take.{Take}
 use Rattle.ring_shared.specs.declared.take.Take.TheVariants.{Page, Empty, Moving}
-use Rattle.ring_shared.specs.declared.take.TakeStep.TheVariants.{Looking}
-use Rattle.ring_shared.specs.Takes.{TakesNothing, IsMovingFound, IsTake, ReadsSo, IsAnswered}
+use Rattle.ring_shared.specs.Takes.{TakesNothing, IsMovingFound, IsTake}
 use Rattle.ring_shared.proofs.TakeSteps.{Stays, passed_below_hint}
 
 pub nothing_yet : (part : Reading) → TakesNothing part part
@@ -86,13 +85,6 @@ answered shape before mid after body had (Moving fill back) a same (given, t) =
         passed = t.passed;
       },
     )
-
--- a step that is answered by going on is one that the model answers so
-pub goes_on : (shape own : Shape) (before after : Reading) (back : List ℕ) → own ≡ shape
-    → IsAnswered own before (Looking back) after → ReadsSo shape before model.reading after
-goes_on shape own before after back same a =
-    subst (λ (s : Shape). ReadsSo s before model.reading after) same
-    (subst (λ (reported : model.Answer). ReadsSo own before reported after) a.reports a.step)
 
 -- a take that took too many steps
 pub given_up : (shape : Shape) (before after : Reading) (fill : ℕ) → TakesNothing before after

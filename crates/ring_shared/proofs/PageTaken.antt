@@ -16,7 +16,6 @@ use Rattle.ring_steps.specs.Views.{Reading}
 use Rattle.ring_steps.specs.Swapping.{HeadTaken, HeadGone}
 use Rattle.ring_steps.proofs.TakeSteps.{facts, hint_is}
 use Rattle.ring_shared.specs.declared.take.Take.TheVariants.{Page}
-use Rattle.ring_shared.specs.declared.take.TakeStep.TheVariants.{Done}
 use Rattle.ring_shared.specs.Takes.{IsReaderPart, IsPageTaken, ReadsSo, IsAnswered}
 use Rattle.ring_shared.proofs.TakeSteps.{Stays, known_after, so, stays}
 
@@ -88,7 +87,7 @@ module _ (shape : Shape) (before : Reading) (page fill : ℕ) (after : Reading)
 
 pub swap_answers : (shape : Shape) (before : Reading) (page fill : ℕ) (after : Reading) (taken : Contents)
     → HeadTaken shape before page fill taken after
-    → IsAnswered shape before (Done (Page taken (taken.first - before.reader.expected))) after
+    → IsAnswered shape before (Page taken (taken.first - before.reader.expected)) after
 swap_answers shape before page fill after taken h = record {
   reported = model.page_taken h.reported;
   step =

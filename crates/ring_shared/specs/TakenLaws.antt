@@ -7,8 +7,7 @@ use Rattle.ring_steps.specs.Made.{ReaderMade}
 use Rattle.ring_steps.specs.Views.{Reading}
 use Rattle.ring_shared.specs.declared.take.Take.{Take}
 use Rattle.ring_shared.specs.declared.take.Take.TheVariants.{Moving}
-use Rattle.ring_shared.specs.declared.take.TakeStep.TheVariants.{Done}
-use Rattle.ring_shared.specs.Takes.{TakeStepMeans, most_steps, TakesSteps}
+use Rattle.ring_shared.specs.Takes.{TakeMeans, most_steps, TakesSteps}
 
 -- steps of a take that are answered by reading on, and nothing else
 abbrev pub AreReadOn : List ReaderMade → Type 0
@@ -23,7 +22,7 @@ pub record IsLastOf (shape : Shape) (result : Take) (looks last : List ReaderMad
   pub last_is : last ≡ one ∷ []
   pub reported : model.Answer
   pub exchange_is : one.exchange ≡ record { event = model.reads; answer = reported }
-  pub reports : TakeStepMeans shape.size (Done result) reported
+  pub reports : TakeMeans shape.size result reported
 
 -- The take has made as many steps as it may, and answers `Moving`; there is no other step.
 pub record HasNoLast (shape : Shape) (result : Take) (looks last : List ReaderMade) : Type 0 where

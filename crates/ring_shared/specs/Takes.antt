@@ -1,6 +1,6 @@
 -- What a reader's take answers, and what it knows by it.
 use Rattle.std.specs.Prelude.{◌≡◌, ⊤, ℕ, ◌+◌, ◌*◌, ◌^◌, ◌<◌, ◌≤◌, Bool, true, false, List, [], ◌∷◌, ◌++◌, length}
-use Rattle.std.specs.Prelude.{Option, Some, None}
+use Rattle.std.specs.Prelude.{Option, Some, None, Result, Ok, Err}
 use Rattle.trace_model.specs.declared.limits.TheConstants.{LINK_PAGES}
 use Rattle.trace_model.specs.declared.numbers.FillNo.{FillNo}
 use Rattle.trace_model.specs.Record.{Record}
@@ -23,8 +23,8 @@ use Rattle.ring_steps.specs.Shown.{IsReading}
 use Rattle.ring_steps.specs.Seats.{IsReaderStep}
 use Rattle.ring_shared.specs.declared.take.Take.{Take}
 use Rattle.ring_shared.specs.declared.take.Take.TheVariants.{Page, Empty, Moving}
-use Rattle.ring_shared.specs.declared.take.TakeStep.{TakeStep}
-use Rattle.ring_shared.specs.declared.take.TakeStep.TheVariants.{Looking, Done}
+use Rattle.ring_shared.specs.declared.take.Look.{Look}
+use Rattle.ring_shared.specs.declared.take.Look.TheVariants as look
 use Rattle.ring_shared.specs.Value.{ReaderValue}
 
 -- ---- the reader
@@ -149,29 +149,23 @@ empty_of (Moving fill back) = None
 
 -- ---- the steps of a take
 
--- what one step of a take answers
-abbrev pub IsTakeStep : Shape → Reading → List ℕ → TakeStep → Reading → Type 0
-IsTakeStep shape before body (Looking back) after = (length back ≡ length body) × TakesNothing before after
-IsTakeStep shape before body (Done took) after = IsTake shape before body took after
-
 -- The model's reader makes a step with this answer: from a state in which its part is the first to one in which it is
 -- the second.
 abbrev pub ReadsSo : Shape → Reading → model.Answer → Reading → Type 0
 ReadsSo shape before reported after = IsReaderStep shape before (λ _. ⊤) model.reads reported after
 
--- the step's answer means the model's
-abbrev pub TakeStepMeans : ℕ → TakeStep → model.Answer → Type 0
-TakeStepMeans size (Looking back) reported = reported ≡ model.reading
-TakeStepMeans size (Done (Page page missed)) reported =
+-- the take's answer means the model's
+abbrev pub TakeMeans : ℕ → Take → model.Answer → Type 0
+TakeMeans size (Page page missed) reported =
     (t : TakenFill) × (reported ≡ model.page_taken t) × IsTakenPage size page missed t
-TakeStepMeans size (Done (Empty done back)) reported = reported ≡ model.empty done
-TakeStepMeans size (Done (Moving fill back)) reported = reported ≡ model.moving fill.0
+TakeMeans size (Empty done back) reported = reported ≡ model.empty done
+TakeMeans size (Moving fill back) reported = reported ≡ model.moving fill.0
 
--- so a take answers at once if the model does, and continues if the model does
-pub record IsAnswered (shape : Shape) (before : Reading) (take_step : TakeStep) (after : Reading) : Type 0 where
+-- The model answers a step so, and the take with it: so a take answers at once if the model does.
+pub record IsAnswered (shape : Shape) (before : Reading) (result : Take) (after : Reading) : Type 0 where
   pub reported : model.Answer
   pub step : ReadsSo shape before reported after
-  pub reports : TakeStepMeans shape.size take_step reported
+  pub reports : TakeMeans shape.size result reported
 
 -- ---- how many steps a take makes
 
@@ -193,7 +187,7 @@ pub data TakesSteps (shape : Shape) (before : Reading) (result : Take) (after : 
   has_answer : (steps : ℕ) (between : Reading)
       → steps < most_steps shape
       → ReadsOn shape before steps between
-      → IsAnswered shape between (Done result) after
+      → IsAnswered shape between result after
       → TakesSteps shape before result after
   has_none : (fill : FillNo) (back : List ℕ)
       → ReadsOn shape before (most_steps shape) after
@@ -210,24 +204,50 @@ pub record AnswersTake (old : ReaderValue) (answer : Take) (new : ReaderValue) :
 abbrev pub SameRing : ReaderValue → ReaderValue → Type 0
 SameRing before after = (after.shape ≡ before.shape) × (after.table ≡ before.table)
 
--- What a step's answer says of what the reader knows: if it is that nothing was found, the reader has found exactly
--- that.
-abbrev pub EmptyAfter : ReaderValue → TakeStep → Type 0
-EmptyAfter v (Looking back) = Unit {0}
-EmptyAfter v (Done (Page page missed)) = Unit {0}
-EmptyAfter v (Done (Empty done back)) = KnowsNoneUnread v done
-EmptyAfter v (Done (Moving fill back)) = Unit {0}
+-- if the take's answer is that nothing was found, the reader has found exactly that
+abbrev pub EmptyAfter : ReaderValue → Take → Type 0
+EmptyAfter v (Page page missed) = Unit {0}
+EmptyAfter v (Empty done back) = KnowsNoneUnread v done
+EmptyAfter v (Moving fill back) = Unit {0}
 
 -- the reader keeps no `Empty` of a take
 pub record KeepsNoEmpty (v : ReaderValue) : Type 0 where
   pub reader : IsReader v
   pub again : v.empty_at ≡ None
 
--- One step of a take, which has this answer: what it takes, as the model does, and what the reader knows then.
-pub record MakesTakeStep (old : ReaderValue) (body : List ℕ) (result : TakeStep) (new : ReaderValue) : Type 0 where
-  pub take_step : IsTakeStep old.shape old.part body result new.part
-  pub answered : IsAnswered old.shape old.part result new.part
-  pub empty : EmptyAfter new result
+-- ---- each step of a take
+
+-- What a look at one word finds: it is a step that takes nothing, and the model answers it so. If no look is left, it
+-- is no step, and the reader is about to swap.
+abbrev pub IsLook : ReaderValue → Look → ReaderValue → Type 0
+IsLook old look.Continues new =
+    TakesNothing old.part new.part × ReadsSo old.shape old.part model.reading new.part
+IsLook old (look.Empty done) new =
+    IsEmptyFound old.shape old.part done new.part × ReadsSo old.shape old.part (model.empty done) new.part
+    × KnowsNoneUnread new done
+IsLook old (look.Moving fill) new =
+    IsMovingFound old.shape old.part fill.0 new.part × ReadsSo old.shape old.part (model.moving fill.0) new.part
+IsLook old (look.Found page fill) new = (new ≡ old) × (old.at.phase ≡ Swapping page fill)
+
+-- What a swap finds: the page, as the model takes it; or the head has moved, the body is returned, and the model reads
+-- on.
+abbrev pub IsSwap : Shape → Reading → List ℕ → Result (Contents × ℕ) (List ℕ) → Reading → Type 0
+IsSwap shape before body (Ok (page, missed)) after =
+    IsPageTaken shape before page missed after × IsAnswered shape before (Page page missed) after
+IsSwap shape before body (Err back) after =
+    (length back ≡ length body) × TakesNothing before after × ReadsSo shape before model.reading after
+
+-- The reader makes this look, and keeps no `Empty`.
+pub record MakesLook (old : ReaderValue) (result : Look) (new : ReaderValue) : Type 0 where
+  pub looked : IsLook old result new
+  pub empty_at : new.empty_at ≡ None
+  pub ring : SameRing old new
+  pub reader : IsReader new
+
+-- The reader makes this swap, for which it is given the body, and keeps no `Empty`.
+pub record MakesSwap (old : ReaderValue) (body : List ℕ) (result : Result (Contents × ℕ) (List ℕ)) (new : ReaderValue)
+    : Type 0 where
+  pub swapped : IsSwap old.shape old.part body result new.part
   pub empty_at : new.empty_at ≡ None
   pub ring : SameRing old new
   pub reader : IsReader new

@@ -15,11 +15,15 @@ pub enum Take {
     Moving(FillNo, Body),
 }
 
-/// What one step of a take answers.
-#[derive(Drop)]
-pub(crate) enum TakeStep {
+/// What a look at one word of the ring answers: it takes nothing, so it needs no body.
+#[derive(Clone, Copy)]
+pub(crate) enum Look {
     /// The take continues.
-    Looking(Body),
-    /// It has its answer.
-    Done(Take),
+    Continues,
+    /// No closed fill is unread: the number is that of the oldest fill that isn't closed.
+    Empty(u64),
+    /// A move of the head isn't finished: each fill below this one is taken or lost.
+    Moving(FillNo),
+    /// No look is left: the head, this page as this fill, is closed, and the swap is the next step.
+    Found { page: u16, fill: u64 },
 }

@@ -1,6 +1,6 @@
 //! The take, and what else a reader is asked.
 use crate::reader::Reader;
-use crate::take::{Take, TakeStep};
+use crate::take::{Look, Take};
 use page_image::{Body, Page};
 use trace_model::FillNo;
 
@@ -9,7 +9,6 @@ impl Reader {
     ghost use Rattle.trace_model.specs.Steps.{wishes, wished_for};
     ghost use Rattle.ring_steps.specs.Views.{reading_after};
     ghost use Rattle.ring_steps.specs.Seats.{IsReaderStep};
-    ghost use Rattle.ring_shared.specs.declared.take.TakeStep.TheVariants.{Done};
     ghost use Rattle.ring_shared.specs.Takes.{IsReader, KeepsNoEmpty, IsTake, TakesSteps, EmptyAfter, SameRing, IsOfSize, empty_of};
 
     /// Takes the oldest page that is closed and unread, for which `body`, of the ring's data size in bytes, goes into
@@ -40,16 +39,21 @@ impl Reader {
         requires size { length body ≡ self.old.shape.size }
         ensures took { IsTake self.old.shape self.old.part body result self.new.part }
         ensures steps { TakesSteps self.old.shape self.old.part result self.new.part }
-        ensures empty { EmptyAfter self.new (Done result) }
+        ensures empty { EmptyAfter self.new result }
         ensures ring { SameRing self.old self.new }
         ensures taking { KeepsNoEmpty self.new }
     {
         let mut body = body;
         for made in 0..2 * self.order.len() + 8 {
             let _made = made;
-            match self.step(body) {
-                TakeStep::Looking(back) => body = back,
-                TakeStep::Done(took) => return took,
+            match self.look() {
+                Look::Continues => {}
+                Look::Empty(done) => return Take::Empty(done, body),
+                Look::Moving(fill) => return Take::Moving(fill, body),
+                Look::Found { page, fill } => match self.swap_head(page, fill, body) {
+                    Ok((taken, missed)) => return Take::Page(taken, missed),
+                    Err(back) => body = back,
+                },
             }
         }
         Take::Moving(FillNo(self.at.hint), body)

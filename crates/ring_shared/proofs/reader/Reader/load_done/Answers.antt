@@ -37,23 +37,20 @@ returns-then-done-fill c =
     ∙ reported.all (subst (λ (fill : ℕ). done ≤ fill) (sym here) c.if-done-fill.true) in
     let s = counted v.shape v.part done (model.empty done) ring.loading_head after h in
     record {
-      take_step = (refl, none_found v.shape v.part done (model.empty done) after h hint);
-      answered =
-          record {
-            reported = model.empty done;
-            step = so v.shape v.part after _ (model.empty done) h.step;
-            reports = refl;
-          };
-      empty = record {
-        hint_is = ap (λ (x : ring.Reader). x.hint) s.reader_is ∙ hint;
-        seen_is = ap (λ (x : ring.Reader). x.seen) s.reader_is;
-        phase_is = refl;
-        no_spare =
-            reported.spare
-            ∙ (ap (λ (w : ReaderValue). w.part.keeps_spare) c.self.view_is
-            ∙ subst (λ (p : ReaderPhase). KeepsSpare p v.part.keeps_spare) c.requires.phase
-            c.requires.taking.reader.keeps);
-      };
+      looked = (
+        none_found v.shape v.part done (model.empty done) after h hint,
+        so v.shape v.part after _ (model.empty done) h.step,
+        record {
+          hint_is = ap (λ (x : ring.Reader). x.hint) s.reader_is ∙ hint;
+          seen_is = ap (λ (x : ring.Reader). x.seen) s.reader_is;
+          phase_is = refl;
+          no_spare =
+              reported.spare
+              ∙ (ap (λ (w : ReaderValue). w.part.keeps_spare) c.self.view_is
+              ∙ subst (λ (p : ReaderPhase). KeepsSpare p v.part.keeps_spare) c.requires.phase
+              c.requires.taking.reader.keeps);
+        },
+      );
       empty_at = search rules;
       ring = search rules;
       reader =
@@ -87,14 +84,11 @@ returns c =
     ∙ subst (λ (p : ReaderPhase). KeepsSpare p v.part.keeps_spare) c.requires.phase
     c.requires.taking.reader.keeps) in
     record {
-      take_step = (
-        refl,
+      looked = (
         nothing v.shape v.part after (record v.part.reader { phase = storing; seen = done }) s refl refl
             (omega arith) h.seen_le,
+        so v.shape v.part after _ model.reading h.step,
       );
-      answered =
-          record { reported = model.reading; step = so v.shape v.part after _ model.reading h.step; reports = refl };
-      empty = search rules;
       empty_at = search rules;
       ring = search rules;
       reader =

@@ -118,14 +118,11 @@ returns-in-Head c =
     record v.part.reader { phase = ring.loading_done c.in-Head.page c.in-Head.fill; hint = c.in-Head.fill } in
     let old = fields _ v c.self.view_is c.requires.taking.reader in
     record {
-      take_step = (
-        refl,
+      looked = (
         none_taken v c.load_head-link.result after model.reading (ring.loading_done c.in-Head.page c.in-Head.fill)
             c.in-Head.fill h,
+        so v.shape v.part after _ model.reading h.step,
       );
-      answered =
-          record { reported = model.reading; step = so v.shape v.part after _ model.reading h.step; reports = refl };
-      empty = search rules;
       empty_at = search rules;
       ring = search rules;
       reader =
@@ -151,8 +148,7 @@ returns-in-Unfinished c =
     (loaded v.shape v.part (link_of c.load_head-link.result) (model.moving c.in-Unfinished.fill)
     ring.loading_head c.in-Unfinished.fill after h).reader_is in
     record {
-      take_step = (
-        refl,
+      looked = (
         record {
           nothing =
               none_taken v c.load_head-link.result after (model.moving c.in-Unfinished.fill) ring.loading_head
@@ -161,14 +157,8 @@ returns-in-Unfinished c =
           hint_is = hint;
           passed = passed_below_hint v.shape after c.in-Unfinished.fill hint;
         },
+        so v.shape v.part after _ (model.moving c.in-Unfinished.fill) h.step,
       );
-      answered =
-          record {
-            reported = model.moving c.in-Unfinished.fill;
-            step = so v.shape v.part after _ (model.moving c.in-Unfinished.fill) h.step;
-            reports = refl;
-          };
-      empty = search rules;
       empty_at = search rules;
       ring = search rules;
       reader =
@@ -188,10 +178,10 @@ returns-in-Passed c =
     (c.len-pages.ensures ∙ c.self.inside.order.ok.0)
     seen.header seen.update seen.owed seen.passed reported.header reported.update reported.owed reported.passed) in
     record {
-      take_step = (refl, none_taken v c.load_head-link.result after model.reading ring.loading_head c.in-Passed.fill h);
-      answered =
-          record { reported = model.reading; step = so v.shape v.part after _ model.reading h.step; reports = refl };
-      empty = search rules;
+      looked = (
+        none_taken v c.load_head-link.result after model.reading ring.loading_head c.in-Passed.fill h,
+        so v.shape v.part after _ model.reading h.step,
+      );
       empty_at = search rules;
       ring = search rules;
       reader =

@@ -45,10 +45,10 @@ returns c =
     })) at h.after_is in
     let s = stays v.shape v.part after _ model.reading h.step reader link true _ is in
     record {
-      take_step = (refl, nothing v.shape v.part after reader s refl refl (omega arith) (omega arith));
-      answered =
-          record { reported = model.reading; step = so v.shape v.part after _ model.reading h.step; reports = refl };
-      empty = search rules;
+      looked = (
+        nothing v.shape v.part after reader s refl refl (omega arith) (omega arith),
+        so v.shape v.part after _ model.reading h.step,
+      );
       empty_at = search rules;
       ring = search rules;
       reader =

@@ -1,6 +1,6 @@
 use Rattle.std.proofs.Common.{◌≡◌, ℕ, ◌+◌, ◌-◌, ◌%◌, length, slice_set, None, refl, sym, ap, ◌∙◌, subst, arith, rules}
+use Rattle.std.proofs.lemmas.Result.{err_from_is_err_and}
 use Rattle.trace_model.specs.Ring as ring
-use Rattle.trace_model.specs.Steps as model
 use Rattle.page_image.specs.Contents.{Contents}
 use Rattle.ring_frames.specs.ReaderPhases.{reader_phase_of}
 use Rattle.ring_steps.specs.declared.rule.Shape.{Shape}
@@ -8,7 +8,6 @@ use Rattle.ring_steps.specs.Views.{Reading}
 use Rattle.ring_steps.specs.Ends.{reading_in, reader_table}
 use Rattle.ring_steps.specs.Swapping.{HeadTaken, HeadGone}
 use Rattle.ring_shared.specs.declared.take.Take.TheVariants.{Page}
-use Rattle.ring_shared.specs.declared.take.TakeStep.TheVariants.{Done}
 use Rattle.ring_shared.specs.Value.{ReaderValue}
 use Rattle.ring_shared.specs.Takes.{IsReaderPart, SawPage, IsPageTaken, IsAnswered}
 use Rattle.ring_shared.proofs.TakeSteps.{nothing}
@@ -19,26 +18,25 @@ use Rattle.ring_shared.proofs.reader.Reader.swap_head.Goals as goal
 pub swap_head-swapped-requires-clause-fits : goal.swap_head-swapped-requires-clause-fits
 swap_head-swapped-requires-clause-fits c = subst SawPage c.requires.phase c.requires.taking.reader.saw
 
-pub returns-in-Ok : goal.returns-in-Ok
-returns-in-Ok c =
+pub returns : goal.returns
+returns c =
     let v : ReaderValue = c.args.self.now in
     let after : Reading = reading_in c.swap_head-swapped.new.self in
-    let taken : Contents = c.in-Ok.taken in
+    let taken : Contents = c.in_ok-taken.taken in
     let h =
     subst (λ (w : ReaderValue). HeadTaken w.shape w.part c.args.page c.args.fill taken after) c.self.view_is
-    c.in-Ok.ensures.taken in
+    c.in_ok-taken.ensures.taken in
     let at = c.requires.taking.reader.phase_is ∙ ap reader_phase_of c.requires.phase in
     let old = fields _ v c.self.view_is c.requires.taking.reader in
     record {
-      take_step =
-          subst (λ (missed : ℕ). IsPageTaken v.shape v.part taken missed after)
-          (λ i. sym c.first-first.ensures i - old.3 i)
-          (takes v.shape v.part c.args.page c.args.fill after at taken (search rules) h).1;
-      answered =
-          subst (λ (missed : ℕ). IsAnswered v.shape v.part (Done (Page taken missed)) after)
-          (λ i. sym c.first-first.ensures i - old.3 i)
-          (swap_answers v.shape v.part c.args.page c.args.fill after taken h);
-      empty = search rules;
+      swapped = (
+        subst (λ (missed : ℕ). IsPageTaken v.shape v.part taken missed after)
+            (λ i. sym c.first-first.ensures i - old.3 i)
+            (takes v.shape v.part c.args.page c.args.fill after at taken (search rules) h).1,
+        subst (λ (missed : ℕ). IsAnswered v.shape v.part (Page taken missed) after)
+            (λ i. sym c.first-first.ensures i - old.3 i)
+            (swap_answers v.shape v.part c.args.page c.args.fill after taken h),
+      );
       empty_at = search rules;
       ring = search rules;
       reader = let new = c.swap_head-swapped.new.self in
@@ -73,27 +71,24 @@ returns-in-Ok c =
           };
     }
 
-pub returns-in-Err : goal.returns-in-Err
-returns-in-Err c =
+pub returns-in_err-taken : goal.returns-in_err-taken
+returns-in_err-taken c =
     let v : ReaderValue = c.args.self.now in
     let after : Reading = reading_in c.swap_head-swapped.new.self in
     let h =
     subst (λ (w : ReaderValue). HeadGone w.shape w.part c.args.page c.args.fill after) c.self.view_is
-    c.in-Err.ensures.failed in
+    c.in_err-taken.ensures.failed in
     let at = c.requires.taking.reader.phase_is ∙ ap reader_phase_of c.requires.phase in
     record {
-      take_step = let (s, low) = misses v.shape v.part c.args.page c.args.fill after at h in (
-        c.in-Err.ensures.given_back,
-        nothing v.shape v.part after (record v.part.reader { phase = ring.loading_head; hint = c.args.fill + 1 }) s refl
-            refl low (omega arith),
-      );
-      answered =
-          record {
-            reported = model.reading;
-            step = miss_answers v.shape v.part c.args.page c.args.fill after h;
-            reports = refl;
-          };
-      empty = search rules;
+      swapped =
+          let p = err_from_is_err_and c.from_residual.result c.from_residual.ensures.1 in
+          let (s, low) = misses v.shape v.part c.args.page c.args.fill after at h in
+          rw (p.1, p.2) (
+            c.in_err-taken.ensures.given_back,
+            nothing v.shape v.part after (record v.part.reader { phase = ring.loading_head; hint = c.args.fill + 1 }) s
+                refl refl low (omega arith),
+            miss_answers v.shape v.part c.args.page c.args.fill after h,
+          );
       empty_at = search rules;
       ring = search rules;
       reader = let new = c.swap_head-swapped.new.self in
