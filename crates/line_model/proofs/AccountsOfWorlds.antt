@@ -33,7 +33,7 @@ use Rattle.line_model.proofs.LinesStand.{IsOn, NotOn, no_line, line_stands}
 
 module _ (script : Script) (cpu : ℕ) where
   -- the ring of the CPU in a world, beside that CPU in an account
-  record At (w : World) : Type 0 where
+  record Beside (w : World) : Type 0 where
     state : CpuState
     lane : Lane
     at : slice_get w.lanes cpu ≡ Some lane
@@ -42,11 +42,11 @@ module _ (script : Script) (cpu : ℕ) where
 
   -- what a line makes of it
   record Goes (command : Command) (after : World) (state : CpuState) : Type 0 where
-    next : At after
+    next : Beside after
     line : IsLine script cpu command state next.state
 
 module _ (script : Script) (cpu : ℕ) where
-  module _ (w after : World) (here : At script cpu w) where
+  module _ (w after : World) (here : Beside script cpu w) where
     -- another ring, or a collector
     elsewhere : (command : Command)
         → NotOn cpu command
@@ -134,7 +134,7 @@ module _ (script : Script) (cpu : ℕ) where
   abbrev first_goes : (line : ℕ × Command) (lines : List (ℕ × Command)) (before after : World)
       → AreWithin (line ∷ lines)
       → (all : ObeysAll script (line ∷ lines) before after)
-      → (a : At script cpu before)
+      → (a : Beside script cpu before)
       → Goes script cpu line.1 all.0 a.state
   first_goes line lines before after within all a =
       line_goes before all.0 a line.0 line.1 (first_within line lines within) all.1
@@ -142,24 +142,24 @@ module _ (script : Script) (cpu : ℕ) where
   abbrev second_at : (lines : List (ℕ × Command)) (before after : World)
       → AreWithin lines
       → (all : ObeysAll script lines before after)
-      → At script cpu before
-      → At script cpu (second_world script lines before after all)
+      → Beside script cpu before
+      → Beside script cpu (second_world script lines before after all)
   second_at [] before after within all a = a
   second_at (line ∷ lines) before after within all a = (first_goes line lines before after within all a).next
 
   abbrev at_line : (lines : List (ℕ × Command)) (before after : World)
       → AreWithin lines
       → (all : ObeysAll script lines before after)
-      → At script cpu before
+      → Beside script cpu before
       → (k : ℕ)
-      → At script cpu (world_at script lines before after all k)
+      → Beside script cpu (world_at script lines before after all k)
   at_line lines before after within all a zero = a
   at_line lines before after within all a (suc k) =
       at_line (other_lines lines) (second_world script lines before after all) after (others_within lines within)
       (others_obeyed script lines before after all) (second_at lines before after within all a) k
 
   line_leads : (lines : List (ℕ × Command)) (before after : World) (within : AreWithin lines)
-      (all : ObeysAll script lines before after) (a : At script cpu before) (k line : ℕ) (command : Command)
+      (all : ObeysAll script lines before after) (a : Beside script cpu before) (k line : ℕ) (command : Command)
       → slice_get lines k ≡ Some (line, command)
       → IsLine script cpu command (at_line lines before after within all a k).state
       (at_line lines before after within all a (suc k)).state
@@ -220,7 +220,7 @@ module _ (script : Script) (w : World) (limits : IsWithinLimits script) (of : Wo
       (slice_get_cases of.new.lanes cpu).1
 
   -- before the first line
-  abbrev first_at : At script cpu of.new
+  abbrev first_at : Beside script cpu of.new
   first_at = record {
     state = new_cpu script.start;
     lane = has_new.0;
@@ -229,7 +229,7 @@ module _ (script : Script) (w : World) (limits : IsWithinLimits script) (of : Wo
     for_records = subst AreForRecords (sym has_new.2.0.frames) tt;
   }
 
-  abbrev at_behind : (k : ℕ) → At script cpu (world_at script script.commands of.new w of.obeyed k)
+  abbrev at_behind : (k : ℕ) → Beside script cpu (world_at script script.commands of.new w of.obeyed k)
   at_behind k = at_line script cpu script.commands of.new w limits.each_command of.obeyed first_at k
 
   -- the CPU after each number of lines

@@ -29,6 +29,10 @@ pub mod Standing
 -- what the frame on top does
 pub mod WishesKept
 pub mod DueRuns
+pub mod StepDoes
+pub mod TopStays
+pub mod TopMoves
+pub mod TopBegins
 pub mod TopSteps
 pub mod TopsDo
 -- whole scripts have one account

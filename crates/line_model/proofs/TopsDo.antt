@@ -18,7 +18,8 @@ use Rattle.line_model.specs.Due.{situation_after, IsFillNeeded}
 use Rattle.line_model.specs.Accounts.{LineFrame, CpuState, IsThere, frame_after, Does, HasGone}
 use Rattle.line_model.proofs.Standing.{FrameStands, FramesStand, Stands, IsFresh, StaysOrGoes, TopsDo}
 use Rattle.line_model.proofs.DueRuns.{DueFrom, due_append, are_due}
-use Rattle.line_model.proofs.TopSteps.{line, IsNew, StepDoes, step_does}
+use Rattle.line_model.proofs.StepDoes.{line, IsNew, StepDoes}
+use Rattle.line_model.proofs.TopSteps.{step_does}
 
 -- What the frame on top does in these exchanges, if it has made a step before.
 record RunDoes (script : Script) (before : Lane) (state : CpuState) (payload : Option (List ℕ)) (losing : Bool)
@@ -229,10 +230,31 @@ module _ (script : Script) (below : List LineFrame) (depth : ℕ) where
       no_run before state payload losing after stands same
   run_does (x ∷ exchanges) before state payload losing after stands fresh count (here, event, core, step, run) =
       let t = has_top before.core.frames before.payloads (line payload losing) below stands.frames in
-      let d = step_does script before state payload losing below t.frame t.under t.payload t.rest x.event x.answer core
-      stands t.top t.paid t.one t.others fresh
-      (subst PushesNone (sym event) (pushes_none before.core.frames before.payloads))
-      (λ of. of_writer before.core.frames before.payloads (subst IsOfReader event of)) step event in
+      let d = step_does
+      (record {
+        script = script;
+        before = before;
+        state = state;
+        told = payload;
+        losing = losing;
+        below = below;
+        frame = t.frame;
+        under = t.under;
+        payload = t.payload;
+        payloads = t.rest;
+        event = x.event;
+        answer = x.answer;
+        after = core;
+        stands = stands;
+        top = t.top;
+        paid = t.paid;
+        one = t.one;
+        others = t.others;
+        fresh = fresh;
+        none = subst PushesNone (sym event) (pushes_none before.core.frames before.payloads);
+        writes = λ of. of_writer before.core.frames before.payloads (subst IsOfReader event of);
+        step = step;
+      }) event in
       ⊎_elim
       (λ (there, long, on). goes_on before state payload losing x core d exchanges after long
       (run_does exchanges (lane_behind before core) (record state { events = state.events ++ d.own }) d.payload_after

@@ -8,7 +8,7 @@ use Rattle.trace_model.specs.Parcel.{Parcel, IsPairOf}
 use Rattle.trace_model.specs.Collection.{Agree, Has, Misses}
 use Rattle.trace_model.proofs.collections.Elements.{some_is, get_in_either}
 use Rattle.ring_region.specs.Regions.{Recovered}
-use Rattle.ring_region.specs.Agreement.{IsPartOf, IsAmong, AreTaken, AreLeft}
+use Rattle.ring_region.specs.Agreement.{IsPartOf, HasRecordsAmong, AreTaken, AreLeft}
 use Rattle.ring_region.proofs.Gaps.{IsGap}
 
 -- one list has it, or the other
@@ -32,7 +32,7 @@ of_list : (records : List Record) (parcel : Parcel) (cpu n : ℕ) (r : Record) �
 of_list records parcel cpu n r part pair = ap (slice_get records) pair.number_is ∙ part pair.index r pair.record_is
 
 -- what a parcel has, those have that it is among
-among_has : (parcels : List Parcel) (parcel : Parcel) (cpu n : ℕ) (r : Record) → IsAmong parcels parcel
+among_has : (parcels : List Parcel) (parcel : Parcel) (cpu n : ℕ) (r : Record) → HasRecordsAmong parcels parcel
     → IsPairOf parcel cpu n r → Has parcels cpu n r
 among_has parcels parcel cpu n r among pair = record {
   index = among.index;

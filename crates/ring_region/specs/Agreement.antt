@@ -15,7 +15,7 @@ IsPartOf records parcel = (index : ℕ) (r : Record)
     → slice_get records (parcel.first + index) ≡ Some r
 
 -- one of these is of the same CPU, and has the same records under the same numbers
-pub record IsAmong (parcels : List Parcel) (parcel : Parcel) : Type 0 where
+pub record HasRecordsAmong (parcels : List Parcel) (parcel : Parcel) : Type 0 where
   pub index : ℕ
   pub other : Parcel
   pub at : slice_get parcels index ≡ Some other
@@ -55,10 +55,10 @@ pub record AreLeft (records : List Record) (before : List Parcel) (held : Recove
       → IsPartOf records parcel
   pub taken_or_later : (k : ℕ) (parcel : Parcel)
       → slice_get held.parcels k ≡ Some parcel
-      → IsAmong before parcel ⊎ (held.header.taken.0 ≤ parcel.first)
+      → HasRecordsAmong before parcel ⊎ (held.header.taken.0 ≤ parcel.first)
   pub there_or_below : held.damaged ≡ []
       → (k : ℕ) (parcel : Parcel)
       → slice_get before k ≡ Some parcel
       → parcel.cpu ≡ held.header.cpu.0
-      → IsAmong held.parcels parcel
+      → HasRecordsAmong held.parcels parcel
       ⊎ ((j : ℕ) (other : Parcel) → slice_get held.parcels j ≡ Some other → end_of parcel ≤ other.first)

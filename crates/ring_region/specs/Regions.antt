@@ -57,7 +57,8 @@ pub record IsRegion (bytes : List ℕ) (held : Recovered) : Type 0 where
 
 -- ---- the end of the CPU's records
 
--- nothing was begun when the writer was freed, and all slots are as it left them
+-- The region states that its ring ended: when the writer was freed, nothing was begun and not ended. No slot is
+-- damaged.
 pub record IsClean (held : Recovered) : Type 0 where
   pub ended : held.header.ended ≡ true
   pub undamaged : held.damaged ≡ []

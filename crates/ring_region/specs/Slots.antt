@@ -8,7 +8,7 @@ use Rattle.trace_model.specs.ParcelBytes.{with_numbers, DecodesParcel, bad_image
 use Rattle.record_words.specs.declared.next.WordFault.{WordFault}
 use Rattle.record_words.specs.declared.next.WordFault.TheVariants.{Cut, BadLength, TimeOverflow}
 use Rattle.page_image.specs.Contents.{Contents}
-use Rattle.ring_region.specs.declared.limits.TheConstants.{HEAD}
+use Rattle.ring_region.specs.declared.limits.TheConstants.{HEAD, SLOT_CPU_AT, FILL_AT, FIRST_AT, MISSED_AT, COMMIT_AT}
 use Rattle.ring_region.specs.declared.faults.SlotCause.{SlotCause}
 use Rattle.ring_region.specs.declared.faults.SlotCause.TheVariants.{OtherCpu, Missed, BadCommit, Word, NumberOverflow}
 use Rattle.ring_region.specs.declared.faults.SlotCause.TheVariants.{SameFill, Overlap}
@@ -22,7 +22,7 @@ pub data Slot : Type 0 where
 
 -- how many bytes of data are committed, if that is what the slot states
 abbrev pub commit_in : List ℕ → ℕ
-commit_in bytes = number_in bytes 40
+commit_in bytes = number_in bytes COMMIT_AT
 
 -- the slot up to its commit
 abbrev pub committed_in : List ℕ → List ℕ
@@ -33,12 +33,12 @@ committed_in bytes = take (HEAD + commit_in bytes) bytes
 -- something is committed, and it is of this CPU
 pub record IsOfCpu (cpu : ℕ) (bytes : List ℕ) : Type 0 where
   pub some : commit_in bytes ≢ 0
-  pub cpu_is : number_in bytes 0 ≡ cpu
+  pub cpu_is : number_in bytes SLOT_CPU_AT ≡ cpu
 
 -- and it states no missed numbers
 pub record IsUnmissed (cpu : ℕ) (bytes : List ℕ) : Type 0 where
   pub of_cpu : IsOfCpu cpu bytes
-  pub none_missed : number_in bytes 24 ≡ 0
+  pub none_missed : number_in bytes MISSED_AT ≡ 0
 
 -- and what it says is committed is there
 pub record IsCommitted (cpu : ℕ) (bytes : List ℕ) : Type 0 where
@@ -52,8 +52,8 @@ HasBadWord bytes cause at = FirstParcelFault (committed_in bytes) (bad_image (ba
 -- The first fault of a slot in a region of this CPU, the causes being looked at in this order. The last two are told
 -- only of several slots together.
 abbrev pub FirstSlotFault : (cpu : ℕ) → List ℕ → SlotCause → Type 0
-FirstSlotFault cpu bytes OtherCpu = (commit_in bytes ≢ 0) × (number_in bytes 0 ≢ cpu)
-FirstSlotFault cpu bytes Missed = IsOfCpu cpu bytes × (number_in bytes 24 ≢ 0)
+FirstSlotFault cpu bytes OtherCpu = (commit_in bytes ≢ 0) × (number_in bytes SLOT_CPU_AT ≢ cpu)
+FirstSlotFault cpu bytes Missed = IsOfCpu cpu bytes × (number_in bytes MISSED_AT ≢ 0)
 FirstSlotFault cpu bytes BadCommit = IsUnmissed cpu bytes × (length bytes < HEAD + commit_in bytes)
 FirstSlotFault cpu bytes (Word (Cut at)) = IsCommitted cpu bytes × HasBadWord bytes cut at
 FirstSlotFault cpu bytes (Word (BadLength at)) = IsCommitted cpu bytes × HasBadWord bytes bad_length at
@@ -78,13 +78,13 @@ word_at (TimeOverflow at) = at
 
 -- the offset in a slot of what is wrong
 abbrev pub cause_at : SlotCause → ℕ
-cause_at OtherCpu = 0
-cause_at Missed = 24
-cause_at BadCommit = 40
+cause_at OtherCpu = SLOT_CPU_AT
+cause_at Missed = MISSED_AT
+cause_at BadCommit = COMMIT_AT
 cause_at (Word fault) = HEAD + word_at fault
-cause_at NumberOverflow = 16
-cause_at SameFill = 8
-cause_at Overlap = 16
+cause_at NumberOverflow = FIRST_AT
+cause_at SameFill = FILL_AT
+cause_at Overlap = FIRST_AT
 
 -- ---- what a writer leaves
 

@@ -3,6 +3,7 @@ ghost use Rattle.std.specs.Prelude.{◌≡◌};
 ghost use Rattle.ring_region.specs.declared.faults.RegionFault.TheVariants.{NoMemory as MemoryIs};
 ghost use Rattle.ring_region.specs.Headers.{fault_at};
 
+use crate::limits::{CPU_AT, ENDED_AT, PAGES_AT, SIZE_AT, VERSION_AT};
 use record_words::WordFault;
 use trace_model::NoMemory;
 
@@ -36,11 +37,11 @@ impl RegionFault {
         match self {
             RegionFault::TooShort | RegionFault::NoMemory => None,
             RegionFault::NotARegion => Some(0),
-            RegionFault::BadVersion => Some(8),
-            RegionFault::BadPages => Some(16),
-            RegionFault::BadSize => Some(24),
-            RegionFault::BadCpu => Some(32),
-            RegionFault::BadEnd => Some(56),
+            RegionFault::BadVersion => Some(VERSION_AT),
+            RegionFault::BadPages => Some(PAGES_AT),
+            RegionFault::BadSize => Some(SIZE_AT),
+            RegionFault::BadCpu => Some(CPU_AT),
+            RegionFault::BadEnd => Some(ENDED_AT),
         }
     }
 }

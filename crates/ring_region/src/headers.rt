@@ -1,9 +1,13 @@
 //! The header of a region.
 ghost use Rattle.std.specs.Prelude.{◌≡◌, ◌≢◌, ◌==◌, ◌≤◌, ◌^◌, IfOk, IfErr, OnOk};
-ghost use Rattle.ring_region.specs.Headers.{number_in, header_in, slot_at, HasVersion, HasPages, HasSize, HasCpu, HasEnd, IsWhole, IsRegionFault};
+ghost use Rattle.ring_region.specs.Headers.{number_in, header_in, slot_at, HasVersion, HasPages, HasSize, HasCpu};
+ghost use Rattle.ring_region.specs.Headers.{HasEnd, IsWhole, IsRegionFault};
+ghost use Rattle.ring_region.specs.declared.limits.TheConstants.{PAGES_AT, SIZE_AT, CPU_AT, ENDED_AT};
 
 use crate::faults::RegionFault;
-use crate::limits::{ALIGN, HEAD, START};
+use crate::limits::{
+    ALIGN, CPU_AT, ENDED_AT, HEAD, PAGES_AT, SIZE_AT, START, STREAM_AT, TAKEN_AT, VERSION_AT,
+};
 use page_image::number_at;
 use parcel_streams::StreamId;
 use trace_model::{CpuId, MAX_CPUS, MAX_PAGES, MAX_SIZE, MIN_PAGES, MIN_SIZE, RecordNo};
@@ -43,12 +47,12 @@ pub(crate) fn slot_at(size: usize, number: usize) -> usize
 /// How many pages the ring has.
 fn read_pages(bytes: &[u8]) -> Result<usize, RegionFault>
     requires { HasVersion bytes.now }
-    ensures pages { IfOk result (λ pages. pages ≡ number_in bytes.now 16) }
+    ensures pages { IfOk result (λ pages. pages ≡ number_in bytes.now PAGES_AT) }
     ensures fits { OnOk result (HasPages bytes.now) }
     ensures fault { IfErr result (λ fault. IsRegionFault bytes.now fault) }
     ensures no_memory { IfErr result (λ fault. fault ≢ RegionFault.NoMemory) }
 {
-    let pages = number_at(bytes, 16);
+    let pages = number_at(bytes, PAGES_AT);
     if pages < MIN_PAGES as u64 || pages > MAX_PAGES as u64 {
         return Err(RegionFault::BadPages);
     }
@@ -58,12 +62,12 @@ fn read_pages(bytes: &[u8]) -> Result<usize, RegionFault>
 /// How many bytes of data a page has.
 fn read_size(bytes: &[u8]) -> Result<usize, RegionFault>
     requires { HasPages bytes.now }
-    ensures size { IfOk result (λ size. size ≡ number_in bytes.now 24) }
+    ensures size { IfOk result (λ size. size ≡ number_in bytes.now SIZE_AT) }
     ensures fits { OnOk result (HasSize bytes.now) }
     ensures fault { IfErr result (λ fault. IsRegionFault bytes.now fault) }
     ensures no_memory { IfErr result (λ fault. fault ≢ RegionFault.NoMemory) }
 {
-    let size = number_at(bytes, 24);
+    let size = number_at(bytes, SIZE_AT);
     if size < MIN_SIZE as u64 || size > MAX_SIZE as u64 || size % 4 != 0 {
         return Err(RegionFault::BadSize);
     }
@@ -73,12 +77,12 @@ fn read_size(bytes: &[u8]) -> Result<usize, RegionFault>
 /// Whose records these are.
 fn read_cpu(bytes: &[u8]) -> Result<CpuId, RegionFault>
     requires { HasSize bytes.now }
-    ensures cpu { IfOk result (λ cpu. cpu.0 ≡ number_in bytes.now 32) }
+    ensures cpu { IfOk result (λ cpu. cpu.0 ≡ number_in bytes.now CPU_AT) }
     ensures known { OnOk result (HasCpu bytes.now) }
     ensures fault { IfErr result (λ fault. IsRegionFault bytes.now fault) }
     ensures no_memory { IfErr result (λ fault. fault ≢ RegionFault.NoMemory) }
 {
-    let cpu = number_at(bytes, 32);
+    let cpu = number_at(bytes, CPU_AT);
     if cpu >= u64::from(MAX_CPUS) {
         return Err(RegionFault::BadCpu);
     }
@@ -88,12 +92,12 @@ fn read_cpu(bytes: &[u8]) -> Result<CpuId, RegionFault>
 /// Whether the ring ended.
 fn read_end(bytes: &[u8]) -> Result<bool, RegionFault>
     requires { HasCpu bytes.now }
-    ensures end { IfOk result (λ ended. ended ≡ (number_in bytes.now 56 == 1)) }
+    ensures end { IfOk result (λ ended. ended ≡ (number_in bytes.now ENDED_AT == 1)) }
     ensures known { OnOk result (HasEnd bytes.now) }
     ensures fault { IfErr result (λ fault. IsRegionFault bytes.now fault) }
     ensures no_memory { IfErr result (λ fault. fault ≢ RegionFault.NoMemory) }
 {
-    match number_at(bytes, 56) {
+    match number_at(bytes, ENDED_AT) {
         0 => Ok(false),
         1 => Ok(true),
         _ => Err(RegionFault::BadEnd),
@@ -112,7 +116,7 @@ fn check_version(bytes: &[u8]) -> Result<(), RegionFault>
     if !bytes.starts_with(&MAGIC) {
         return Err(RegionFault::NotARegion);
     }
-    if number_at(bytes, 8) != VERSION {
+    if number_at(bytes, VERSION_AT) != VERSION {
         return Err(RegionFault::BadVersion);
     }
     Ok(())
@@ -130,8 +134,8 @@ pub(crate) fn read_header(bytes: &[u8]) -> Result<Header, RegionFault>
         pages: read_pages(bytes)?,
         size: read_size(bytes)?,
         cpu: read_cpu(bytes)?,
-        stream: StreamId(number_at(bytes, 40)),
-        taken: RecordNo(number_at(bytes, 48)),
+        stream: StreamId(number_at(bytes, STREAM_AT)),
+        taken: RecordNo(number_at(bytes, TAKEN_AT)),
         ended: read_end(bytes)?,
     };
     if bytes.len() < slot_at(header.size, header.pages + 1) {

@@ -60,8 +60,8 @@ pub fn recovered_and_taken_agree()
         → AreLeft records before held → Agree (before ++ held.parcels) }
 {}
 
-/// If no slot is damaged, no number is passed over, from the one that the region states as taken on up to the end of its
-/// last page: each has its record, or is missing.
+/// If no slot is damaged, no number is passed over, from the one that the region states as taken on up to the end of
+/// its last page: each has its record, or is missing.
 pub fn no_number_is_passed_over()
     ensures { (bytes : List ℕ) (held : Recovered) (number : ℕ) → IsRegion bytes held → held.damaged ≡ []
         → held.header.taken.0 ≤ number → number < last_end held.parcels

@@ -5,7 +5,7 @@ use std::alloc::Global;
 use std::marker::Model;
 use trace_model::{CpuId, NoMemory};
 
-/// A page whose data reads, and whose records' numbers fit 64 bits, with the number after the last one.
+/// A page whose data can be read, and whose records' numbers, and the number after the last one, fit 64 bits.
 #[derive(Debug, Drop)]
 pub(crate) struct Numbered {
     page: Page,

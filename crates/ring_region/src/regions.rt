@@ -1,5 +1,6 @@
 //! A region, read.
-ghost use Rattle.std.specs.Prelude.{◌≡◌, ◌≢◌, ◌-◌, ◌<◌, ◌≤◌, ◌++◌, ℕ, List, map, Err, OnOk, IfOk, IfErr, MatchResult, if◌then◌else◌};
+ghost use Rattle.std.specs.Prelude.{◌≡◌, ◌≢◌, ◌-◌, ◌<◌, ◌≤◌, ◌++◌, ℕ, List, map, Err, OnOk, IfOk, IfErr, MatchResult};
+ghost use Rattle.std.specs.Prelude.{if◌then◌else◌};
 ghost use Rattle.std.specs.Option.{option_map};
 ghost use Rattle.trace_model.specs.declared.limits.TheConstants.{MAX_CPUS, MAX_PAGES, MAX_SIZE};
 ghost use Rattle.page_numbers.specs.Parcels.{as_parcels};
@@ -24,24 +25,21 @@ use trace_model::{NoMemory, RecordNo};
 pub struct Region {
     /// What its header states.
     pub header: Header,
-    /// Its pages as parcels, by rising fill, but for those that were passed: that end below `taken`. Before each of them
-    /// the numbers from the end of the one before it on are missing; before the first one those from `taken` on, unless
-    /// it begins below. If any slot is damaged, none is missing: nothing is known of what lies between the others.
+    /// Its pages as parcels, by rising fill, but for those that were passed, which end below `taken`. Before each of
+    /// them the numbers from the end of the one before it on are missing; before the first one those from `taken` on,
+    /// unless it begins below. If any slot is damaged, none is missing: nothing is known of what lies between the others.
     pub parcels: Vec<Parcel>,
     /// The slots that are damaged: those that aren't pages, in their order, and then those that can't be beside others.
     pub damaged: Vec<Damaged>,
 }
 
-/// How many numbers are missing before a page, if all slots are sound: those from the end of the one before it on.
-fn missing(sound: bool, taken: u64, first: u64) -> u64
-    ensures missed { result ≡ (if sound then first - taken else 0) }
+/// How many numbers are missing before a page, if all slots are sound: those from `end`, the end of the one before it,
+/// on.
+fn missing(sound: bool, end: u64, first: u64) -> u64
+    ensures missed { result ≡ (if sound then first - end else 0) }
     ensures few { result ≤ first }
 {
-    if sound {
-        first.saturating_sub(taken)
-    } else {
-        0
-    }
+    if sound { first.saturating_sub(end) } else { 0 }
 }
 
 /// The pages as parcels; if all slots are sound, with what is missing before each.
@@ -57,10 +55,10 @@ fn number_pages(
         else map (unmissed header.cpu.0) pages.items)) }
 {
     let mut parcels = Vec::new(alloc);
-    let mut taken = header.taken.0;
+    let mut end = header.taken.0;
     for page in pages {
-        let missed = missing(sound, taken, page.first());
-        taken = page.end();
+        let missed = missing(sound, end, page.first());
+        end = page.end();
         parcels.push(page.parcel(alloc, header.cpu, missed)?)?;
     }
     Ok(parcels)

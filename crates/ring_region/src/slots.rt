@@ -3,11 +3,12 @@ ghost use Rattle.std.specs.Prelude.{◌≡◌, ◌≢◌, ℕ, ◌+◌, ◌-◌,
 ghost use Rattle.trace_model.specs.declared.limits.TheConstants.{MAX_CPUS, MAX_SIZE};
 ghost use Rattle.page_image.specs.Contents.{Contents, IsPage, records_of_page};
 ghost use Rattle.ring_region.specs.Slots.{Slot as SlotSeen, intact, IsSlotOf, IsUnmissed, slot_of_page, commit_in};
-ghost use Rattle.ring_region.specs.Answers.{slot_seen, reading_seen, IsLocatedIn, IsWithin, offset_of, IsTold, unmissed};
+ghost use Rattle.ring_region.specs.Answers.{slot_seen, reading_seen, IsLocatedIn, IsWithin, offset_of, IsTold};
+ghost use Rattle.ring_region.specs.Answers.{unmissed};
 ghost use Rattle.ring_region.specs.declared.limits.TheConstants.{HEAD};
 
 use crate::faults::{SlotCause, SlotFault};
-use crate::limits::HEAD;
+use crate::limits::{COMMIT_AT, FILL_AT, FIRST_AT, HEAD, IMAGE_AT, MISSED_AT, SLOT_CPU_AT};
 use crate::numbered::Numbered;
 use page_image::{ImageFault, number_at, read_outline};
 use page_numbers::Parcel;
@@ -34,8 +35,8 @@ pub(crate) enum Reading {
     Damaged(SlotFault),
 }
 
-/// Reads a slot of a region of this CPU: 48 bytes, and as many as a page has data. What is behind its commit isn't looked
-/// at. Memory is asked for after all that may be wrong.
+/// Reads a slot of a region of this CPU: 48 bytes, and as many as a page has data. What is behind its commit isn't
+/// looked at. Memory is asked for after all that may be wrong.
 pub fn read_slot(alloc: Global, cpu: CpuId, slot: &[u8]) -> Result<Slot, NoMemory>
     requires cpu { cpu.0 < MAX_CPUS }
     requires head { HEAD ≤ length slot.now }
@@ -95,17 +96,17 @@ fn read_committed(alloc: Global, slot: &[u8]) -> Result<Reading, NoMemory>
         → IfOk result (λ read. IsSlotOf cpu slot.now (reading_seen cpu read)) }
     ensures within { IfOk result (λ read. IsWithin slot.now read) }
 {
-    let image = &slot[32..];
+    let image = &slot[IMAGE_AT..];
     let outline = match read_outline(image) {
         Ok(outline) => outline,
         Err(fault) => return image_damaged(fault),
     };
-    let first = RecordNo(number_at(slot, 16));
+    let first = RecordNo(number_at(slot, FIRST_AT));
     if first.0.checked_add(outline.count).is_none() {
-        return Ok(damaged(16, SlotCause::NumberOverflow));
+        return Ok(damaged(FIRST_AT, SlotCause::NumberOverflow));
     }
     let page = outline.page(alloc, image)?;
-    let fill = FillNo(number_at(slot, 8));
+    let fill = FillNo(number_at(slot, FILL_AT));
     Ok(Reading::Page(Numbered::new(page.numbered(first, fill))))
 }
 
@@ -117,18 +118,18 @@ pub(crate) fn read_page(alloc: Global, cpu: CpuId, slot: &[u8]) -> Result<Readin
     ensures reading { IfOk result (λ read. IsSlotOf cpu.0 slot.now (reading_seen cpu.0 read)) }
     ensures within { IfOk result (λ read. IsWithin slot.now read) }
 {
-    let commit = number_at(slot, 40);
+    let commit = number_at(slot, COMMIT_AT);
     if commit == 0 {
         return Ok(Reading::Blank);
     }
-    if number_at(slot, 0) != u64::from(cpu.0) {
-        return Ok(damaged(0, SlotCause::OtherCpu));
+    if number_at(slot, SLOT_CPU_AT) != u64::from(cpu.0) {
+        return Ok(damaged(SLOT_CPU_AT, SlotCause::OtherCpu));
     }
-    if number_at(slot, 24) != 0 {
-        return Ok(damaged(24, SlotCause::Missed));
+    if number_at(slot, MISSED_AT) != 0 {
+        return Ok(damaged(MISSED_AT, SlotCause::Missed));
     }
     if commit > (slot.len() - HEAD) as u64 {
-        return Ok(damaged(40, SlotCause::BadCommit));
+        return Ok(damaged(COMMIT_AT, SlotCause::BadCommit));
     }
     read_committed(alloc, &slot[..HEAD + commit as usize])
 }

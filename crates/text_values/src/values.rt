@@ -101,7 +101,7 @@ fn plain_pair(byte: u8) -> [u8; 2]
     [digit(byte / 16), digit(byte % 16)]
 }
 
-/// Those of four bytes.
+/// The digits of four bytes, without the table.
 #[inline(always)]
 fn plain_four(bytes: [u8; 4]) -> [u8; 8]
     ensures { result ≡ pairs_of bytes }
@@ -114,7 +114,8 @@ fn plain_four(bytes: [u8; 4]) -> [u8; 8]
     [a_high, a_low, b_high, b_low, c_high, c_low, d_high, d_low]
 }
 
-/// Those of sixteen bytes. Without a table, in a function that isn't inlined, the compiler makes all digits at a time.
+/// The digits of sixteen bytes. Without a table, in a function that isn't inlined, the compiler makes all digits at
+/// once.
 #[inline(never)]
 fn sixteen_pairs(bytes: &[u8; 16]) -> [u8; 32]
     ensures { result ≡ pairs_of bytes.now }
@@ -159,7 +160,7 @@ fn put_each(out: &mut Vec<u8>, bytes: &[u8]) -> Result<(), NoMemory>
     Ok(())
 }
 
-/// Puts the digits of less than eight bytes quickly. On an error a part of that may be put.
+/// Puts the digits of fewer than eight bytes. On an error a part of that may be put.
 #[inline(always)]
 fn put_few(out: &mut Vec<u8>, bytes: &[u8]) -> Result<(), NoMemory>
     ensures text { OnOk result (out.new.items ≡ out.old.items ++ pairs_of bytes.now) }
@@ -172,7 +173,7 @@ fn put_few(out: &mut Vec<u8>, bytes: &[u8]) -> Result<(), NoMemory>
     put_each(out, bytes)
 }
 
-/// The same, if there are sixteen. Few bytes need no call.
+/// `put_sixteens`, if there are as many. Fewer bytes need no call.
 #[inline(always)]
 fn put_if_sixteen<'a>(out: &mut Vec<u8>, bytes: &'a [u8]) -> Result<&'a [u8], NoMemory>
     ensures text { IfOk result (λ left.
@@ -185,18 +186,17 @@ fn put_if_sixteen<'a>(out: &mut Vec<u8>, bytes: &'a [u8]) -> Result<&'a [u8], No
     put_sixteens(out, bytes)
 }
 
-/// Puts the digits of bytes, eight at a time. On an error a part of that may be put.
+/// Puts the digits of fewer than sixteen bytes. On an error a part of that may be put.
 #[inline(always)]
-fn put_eights(out: &mut Vec<u8>, bytes: &[u8]) -> Result<(), NoMemory>
+fn put_rest(out: &mut Vec<u8>, bytes: &[u8]) -> Result<(), NoMemory>
     ensures text { OnOk result (out.new.items ≡ out.old.items ++ pairs_of bytes.now) }
     ensures behind { IsPrefix out.old.items out.new.items }
 {
-    let mut left = bytes;
-    while let [a, b, c, d, e, f, g, h, rest @ ..] = left {
+    if let [a, b, c, d, e, f, g, h, rest @ ..] = bytes {
         out.extend_from_slice(&eight_pairs([*a, *b, *c, *d, *e, *f, *g, *h]))?;
-        left = rest;
+        return put_few(out, rest);
     }
-    put_few(out, left)
+    put_few(out, bytes)
 }
 
 /// Puts two digits for each byte. On an error a part of that may be put.
@@ -206,7 +206,7 @@ fn put_hex(out: &mut Vec<u8>, bytes: &[u8]) -> Result<(), NoMemory>
     ensures behind { IsPrefix out.old.items out.new.items }
 {
     let left = put_if_sixteen(out, bytes)?;
-    put_eights(out, left)
+    put_rest(out, left)
 }
 
 /// Puts the payload in lower-case hexadecimal, `-` if it is empty. If memory is refused, the text is as before.

@@ -5,7 +5,9 @@ ghost use Rattle.trace_model.specs.Ring.{Core};
 ghost use Rattle.trace_model.specs.Steps.{Answer, Step, steps};
 ghost use Rattle.ring_model.specs.RingKept.{IsRingKept};
 ghost use Rattle.line_model.specs.Lines.{OpenFrame};
-ghost use Rattle.line_model.specs.LineParts.{CallsFinish, ClosesMake, LineCallsMake, LinesCallsGoOn, LinesCallsMake, PartsGoOn, PushesMake, RestCallsGoOn, RestCallsMake, StartIsBetweenLines, TopCallsGoOn, WriterMakesLines, WritesMake};
+ghost use Rattle.line_model.specs.LineParts.{CallsFinish, ClosesMake, LineCallsMake, LinesCallsGoOn, LinesCallsMake};
+ghost use Rattle.line_model.specs.LineParts.{PartsGoOn, PushesMake, RestCallsGoOn, RestCallsMake, StartIsBetweenLines};
+ghost use Rattle.line_model.specs.LineParts.{TopCallsGoOn, WriterMakesLines, WritesMake};
 ghost use Rattle.line_model.specs.CallEvents.{AreOpenFrames, CallsMakeEvents, CallMakes};
 
 /// One step of the top frame that waits or has left, whatever frames are below it, makes one of eight things

@@ -4,7 +4,8 @@ ghost use Rattle.trace_model.specs.History.{HistoryEvent};
 ghost use Rattle.trace_model.specs.Window.{Window, RingEvent, history_events_of, WindowRun};
 ghost use Rattle.text_model.specs.Script.{Command};
 ghost use Rattle.line_model.specs.Lines.{IsMadeByLines};
-ghost use Rattle.line_model.specs.LineExamples.{OneWrite, RefusedBegin, BeginAndSteps, NestedFrames, DroppedWrite, RecordsOfThree};
+ghost use Rattle.line_model.specs.LineExamples.{OneWrite, RefusedBegin, BeginAndSteps, NestedFrames, DroppedWrite};
+ghost use Rattle.line_model.specs.LineExamples.{RecordsOfThree};
 
 /// By example, lines make the history of a written record, of a push that is refused, of a frame that makes single
 /// steps and of nested frames, and no history that lacks a line's record; and `w` lines write these records.

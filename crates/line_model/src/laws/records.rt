@@ -1,6 +1,7 @@
 //! Laws over the records that lines commit.
 ghost use Rattle.line_model.specs.WriterHistories.{WritersCommitWholeLines, WritersFormHistories};
-ghost use Rattle.line_model.specs.WrittenRecords.{FillsAreFew, LinesFromRestCommit, WholeLinesCommit, WholeLinesHaveCommitted};
+ghost use Rattle.line_model.specs.WrittenRecords.{FillsAreFew, LinesFromRestCommit, WholeLinesCommit};
+ghost use Rattle.line_model.specs.WrittenRecords.{WholeLinesHaveCommitted};
 
 /// In a run of the window whose history is packed, at most one fill more is begun than there are records: each fill but
 /// the last has one.

@@ -1,5 +1,6 @@
 //! Laws over what a replay makes of a CPU's writer lines.
-ghost use Rattle.line_model.specs.ReplayedLines.{LineRunsAreCalls, ReplayCommitsWholeLines, ReplayMakesLines, WorldsMakeLines};
+ghost use Rattle.line_model.specs.ReplayedLines.{LineRunsAreCalls, ReplayCommitsWholeLines, ReplayMakesLines};
+ghost use Rattle.line_model.specs.ReplayedLines.{WorldsMakeLines};
 
 /// What a line of a replay does with its ring are, for the ring's writer, the calls of that line.
 pub fn line_runs_are_calls()

@@ -8,18 +8,17 @@ use trace_model::MOMENT_LIMIT;
 pub enum Wrote {
     /// The record, which was pushed, reserved, filled and ended.
     Record,
-    /// Nothing, and nothing has changed: the record is written, or refused, by `begin` and the calls that follow it;
-    /// after `write_if_short` it may still fit, and then `write_alone` writes it.
+    /// Nothing, and nothing has changed: `begin` and the calls that follow it write the record, or refuse it. Where
+    /// `write_if_short` answers this, the record may still fit in the tail: if it does, `write_any` writes it.
     Nothing,
 }
 
 impl WriterStack {
     ghost use Rattle.std.specs.Prelude.{◌≡◌, ◌≢◌, ◌↔◌, ℕ, max, [], ◌∷◌, ◌++◌, List, Some, length, IsTrue, true, false};
-    ghost use Rattle.page_image.specs.Contents.{is_blank};
+    ghost use Rattle.page_image.specs.Contents.{is_blank, records_of_page};
     ghost use Rattle.trace_model.specs.History.{HistoryEvent, push, reserve, leave, wished};
     ghost use Rattle.trace_model.specs.Packing.{tail_of};
     ghost use Rattle.trace_model.specs.Words.{padded};
-    ghost use Rattle.page_image.specs.Contents.{records_of_page};
     ghost use Rattle.nested_writer.specs.Allotted.{HasEvents};
     ghost use Rattle.nested_writer.specs.AtOnce.{MayStand, FitsAtOnce, with_written, with_left, with_record, IsShortAlone};
     ghost use Rattle.nested_writer.specs.Promises.{WritesWhatFits, StandsAgain};
@@ -28,7 +27,8 @@ impl WriterStack {
     ghost use Rattle.nested_writer.specs.Kept.{SamePages};
     ghost use Rattle.nested_writer.specs.IsStack.{IsStack, IsReachedStack};
 
-    /// Writes a record whose moment is raised to `raised`, in a tail that is known to hold a record, or not.
+    /// Writes a record that fits in the tail, and commits it. `raised` is the later of its moment and of the last one.
+    /// If `holds_record` is true, the tail holds a record; if it is false, the tail holds one or none.
     #[inline(always)]
     fn write_raised(&mut self, holds_record: bool, moment: u64, raised: u64, payload: &[u8])
         requires stack { IsReachedStack self.old }
@@ -73,7 +73,8 @@ impl WriterStack {
         Wrote::Record
     }
 
-    /// `write_alone`, for a record that `write_if_short` left: most of these have no room in the tail.
+    /// `write_alone`, for a record that `write_if_short` didn't write. Most of these have no room in the tail, so that is
+    /// looked at first.
     #[inline(always)]
     pub fn write_any(&mut self, moment: u64, payload: &[u8]) -> Wrote
         requires stack { IsReachedStack self.old }

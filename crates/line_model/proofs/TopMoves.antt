@@ -1,0 +1,173 @@
+-- One step of the frame on top, beside an account, by what it does: it goes on, it leaves, or it looks again, since
+-- another frame has begun the fill that it noted.
+use Rattle.std.proofs.Common.{◌≡◌, ◌≢◌, ℕ, ◌+◌, ◌-◌, ◌≤◌, ◌⊎◌, Bool, true, false, List, [], ◌∷◌, ◌++◌, length, Some}
+use Rattle.std.proofs.Common.{None, refl, sym, ap, ◌∙◌, subst, inl, inr, arith}
+use Rattle.trace_model.specs.History.{leave}
+use Rattle.trace_model.specs.Window.{Window, RingEvent, acts, history_events_of}
+use Rattle.trace_model.specs.Frames.{Purpose, for_record, for_close, Progress, waiting, reserved, left, Phase, idle}
+use Rattle.trace_model.specs.Frames.{noted_fill, owned_update, Frame}
+use Rattle.trace_model.specs.Ring.{Core, window_of}
+use Rattle.trace_model.specs.Steps.{closing_phase, frames_after_leave, after_begin}
+use Rattle.trace_model.proofs.steps.StepCases.{BeginsAgain}
+use Rattle.world_model.specs.RunEvents.{AreEventsOf}
+use Rattle.line_model.specs.Due.{Situation, IsFillNeeded, IsDue}
+use Rattle.line_model.specs.Accounts.{IsThere, Does}
+use Rattle.line_model.proofs.Standing.{FrameStands, FramesStand}
+use Rattle.line_model.proofs.DueRuns.{situation_of, DueFrom}
+use Rattle.line_model.proofs.StepDoes.{line, TopStep, Made, none_below, some_below, none_own, closing_notes}
+use Rattle.line_model.proofs.StepDoes.{closing_owns}
+use Rattle.line_model.proofs.TopStays.{due_one, events_are, no_event, Brief, stays_with, goes_with}
+
+module _ (t : TopStep) where
+  abbrev c : Core
+  c = t.before.core
+
+  abbrev s : Situation
+  s = situation_of t.script c
+
+  pub held : t.frame.state ≢ left → t.told ≢ None
+  held not e = let both : Some t.payload ≡ None = sym (t.one.unwritten not) ∙ e in cc
+
+  pub not_left : (st : Progress) → st ≢ left → t.frame.state ≡ st → t.frame.state ≢ left
+  not_left st not is e = not (sym is ∙ e)
+
+  there_in : (st : Progress) → t.frame.state ≡ st → IsThere t.below (line t.told t.losing)
+  there_in waiting is = inl (held (not_left waiting (λ e. cc) is))
+  there_in (reserved number) is = inl (held (not_left (reserved number) (λ e. cc) is))
+  there_in left is = inr (t.one.has_left is).1
+
+  pub there : IsThere t.below (line t.told t.losing)
+  there = there_in t.frame.state refl
+
+  -- in this phase it isn't at its first step
+  pub later : (own : List RingEvent) (phase : Phase)
+      → t.frame.phase ≡ phase
+      → phase ≢ idle
+      → (t.frame.kind ≢ for_close → length (history_events_of own) ≤ 1)
+      → Brief t own
+  later own phase at ne few = (few, λ k w rests free. absurd (ne (sym at ∙ rests)))
+
+  -- it needs a page
+  pub in_need : (own : List RingEvent)
+      → IsFillNeeded s
+      → (t.frame.kind ≢ for_close → length (history_events_of own) ≤ 1)
+      → Brief t own
+  in_need own needs few = (few, λ k w rests free. absurd (free needs))
+
+  -- it is in another phase
+  pub stand_in : (phase : Phase) (m : Bool)
+      → ((o : ℕ) → owned_update phase ≡ Some o → m ≡ true)
+      → FrameStands (record t.frame { phase = phase }) t.payload t.below (line t.told m)
+  stand_in phase m owned = record {
+    unwritten = t.one.unwritten;
+    has_left = t.one.has_left;
+    fresh = λ e. absurd (let both : true ≡ false = e in let no : ⊥ = cc in no);
+    moving = owned;
+  }
+
+  -- it goes on, and does nothing
+  pub goes : (to : Phase) (next : Core)
+      → Brief t []
+      → t.after ≡ next
+      → next.frames ≡ record t.frame { phase = to } ∷ t.under
+      → next.history ≡ c.history
+      → window_of next ≡ window_of c
+      → (t.frame.kind ≡ for_close → t.frame.state ≡ waiting → (o : ℕ) → noted_fill to ≡ Some o → o ≡ c.opened)
+      → ((o : ℕ) → owned_update to ≡ Some o → t.losing ≡ true)
+      → Made t
+  goes to next brief is frames h w up owned =
+      let windows = ap window_of is ∙ w in
+      stays_with t [] t.told t.losing (record t.frame { phase = to })
+      (no_event t (ap (λ (d : Core). d.history) is ∙ h) windows) refl tt brief
+      (ap (λ (d : Core). d.frames) is ∙ frames) refl (stand_in to t.losing owned) there
+      (λ closing waits o noted. up closing waits o noted ∙ ap (λ (v : Window). v.opened) (sym windows))
+
+  pub on : (from to : Phase) (next : Core)
+      → t.frame.phase ≡ from
+      → from ≢ idle
+      → t.after ≡ next
+      → next.frames ≡ record t.frame { phase = to } ∷ t.under
+      → next.history ≡ c.history
+      → window_of next ≡ window_of c
+      → ((o : ℕ) → noted_fill to ≡ Some o → noted_fill from ≡ Some o)
+      → ((o : ℕ) → owned_update to ≡ Some o → owned_update from ≡ Some o)
+      → Made t
+  on from to next at ne is frames h w noted owned =
+      goes to next (later [] from at ne (λ k. omega arith)) is frames h w
+      (λ closing waits o to_it. t.fresh t.frame t.under o t.top closing waits (ap noted_fill at ∙ noted o to_it))
+      (λ o to_it. t.one.moving o (ap owned_update at ∙ owned o to_it))
+
+  -- it leaves
+  pub leaves_with : (own : List RingEvent) (d : Core)
+      → AreEventsOf t.script.pages c own t.after
+      → Does t.below (line t.told t.losing) own (line None false)
+      → DueFrom t.script t.state.wish t.state.events own
+      → Brief t own
+      → t.after.frames ≡ frames_after_leave d t.frame t.under
+      → Made t
+  leaves_with own d are does due brief is = by_below t.under refl is
+    where
+      by_below : (under : List Frame) → t.under ≡ under → t.after.frames ≡ frames_after_leave d t.frame under → Made t
+      by_below [] alone left_is =
+          let bottom = none_below t.payloads t.below
+          (subst (λ (xs : List Frame). FramesStand xs t.payloads t.below) alone t.others) in
+          stays_with t own None false (record t.frame { state = left; phase = closing_phase d }) are does due brief
+          (left_is
+          ∙ ap (λ (xs : List Frame). record t.frame { state = left; phase = closing_phase d } ∷ xs) (sym alone))
+          refl
+          record {
+            unwritten = λ not. absurd (not refl);
+            has_left = λ e. (refl, bottom);
+            fresh = λ e. absurd (let both : true ≡ false = e in let no : ⊥ = cc in no);
+            moving = λ o owns. absurd (closing_owns d o owns);
+          } (inr bottom) (λ closing waits o noted. absurd (closing_notes d o noted))
+      by_below (next ∷ under) nested left_is =
+          let some = some_below next under t.payloads t.below
+          (subst (λ (xs : List Frame). FramesStand xs t.payloads t.below) nested t.others) in
+          goes_with t own false are does due brief (left_is ∙ sym nested)
+          (λ what is_own its_due. none_own t.below false what some is_own)
+
+  -- it leaves without a record, and does nothing else
+  pub leaves_none : (kind : Purpose) (next : Core)
+      → t.frame.kind ≡ kind
+      → t.frame.state ≡ waiting
+      → Brief t (acts (leave None) ∷ [])
+      → IsDue s (acts (leave None))
+      → t.after ≡ next
+      → next.frames ≡ frames_after_leave c t.frame t.under
+      → next.history ≡ c.history ++ leave None ∷ []
+      → window_of next ≡ window_of c
+      → Made t
+  leaves_none kind next is_kind waits brief due is frames h w =
+      leaves_with (acts (leave None) ∷ []) c
+      (events_are t (acts (leave None) ∷ []) refl (ap (λ (d : Core). d.history) is ∙ h) (tt, sym (ap window_of is ∙ w)))
+      (held (not_left waiting (λ e. cc) waits), refl) (due_one t (acts (leave None)) due) brief
+      (ap (λ (d : Core). d.frames) is ∙ frames)
+
+  -- another frame has begun a fill: so it is no close frame that waits
+  pub late : (from : Phase) (noted : ℕ)
+      → t.frame.phase ≡ from
+      → from ≢ idle
+      → noted_fill from ≡ Some noted
+      → (t.frame.state ≡ waiting) ⊎ (t.frame.state ≡ left)
+      → BeginsAgain c t.frame t.under noted t.answer t.after
+      → Made t
+  late from noted at ne noted_is active again =
+      by_kind t.frame.kind t.frame.state refl refl active again.after_is
+    where
+      by_kind : (kind : Purpose) (st : Progress)
+          → t.frame.kind ≡ kind
+          → t.frame.state ≡ st
+          → (st ≡ waiting) ⊎ (st ≡ left)
+          → t.after ≡ after_begin kind st c t.frame t.under
+          → Made t
+      by_kind (for_record moment len) waiting k w which is =
+          on from idle _ at ne is refl refl refl (λ o e. absurd (let no : ⊥ = cc in no))
+          (λ o e. absurd (let no : ⊥ = cc in no))
+      by_kind for_close waiting k w which is =
+          absurd (again.passed (t.fresh t.frame t.under noted t.top k w (ap noted_fill at ∙ noted_is)))
+      by_kind kind (reserved number) k w (inl e) is = absurd (let no : ⊥ = cc in no)
+      by_kind kind (reserved number) k w (inr e) is = absurd (let no : ⊥ = cc in no)
+      by_kind kind left k w which is =
+          on from (closing_phase c) _ at ne is refl refl refl (λ o e. absurd (closing_notes c o e))
+          (λ o e. absurd (closing_owns c o e))
