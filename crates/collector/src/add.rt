@@ -8,7 +8,8 @@ use page_numbers::Parcel;
 use trace_model::RecordNo;
 
 impl Collector {
-    ghost use Rattle.std.specs.Prelude.{◌≡◌, ◌≢◌, ℕ, ◌+◌, ◌-◌, ◌<◌, ◌≤◌, ◌↔◌, [], ◌∷◌, ◌++◌, length, IsTrue, MatchBool, Ok, IfOk, IfErr, OnOk, OnErr};
+    ghost use Rattle.std.specs.Prelude.{◌≡◌, ◌≢◌, ℕ, ◌+◌, ◌-◌, ◌<◌, ◌≤◌, ◌↔◌, [], ◌∷◌, ◌++◌, length, IsTrue, MatchBool};
+    ghost use Rattle.std.specs.Prelude.{Ok, IfOk, IfErr, OnOk, OnErr};
     ghost use Rattle.trace_model.specs.Collection.{Agree, IsBelow, IsSame};
     ghost use Rattle.page_numbers.specs.Parcels.{as_parcel};
     ghost use Rattle.collector.specs.Adding.{FitsAt, IsLookedAt};

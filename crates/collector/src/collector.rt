@@ -37,7 +37,8 @@ impl Model for Collector {
 }
 
 impl Collector {
-    ghost use Rattle.std.specs.Prelude.{◌≡◌, ℕ, ◌+◌, ◌-◌, ◌<◌, ◌≤◌, ◌↔◌, IsTrue, List, [], ◌∷◌, ◌++◌, length, take, slice_get, Some, IfOk, OnOk, OnErr};
+    ghost use Rattle.std.specs.Prelude.{◌≡◌, ℕ, ◌+◌, ◌-◌, ◌<◌, ◌≤◌, ◌↔◌, IsTrue, List, [], ◌∷◌, ◌++◌, length, take};
+    ghost use Rattle.std.specs.Prelude.{slice_get, Some, IfOk, OnOk, OnErr};
     ghost use Rattle.trace_model.specs.Collection.{Agree};
     ghost use Rattle.page_numbers.specs.Parcels.{as_parcel, as_parcels};
     ghost use Rattle.collector.specs.Sound.{AreSound};

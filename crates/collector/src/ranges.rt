@@ -1,8 +1,10 @@
 //! The numbers of one CPU, as disjoint ranges in their order.
-ghost use Rattle.std.specs.Prelude.{◌≡◌, ◌≢◌, ℕ, ◌-◌, ◌<◌, ◌≤◌, ◌↔◌, Some, None, IsSome, IsTrue, IfSome, IfNone, OnOk, OnErr};
+ghost use Rattle.std.specs.Prelude.{◌≡◌, ◌≢◌, ℕ, ◌-◌, ◌<◌, ◌≤◌, ◌↔◌, Some, None, IsSome, IsTrue, IfSome, IfNone, OnOk};
+ghost use Rattle.std.specs.Prelude.{OnErr};
 ghost use Rattle.std.specs.Ordering.{nat_cmp};
 ghost use Rattle.std.specs.BTreeMap.{get};
-ghost use Rattle.collector.specs.Ranges.{HasSpan, AreApart, MayLay, HasContent, ReportSame, IsMarked, IsEdge, IsFree, KeepsEdges, IsLaid, IsCopy};
+ghost use Rattle.collector.specs.Ranges.{HasSpan, AreApart, MayLay, HasContent, ReportSame, IsMarked, IsEdge, IsFree};
+ghost use Rattle.collector.specs.Ranges.{KeepsEdges, IsLaid, IsCopy};
 ghost use Rattle.collector.specs.declared.ranges.Content.{Content};
 ghost use Rattle.collector.specs.declared.ranges.Span.{Span};
 

@@ -2,7 +2,8 @@
 //! writes it to the sink. Nothing is written before the output is complete.
 ghost use Rattle.std.specs.Prelude.{◌≡◌, ℕ, ◌+◌, ◌<◌, ◌≤◌, ◌↔◌, ⊤, false, true, List, Err, IfOk};
 ghost use Rattle.std.specs.Io.KnownBytes.{Appends};
-ghost use Rattle.command_io.specs.CommandRun.{AppendsPrefix, IsCommandRun, IsOutput, OnlyMemoryLine, TakesAtMost, TakesMoreThan, source_run, sink_run};
+ghost use Rattle.command_io.specs.CommandRun.{AppendsPrefix, IsCommandRun, IsOutput, OnlyMemoryLine, TakesAtMost};
+ghost use Rattle.command_io.specs.CommandRun.{TakesMoreThan, source_run, sink_run};
 ghost use Rattle.command_io.specs.Output.{bytes_of, status_of};
 
 use crate::ends::{Sink, Source};

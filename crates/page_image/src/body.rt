@@ -29,7 +29,8 @@ impl Model for Body {
 }
 
 impl Body {
-    ghost use Rattle.std.specs.Prelude.{◌≡◌, ◌+◌, ◌≤◌, ◌<◌, ◌%◌, length, replicate, take, slice_range, if◌then◌else◌, IfOk};
+    ghost use Rattle.std.specs.Prelude.{◌≡◌, ◌+◌, ◌≤◌, ◌<◌, ◌%◌, length, replicate, take, slice_range, if◌then◌else◌};
+    ghost use Rattle.std.specs.Prelude.{IfOk};
     ghost use Rattle.std.specs.Borrow.{sem};
     ghost use Rattle.trace_model.specs.declared.limits.TheConstants.{MIN_SIZE, MAX_SIZE};
     ghost use Rattle.trace_model.specs.Words.{padded, slot_len};

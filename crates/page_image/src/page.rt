@@ -51,7 +51,8 @@ impl Model for Page {
 }
 
 impl Page {
-    ghost use Rattle.std.specs.Prelude.{◌≡◌, ◌+◌, ◌-◌, ◌≤◌, ◌<◌, false, [], length, replicate, IfSome, slice_range, ℕ, List};
+    ghost use Rattle.std.specs.Prelude.{◌≡◌, ◌+◌, ◌-◌, ◌≤◌, ◌<◌, false, [], length, replicate, IfSome, slice_range, ℕ};
+    ghost use Rattle.std.specs.Prelude.{List};
     ghost use Rattle.page_image.specs.declared.put.PutKind.TheVariants.{Plain};
     ghost use Rattle.page_image.specs.Plain.{IsPlainIn};
     ghost use Rattle.std.specs.Borrow.{sem};

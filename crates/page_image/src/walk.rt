@@ -2,7 +2,8 @@
 //!
 //! It is the one walk that keeps the time: by it an image's records are counted, and a page's records are lent.
 //! `places.rt` looks for a payload's place by `next_word` alone.
-ghost use Rattle.std.specs.Prelude.{◌≡◌, ℕ, ◌+◌, ◌*◌, ◌≤◌, ◌<◌, ◌^◌, List, [], ◌++◌, IfOk, IfErr, IfSome, MatchOption, length};
+ghost use Rattle.std.specs.Prelude.{◌≡◌, ℕ, ◌+◌, ◌*◌, ◌≤◌, ◌<◌, ◌^◌, List, [], ◌++◌, IfOk, IfErr, IfSome, MatchOption};
+ghost use Rattle.std.specs.Prelude.{length};
 ghost use Rattle.trace_model.specs.Words.{Word as OneWord, Decodes, records_of};
 ghost use Rattle.page_image.specs.Counting.{IsFirstWordFault};
 ghost use Rattle.page_image.specs.Walk.{HasRead, HasPassed, records_at_place, records_left};

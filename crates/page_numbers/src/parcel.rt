@@ -42,7 +42,8 @@ impl Parcel {
     ghost use Rattle.trace_model.specs.declared.limits.TheConstants.{MAX_CPUS};
     ghost use Rattle.page_image.specs.Contents.{IsPage, records_of_page};
     ghost use Rattle.page_borrow.specs.Entries.{AllStandInPage};
-    ghost use Rattle.page_numbers.specs.Parcels.{parcel_of_page, as_parcel, fitted_parcel, entries_of_parcel, AreAlike, HaveSameRecords};
+    ghost use Rattle.page_numbers.specs.Parcels.{parcel_of_page, as_parcel, fitted_parcel, entries_of_parcel, AreAlike};
+    ghost use Rattle.page_numbers.specs.Parcels.{HaveSameRecords};
     ghost use Rattle.page_numbers.specs.Faults.{IsRefused, NumbersOverflow, MissesTooMany};
 
     /// The page as a parcel of this CPU, with `missed` numbers missing before its records. If it is refused, the

@@ -3,7 +3,8 @@ ghost use Rattle.std.specs.Prelude.{◌≡◌, ◌<◌, ◌≤◌, ◌↔◌, Is
 ghost use Rattle.trace_model.specs.Image.{le64};
 ghost use Rattle.crc32c.specs.Castagnoli.{crc32c as sum_of};
 ghost use Rattle.parcel_streams.specs.Pieces.{magic};
-ghost use Rattle.parcel_streams.specs.Faults.{HasMagic, HasLength, length_in, IsWhole, IsDecided, IsWanted, sum_in, summed_in};
+ghost use Rattle.parcel_streams.specs.Faults.{HasMagic, HasLength, length_in, IsWhole, IsDecided, IsWanted, sum_in};
+ghost use Rattle.parcel_streams.specs.Faults.{summed_in};
 ghost use Rattle.parcel_streams.specs.Answers.{IsPieceFault, HasFrame};
 
 use crate::fault::PieceFault;

@@ -5,9 +5,12 @@ ghost use Rattle.trace_model.specs.FirstFault.{AreBytes};
 ghost use Rattle.trace_model.specs.Parcel.{Parcel as ParcelSeen};
 ghost use Rattle.trace_model.specs.ParcelBytes.{DecodesParcel};
 ghost use Rattle.trace_model.specs.declared.limits.TheConstants.{MAX_SIZE};
-ghost use Rattle.parcel_streams.specs.Pieces.{Packed, parcel_piece, bytes_of_piece, IsPiece, BeginsWith, bytes_of_pieces, IsStream};
-ghost use Rattle.parcel_streams.specs.Faults.{stream_in, body_in, HoldsParcel, IsDecided, PieceCause, FirstPieceFault, FirstStreamFault};
-ghost use Rattle.parcel_streams.specs.declared.limits.TheConstants.{HEAD, SUM, MIN_PIECE, MAX_PIECE, PARCEL_HEAD, NUMBER_BODY, RUN_BODY};
+ghost use Rattle.parcel_streams.specs.Pieces.{Packed, parcel_piece, bytes_of_piece, IsPiece, BeginsWith};
+ghost use Rattle.parcel_streams.specs.Pieces.{bytes_of_pieces, IsStream};
+ghost use Rattle.parcel_streams.specs.Faults.{stream_in, body_in, HoldsParcel, IsDecided, PieceCause, FirstPieceFault};
+ghost use Rattle.parcel_streams.specs.Faults.{FirstStreamFault};
+ghost use Rattle.parcel_streams.specs.declared.limits.TheConstants.{HEAD, SUM, MIN_PIECE, MAX_PIECE, PARCEL_HEAD};
+ghost use Rattle.parcel_streams.specs.declared.limits.TheConstants.{NUMBER_BODY, RUN_BODY};
 
 /// What is spelled is read back: a piece, whatever follows it, is the one piece at the front; a parcel's states its
 /// stream, and its bytes read as the parcel.

@@ -2,7 +2,8 @@
 ghost use Rattle.std.specs.Prelude.{◌≡◌, ℕ, ◌≤◌, ◌⊎◌, ◌↔◌, List, IfOk, IfErr, OnErr, MatchResult, length};
 ghost use Rattle.parcel_streams.specs.Pieces.{Packed, bytes_of_piece, BeginsWith, IsStream};
 ghost use Rattle.parcel_streams.specs.Faults.{PieceCause, FirstPieceFault, FirstStreamFault};
-ghost use Rattle.parcel_streams.specs.Answers.{piece_seen, pieces_seen, piece_fault, stream_fault, HasPiece, HasPieceAt, IsPieceFault, IsStreamFault, PutsPiece};
+ghost use Rattle.parcel_streams.specs.Answers.{piece_seen, pieces_seen, piece_fault, stream_fault, HasPiece};
+ghost use Rattle.parcel_streams.specs.Answers.{HasPieceAt, IsPieceFault, IsStreamFault, PutsPiece};
 
 use crate::body::read_body;
 use crate::fault::{PieceFault, StreamFault};

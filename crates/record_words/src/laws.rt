@@ -1,6 +1,7 @@
 //! The numbers of the format, each by its value.
 ghost use Rattle.std.specs.Prelude.{◌≡◌, ◌^◌};
-ghost use Rattle.record_words.specs.declared.format.TheConstants.{EXTEND_FROM, LEAST_LENGTH, MAX_PAYLOAD, PADDING, SHORT_LIMIT, TIME_EXTEND, TIME_STAMP};
+ghost use Rattle.record_words.specs.declared.format.TheConstants.{EXTEND_FROM, LEAST_LENGTH, MAX_PAYLOAD, PADDING};
+ghost use Rattle.record_words.specs.declared.format.TheConstants.{SHORT_LIMIT, TIME_EXTEND, TIME_STAMP};
 
 /// The numbers of the format have the values that are stated here; contracts name most of them, so that one that is
 /// changed is refused here.

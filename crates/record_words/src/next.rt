@@ -1,7 +1,9 @@
 //! One word of the data of a page, read.
 ghost use Rattle.std.specs.Prelude.{◌≡◌, ◌+◌, ◌-◌, ◌*◌, ◌≤◌, ◌<◌, ◌⊎◌, ◌↔◌, length, drop, IsOk, IfOk, IfErr};
 ghost use Rattle.trace_model.specs.Reading.{from_le32};
-ghost use Rattle.trace_model.specs.Faults.{cut, bad_length, IsWordFault, HasWord, HasEnding, HasGoodLength, StatesLength, CountsWords, HasHighBits, number_behind, type_at_front, delta_at_front};
+ghost use Rattle.trace_model.specs.Faults.{cut, bad_length, IsWordFault, HasWord, HasEnding, HasGoodLength};
+ghost use Rattle.trace_model.specs.Faults.{StatesLength, CountsWords, HasHighBits, number_behind, type_at_front};
+ghost use Rattle.trace_model.specs.Faults.{delta_at_front};
 ghost use Rattle.record_words.specs.Next.{IsWordRead, IsFaultAt};
 
 use crate::format::{EXTEND_FROM, LEAST_LENGTH, PADDING, TIME_EXTEND, TIME_STAMP};

@@ -1,6 +1,7 @@
 //! A record written in place.
 ghost use Rattle.std.specs.Prelude.{◌≡◌, ◌+◌, ◌≤◌, ◌<◌, length, replicate, take};
-ghost use Rattle.trace_model.specs.Words.{le32, first_word, slot_len, padded, encoded_len, encoding, data_word, bytes_of_word, time_extend};
+ghost use Rattle.trace_model.specs.Words.{le32, first_word, slot_len, padded, encoded_len, encoding, data_word};
+ghost use Rattle.trace_model.specs.Words.{bytes_of_word, time_extend};
 ghost use Rattle.trace_model.specs.declared.limits.TheConstants.{MOMENT_LIMIT};
 ghost use Rattle.record_words.specs.Puts.{Puts, FitsIn, data_header, header_len};
 

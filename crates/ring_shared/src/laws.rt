@@ -1,9 +1,14 @@
 //! What holds of any call on an end of a running ring, and of all calls on both ends.
-ghost use Rattle.ring_shared.specs.Laws.{CallsAppend, ClosesAppend, EndsAppend, NumbersAreReportedAgain, PushesAppend, RefusalsAppend, ReservationsAppend};
-ghost use Rattle.ring_shared.specs.RunLaws.{ReaderStepsEndRuns, ReaderStepsStand, RunsAreReached, WriterCallsEndRuns, WriterStepsStand};
+ghost use Rattle.ring_shared.specs.Laws.{CallsAppend, ClosesAppend, EndsAppend, NumbersAreReportedAgain, PushesAppend};
+ghost use Rattle.ring_shared.specs.Laws.{RefusalsAppend, ReservationsAppend};
+ghost use Rattle.ring_shared.specs.RunLaws.{ReaderStepsEndRuns, ReaderStepsStand, RunsAreReached, WriterCallsEndRuns};
+ghost use Rattle.ring_shared.specs.RunLaws.{WriterStepsStand};
 ghost use Rattle.ring_shared.specs.TailLaws.{TailsAreTheRest};
 ghost use Rattle.ring_shared.specs.TakenLaws.{TakesAreMade};
-ghost use Rattle.ring_shared.specs.WholeLaws.{FinishesClose, FinishesLeft, FinishesRefused, FinishesReserve, PaddedTwice, RefusedWritesAppend, RefusedWritesKeepFrames, RefusedWritesReserveNone, WritersHaveHistories, WritesAppend, WritesReserve};
+ghost use Rattle.ring_shared.specs.WholeLaws.{FinishesClose, FinishesLeft, FinishesRefused, FinishesReserve};
+ghost use Rattle.ring_shared.specs.WholeLaws.{PaddedTwice, RefusedWritesAppend, RefusedWritesKeepFrames};
+ghost use Rattle.ring_shared.specs.WholeLaws.{RefusedWritesReserveNone, WritersHaveHistories, WritesAppend};
+ghost use Rattle.ring_shared.specs.WholeLaws.{WritesReserve};
 
 /// A call appends to the history of its writer's frames exactly what its answer, in a state with that writer's part
 /// before it, stands for: an answered push its push, an end its leave with the payload, a number that is answered to a

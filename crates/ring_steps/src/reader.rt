@@ -8,7 +8,8 @@ ghost use Rattle.link_marks.specs.declared.link.Mark.TheVariants.{Normal, Header
 ghost use Rattle.ring_steps.specs.Shown.{page_before};
 ghost use Rattle.ring_steps.specs.Seats.{IsReaderStep};
 ghost use Rattle.ring_steps.specs.Ends.{reading_in, SameReaderSeat};
-ghost use Rattle.ring_steps.specs.Taking.{page_found, fill_found, IsLoadingDone, IsStoringLink, LinkLoaded, DoneLoaded, SpareLinked};
+ghost use Rattle.ring_steps.specs.Taking.{page_found, fill_found, IsLoadingDone, IsStoringLink, LinkLoaded, DoneLoaded};
+ghost use Rattle.ring_steps.specs.Taking.{SpareLinked};
 
 use crate::ends::ReaderSeat;
 use crate::links::link_in;

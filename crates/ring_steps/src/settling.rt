@@ -2,7 +2,8 @@
 ghost use Rattle.std.specs.Prelude.{◌≡◌, false};
 ghost use Rattle.ring_steps.specs.Views.{writing, reading, joined};
 ghost use Rattle.ring_steps.specs.Seats.{IsTableOf, AreParts};
-ghost use Rattle.ring_steps.specs.Ends.{writing_in, reading_in, writing_settled, reading_settled, writer_table, reader_table};
+ghost use Rattle.ring_steps.specs.Ends.{writing_in, reading_in, writing_settled, reading_settled, writer_table};
+ghost use Rattle.ring_steps.specs.Ends.{reader_table};
 
 use crate::ends::{ReaderSeat, WriterSeat};
 use crate::ghost_part::GhostPart;

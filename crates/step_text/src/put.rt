@@ -8,7 +8,9 @@ ghost use Rattle.ring_frames.specs.Value.{phase_of, role_of};
 ghost use Rattle.ring_frames.specs.ReaderPhases.{reader_phase_of};
 ghost use Rattle.step_model.specs.Seen.{link_is, page_is, spare_link_is, frame_is, frame_gone, phase_is, reader_is};
 ghost use Rattle.step_model.specs.StepTexts as texts;
-ghost use Rattle.step_model.specs.StepTexts.{change_text, head_text, kind_text, link_text, page_of, next_of, phase_name, phase_text, reader_name, reader_text, role_text, spaced, spaced_or_none, state_text};
+ghost use Rattle.step_model.specs.StepTexts.{change_text, head_text, kind_text, link_text, page_of, next_of};
+ghost use Rattle.step_model.specs.StepTexts.{phase_name, phase_text, reader_name, reader_text, role_text, spaced};
+ghost use Rattle.step_model.specs.StepTexts.{spaced_or_none, state_text};
 ghost use Rattle.step_text.specs.Seen.{reader_in, state_in};
 
 use crate::seen::FrameState;

@@ -7,7 +7,8 @@ ghost use Rattle.ring_core.specs.IsCore.{IsCore};
 ghost use Rattle.step_model.specs.Changes.{same_phase, same_state};
 ghost use Rattle.step_model.specs.StepCounts.{owns_from};
 ghost use Rattle.step_text.specs.Seen.{state_in, top_in, top_frame};
-ghost use Rattle.step_text.specs.Counting.{Follows, IsCounted, top_claims_in, takes_in, head_in, gives_in, all_have_left_in, top_moment_in};
+ghost use Rattle.step_text.specs.Counting.{Follows, IsCounted, top_claims_in, takes_in, head_in, gives_in};
+ghost use Rattle.step_text.specs.Counting.{all_have_left_in, top_moment_in};
 
 use link_marks::Link;
 use nested_writer::frame::{Progress, Purpose};

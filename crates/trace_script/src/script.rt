@@ -29,8 +29,11 @@ impl Model for Script {
 
 impl Script {
     ghost use Rattle.std.specs.Prelude.{◌≡◌, ◌+◌, ◌%◌, ◌≤◌, ◌<◌};
-    ghost use Rattle.trace_model.specs.declared.limits.TheConstants.{MIN_PAGES, MAX_PAGES, MIN_SIZE, MAX_SIZE, LINK_FILLS};
-    ghost use Rattle.text_model.specs.declared.script_limits.TheConstants.{MIN_SCRIPT_CPUS, MAX_SCRIPT_CPUS, MIN_SCRIPT_COLLECTORS, MAX_SCRIPT_COLLECTORS};
+    ghost use Rattle.trace_model.specs.declared.limits.TheConstants.{MIN_PAGES, MAX_PAGES, MIN_SIZE, MAX_SIZE};
+    ghost use Rattle.trace_model.specs.declared.limits.TheConstants.{LINK_FILLS};
+    ghost use Rattle.text_model.specs.declared.script_limits.TheConstants.{MIN_SCRIPT_CPUS, MAX_SCRIPT_CPUS};
+    ghost use Rattle.text_model.specs.declared.script_limits.TheConstants.{MIN_SCRIPT_COLLECTORS};
+    ghost use Rattle.text_model.specs.declared.script_limits.TheConstants.{MAX_SCRIPT_COLLECTORS};
     ghost use Rattle.text_model.specs.ScriptLimits.{IsWithinLimits};
     ghost use Rattle.trace_script.specs.ScriptTypes.{script_of};
 

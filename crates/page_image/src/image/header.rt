@@ -1,6 +1,7 @@
 //! What comes before the data of an image, and the count after it.
 ghost use Rattle.std.specs.Prelude.{◌≡◌, ◌≢◌, ℕ, ◌+◌, ◌≤◌, ◌<◌, List, length, drop, IfOk, IfErr};
-ghost use Rattle.trace_model.specs.Image.{from_le64, commit_word, commit_of, stores_count as is_count_stored, ReportsMissed};
+ghost use Rattle.trace_model.specs.Image.{from_le64, commit_word, commit_of, stores_count as is_count_stored};
+ghost use Rattle.trace_model.specs.Image.{ReportsMissed};
 ghost use Rattle.trace_model.specs.declared.limits.TheConstants.{MAX_SIZE};
 ghost use Rattle.page_image.specs.Images.{missed_of, commit_with, IsCommitWord, HasPartsOf, LacksCount, IsImageFault};
 

@@ -10,7 +10,8 @@ use ring_frames::{Phase, Role, StepAnswer};
 impl Core {
     ghost use Rattle.std.specs.Prelude.{◌≡◌, ◌≢◌, ℕ, true, false, []};
     ghost use Rattle.trace_model.specs.Steps as model;
-    ghost use Rattle.ring_frames.specs.declared.phase.Phase.TheVariants.{Looking, Claiming, LookingNext, Marking, Clearing};
+    ghost use Rattle.ring_frames.specs.declared.phase.Phase.TheVariants.{Looking, Claiming, LookingNext, Marking};
+    ghost use Rattle.ring_frames.specs.declared.phase.Phase.TheVariants.{Clearing};
     ghost use Rattle.ring_core.specs.Heads.{HasHeaderMark, ClaimsHead};
     ghost use Rattle.ring_frames.specs.Phases.{as_answer};
     ghost use Rattle.ring_frames.specs.Answers.{KeepsPayloads};

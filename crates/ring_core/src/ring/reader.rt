@@ -10,7 +10,8 @@ impl Core {
     ghost use Rattle.std.specs.Prelude.{◌≡◌, ◌+◌, ◌-◌, ◌^◌, ◌<◌, ◌≤◌, length, Some, None, slice_get, slice_set};
     ghost use Rattle.trace_model.specs.declared.limits.TheConstants.{LINK_FILLS};
     ghost use Rattle.trace_model.specs.Steps as model;
-    ghost use Rattle.ring_frames.specs.declared.reader.ReaderPhase.TheVariants.{LoadingHead, LoadingDone, StoringSpareLink, Swapping};
+    ghost use Rattle.ring_frames.specs.declared.reader.ReaderPhase.TheVariants.{LoadingHead, LoadingDone};
+    ghost use Rattle.ring_frames.specs.declared.reader.ReaderPhase.TheVariants.{StoringSpareLink, Swapping};
     ghost use Rattle.ring_frames.specs.declared.answer.Answer.TheVariants.{Taken};
     ghost use Rattle.ring_core.specs.Steps.{MakesStep, MakesRead, IsReachedCore};
     ghost use Rattle.ring_core.specs.Taking.{with_spare_home, with_head_taken};

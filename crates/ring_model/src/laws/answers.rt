@@ -1,5 +1,6 @@
 //! Laws of a ring's answers: when a frame is refused, and what the reader's answers say.
-ghost use Rattle.ring_model.specs.AnswerLaws.{CrowdedIsRight, EmptyIsRight, MovingIsRight, RefusalsAreDue, PageTakenIsRight, WornIsRight};
+ghost use Rattle.ring_model.specs.AnswerLaws.{CrowdedIsRight, EmptyIsRight, MovingIsRight, RefusalsAreDue};
+ghost use Rattle.ring_model.specs.AnswerLaws.{PageTakenIsRight, WornIsRight};
 
 /// A frame is refused as crowded only if all pages have fills that aren't closed, and as worn only if not all have, and
 /// the tail is the last fill that may be begun; in either case a frame that needs a page is refused so. That a refused

@@ -1,6 +1,7 @@
 //! Laws of the ends of a ring's frames and takes.
 ghost use Rattle.ring_model.specs.FrameOutcomes.{FramesLeave, FramesReserve};
-ghost use Rattle.ring_model.specs.Ranks.{EndsComeToAnEnd, FramesAreNearTheirEnd, StepsComeToAnEnd, TakesAreNearTheirAnswer, TakesComeToAnAnswer};
+ghost use Rattle.ring_model.specs.Ranks.{EndsComeToAnEnd, FramesAreNearTheirEnd, StepsComeToAnEnd};
+ghost use Rattle.ring_model.specs.Ranks.{TakesAreNearTheirAnswer, TakesComeToAnAnswer};
 ghost use Rattle.ring_model.specs.WriterRanks.{WriterStepsComeToAnEnd, WritersAreNearTheirEnd};
 
 /// A frame that nothing interrupts is gone in the end: each step of a frame that hasn't reserved, and each end, after

@@ -1,6 +1,9 @@
 //! Worked examples of a ring, and steps that are wrong.
-ghost use Rattle.ring_model.specs.Examples.{FirstRecord, HaltedHeadMove, HelpersAtTheHead, InnerReservesFirst, LateSwap, NestedWriter, WishAnswered, WishWaitsForTheOutermost};
-ghost use Rattle.ring_model.specs.WrongSteps.{ClosesWithoutAWish, HelperClearsTheUpdate, InnerEndPublishes, LosesWhileAPositionIsFree, SwapIgnoresTheFill, TakesTheTail, TwoHeads, WishClosesAnEmptyPage};
+ghost use Rattle.ring_model.specs.Examples.{FirstRecord, HaltedHeadMove, HelpersAtTheHead, InnerReservesFirst};
+ghost use Rattle.ring_model.specs.Examples.{LateSwap, NestedWriter, WishAnswered, WishWaitsForTheOutermost};
+ghost use Rattle.ring_model.specs.WrongSteps.{ClosesWithoutAWish, HelperClearsTheUpdate, InnerEndPublishes};
+ghost use Rattle.ring_model.specs.WrongSteps.{LosesWhileAPositionIsFree, SwapIgnoresTheFill, TakesTheTail, TwoHeads};
+ghost use Rattle.ring_model.specs.WrongSteps.{WishClosesAnEmptyPage};
 
 /// The eight worked examples are runs of steps from the new ring, with their answers.
 pub fn examples_are_runs()

@@ -1,5 +1,7 @@
 //! Laws of what a ring's frames did, and of the partition of its records.
-ghost use Rattle.ring_model.specs.HistoryLaws.{AppendedIsOne, RecordNumbersFit, RecordsAreFew, RestIsUnread, RunsAreHistories, RunsArePacked, StepsAppend, TailIsTheRest, TakenAreFills, TakenHoldRecords, TakenPartitionCommitted};
+ghost use Rattle.ring_model.specs.HistoryLaws.{AppendedIsOne, RecordNumbersFit, RecordsAreFew, RestIsUnread};
+ghost use Rattle.ring_model.specs.HistoryLaws.{RunsAreHistories, RunsArePacked, StepsAppend, TailIsTheRest};
+ghost use Rattle.ring_model.specs.HistoryLaws.{TakenAreFills, TakenHoldRecords, TakenPartitionCommitted};
 
 /// What the frames did is a history: it keeps the discipline of the stack.
 pub fn runs_are_histories()

@@ -1,5 +1,6 @@
 //! Laws of a ring's links: each occurs once, one is the HEADER, and an UPDATE has an owner.
-ghost use Rattle.ring_model.specs.LinkLaws.{HeadersAreOwed, HeadersAreSetOnce, LinksFitWords, LinksStandOnce, OneHeader, OwnersClear, StepsRaiseLinks, UpdatesAreClaimed};
+ghost use Rattle.ring_model.specs.LinkLaws.{HeadersAreOwed, HeadersAreSetOnce, LinksFitWords, LinksStandOnce};
+ghost use Rattle.ring_model.specs.LinkLaws.{OneHeader, OwnersClear, StepsRaiseLinks, UpdatesAreClaimed};
 
 /// Each link of the ring, and the spare's, fits a word, if the ring has fewer than `LINK_PAGES` pages.
 pub fn links_fit_words()

@@ -1,5 +1,8 @@
 //! Laws of a ring's states and steps: what every step keeps, and that each event is one step.
-ghost use Rattle.ring_model.specs.RingLaws.{AllIsClosedAtRest, EachEventIsAStep, FewFramesStand, KeptIsRing, NewRingIsOne, OnlyTheBottomHasLeft, ReachedIsKept, ReachedIsRing, RunsAreDetermined, StartHasWindow, StartIsKept, StepsAreDetermined, StepsKeepRing};
+ghost use Rattle.ring_model.specs.RingLaws.{AllIsClosedAtRest, EachEventIsAStep, FewFramesStand, KeptIsRing};
+ghost use Rattle.ring_model.specs.RingLaws.{NewRingIsOne, OnlyTheBottomHasLeft, ReachedIsKept, ReachedIsRing};
+ghost use Rattle.ring_model.specs.RingLaws.{RunsAreDetermined, StartHasWindow, StartIsKept, StepsAreDetermined};
+ghost use Rattle.ring_model.specs.RingLaws.{StepsKeepRing};
 
 /// A new ring has all that steps keep (`IsRingKept`), and its window is the first one.
 pub fn start_is_kept()

@@ -1,5 +1,7 @@
 //! Laws of a ring's two seats, the writer's and the reader's: what each reads and changes.
-ghost use Rattle.ring_model.specs.SeatLaws.{PrivateCommutes, PrivateLeavesOtherPages, PrivateTouchesNoWord, ReaderLeavesOpenPages, ReaderLeavesWriter, ReaderReadsNoWriter, WriterLeavesReader, WriterReadsNoReader};
+ghost use Rattle.ring_model.specs.SeatLaws.{PrivateCommutes, PrivateLeavesOtherPages, PrivateTouchesNoWord};
+ghost use Rattle.ring_model.specs.SeatLaws.{ReaderLeavesOpenPages, ReaderLeavesWriter, ReaderReadsNoWriter};
+ghost use Rattle.ring_model.specs.SeatLaws.{WriterLeavesReader, WriterReadsNoReader};
 ghost use Rattle.ring_model.specs.SeenLinks.{FramesHaveSeenLinks};
 ghost use Rattle.ring_model.specs.WriterRanks.{ClaimsFailOnceTheHeadMoved};
 

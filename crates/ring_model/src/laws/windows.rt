@@ -1,5 +1,7 @@
 //! Laws of a ring's window: how the counts of fills move, and which fills are taken or lost.
-ghost use Rattle.ring_model.specs.WindowLaws.{ClosesNeedNoFrame, CountsRise, LossesNeedAFullRing, LostAreClosed, NoneIsTakenAndLost, NothingHappens, OneWindowEvent, PassedAreTakenOrLost, RunsExtendEvents, RunsMoveWindow, StepsMoveWindow, TakenAreClosed};
+ghost use Rattle.ring_model.specs.WindowLaws.{ClosesNeedNoFrame, CountsRise, LossesNeedAFullRing, LostAreClosed};
+ghost use Rattle.ring_model.specs.WindowLaws.{NoneIsTakenAndLost, NothingHappens, OneWindowEvent, PassedAreTakenOrLost};
+ghost use Rattle.ring_model.specs.WindowLaws.{RunsExtendEvents, RunsMoveWindow, StepsMoveWindow, TakenAreClosed};
 
 /// Every step is one step of the window, the one that the history and the taken pages show, or leaves the window and
 /// what was taken as they were. So no fill is both taken and lost, and none is lost but a closed one, in a full ring.

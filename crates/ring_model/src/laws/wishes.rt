@@ -1,5 +1,6 @@
 //! Laws of the reader's wish for the tail page.
-ghost use Rattle.ring_model.specs.WishLaws.{EndsOnTheWishedPage, GoneHasLooked, WishBehindEmptyLosesNone, WishedTailsAreClosed, WishesAreAnswered, WishesAreHeld};
+ghost use Rattle.ring_model.specs.WishLaws.{EndsOnTheWishedPage, GoneHasLooked, WishBehindEmptyLosesNone};
+ghost use Rattle.ring_model.specs.WishLaws.{WishedTailsAreClosed, WishesAreAnswered, WishesAreHeld};
 
 /// A wish for the first fill that isn't closed is answered by the next outermost end that finds a record in the tail,
 /// unless the tail is the last fill. The reader wishes for the fill after those that it has seen closed; the last frame

@@ -9,7 +9,8 @@ use trace_model::FillNo;
 impl Reader {
     ghost use Rattle.std.specs.Prelude.{◌≡◌, length};
     ghost use Rattle.trace_model.specs.Ring.{page_at};
-    ghost use Rattle.ring_frames.specs.declared.reader.ReaderPhase.TheVariants.{LoadingHead, LoadingDone, StoringSpareLink, Swapping};
+    ghost use Rattle.ring_frames.specs.declared.reader.ReaderPhase.TheVariants.{LoadingHead, LoadingDone};
+    ghost use Rattle.ring_frames.specs.declared.reader.ReaderPhase.TheVariants.{StoringSpareLink, Swapping};
     ghost use Rattle.ring_shared.specs.Takes.{IsReader, KeepsNoEmpty, MakesLook, MakesSwap};
 
     /// The next look of a take, or the head that it found, if no look is left before the swap.

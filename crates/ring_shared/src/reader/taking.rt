@@ -9,7 +9,8 @@ impl Reader {
     ghost use Rattle.trace_model.specs.Steps.{wishes, wished_for};
     ghost use Rattle.ring_steps.specs.Views.{reading_after};
     ghost use Rattle.ring_steps.specs.Seats.{IsReaderStep};
-    ghost use Rattle.ring_shared.specs.Takes.{IsReader, KeepsNoEmpty, IsTake, TakesSteps, EmptyAfter, SameRing, IsOfSize, empty_of};
+    ghost use Rattle.ring_shared.specs.Takes.{IsReader, KeepsNoEmpty, IsTake, TakesSteps, EmptyAfter, SameRing};
+    ghost use Rattle.ring_shared.specs.Takes.{IsOfSize, empty_of};
 
     /// Takes the oldest page that is closed and unread, for which `body`, of the ring's data size in bytes, goes into
     /// the ring; with any other answer a body of that size is returned. It answers as soon as one of its steps does. It

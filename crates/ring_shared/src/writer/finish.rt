@@ -34,7 +34,8 @@ impl Writer {
     ghost use Rattle.ring_frames.specs.declared.phase.Phase.TheVariants.{Wishing};
     ghost use Rattle.ring_frames.specs.Answers.{KeepsPayloads, ZerosSlot};
     ghost use Rattle.ring_shared.specs.Promises.{HasLeavingTop, KeepsSlots, LeavesTop};
-    ghost use Rattle.ring_shared.specs.Finishing.{Finishes, IsFinished, ZerosFinished, Reserves, Leaves, Closes, IsGoneOrRefused, met_behind};
+    ghost use Rattle.ring_shared.specs.Finishing.{Finishes, IsFinished, ZerosFinished, Reserves, Leaves, Closes};
+    ghost use Rattle.ring_shared.specs.Finishing.{IsGoneOrRefused, met_behind};
 
     /// Steps a close frame, or one that was ended or refused, until it is gone, and a record frame that waits until its
     /// record is reserved, in a slot that holds only zeros, or it is refused; one that has reserved gets its number

@@ -12,7 +12,8 @@ impl Writer {
     ghost use Rattle.std.specs.Prelude.{◌≡◌, ◌+◌, ◌≤◌};
     ghost use Rattle.trace_model.specs.declared.limits.TheConstants.{MAX_PAGES};
     ghost use Rattle.trace_model.specs.Steps as model;
-    ghost use Rattle.ring_frames.specs.declared.phase.Phase.TheVariants.{Looking, Claiming, LookingNext, Marking, Clearing};
+    ghost use Rattle.ring_frames.specs.declared.phase.Phase.TheVariants.{Looking, Claiming, LookingNext, Marking};
+    ghost use Rattle.ring_frames.specs.declared.phase.Phase.TheVariants.{Clearing};
     ghost use Rattle.ring_steps.specs.Linking.{tail_in};
     ghost use Rattle.ring_frames.specs.Answers.{KeepsPayloads};
     ghost use Rattle.ring_frames.specs.Phases.{as_answer};

@@ -1,6 +1,7 @@
 //! The limits and the fixed words of scripts, by their values.
 ghost use Rattle.std.specs.Prelude.{◌≡◌, ℕ, ◌-◌, ◌++◌, [], ◌∷◌, codes, decimal};
-ghost use Rattle.text_model.specs.ScriptLines.{bad_line, bad_number, bad_hex, out_of_range, pages_setting, size_setting, fault_text};
+ghost use Rattle.text_model.specs.ScriptLines.{bad_line, bad_number, bad_hex, out_of_range, pages_setting};
+ghost use Rattle.text_model.specs.ScriptLines.{size_setting, fault_text};
 ghost use Rattle.text_model.specs.Script.{cpus_setting, collectors_setting, header_settings, start_setting};
 
 use crate::script_limits::{

@@ -2,7 +2,8 @@
 ghost use Rattle.std.specs.Prelude.{◌≡◌, ℕ, ◌+◌, ◌^◌, ◌≤◌, ◌⊎◌, ◌↔◌, List, length, Ok, Err};
 ghost use Rattle.std.specs.List.{enumerate_from};
 ghost use Rattle.text_model.specs.ScriptLines.{LineFault};
-ghost use Rattle.text_model.specs.Script.{Command, Script, ParsesScript, FirstScriptFault, AddsStartZero, command_of, command_in, header_settings, SpellsCommand};
+ghost use Rattle.text_model.specs.Script.{Command, Script, ParsesScript, FirstScriptFault, AddsStartZero, command_of};
+ghost use Rattle.text_model.specs.Script.{command_in, header_settings, SpellsCommand};
 ghost use Rattle.text_model.specs.ScriptLimits.{IsCommandWithin, IsWithinLimits};
 ghost use Rattle.text_model.specs.ScriptWriting.{command_text, script_text};
 ghost use Rattle.text_model.specs.ScriptReading.{script_in};

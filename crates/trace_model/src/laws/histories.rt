@@ -1,7 +1,8 @@
 //! Laws over histories of frames.
 ghost use Rattle.std.specs.Prelude.{List, All};
 ghost use Rattle.std.specs.List.{AllByRecursion};
-ghost use Rattle.trace_model.specs.History.{HistoryEvent, IsHistory, HasItsBytes, committed_records, reserved_records, settled_prefix};
+ghost use Rattle.trace_model.specs.History.{HistoryEvent, IsHistory, HasItsBytes, committed_records, reserved_records};
+ghost use Rattle.trace_model.specs.History.{settled_prefix};
 ghost use Rattle.trace_model.specs.HistoryLaws.{CommittedIsPrefix};
 ghost use Rattle.trace_model.specs.Packing.{FillsSlot};
 ghost use Rattle.trace_model.specs.Record.{IsRecord};

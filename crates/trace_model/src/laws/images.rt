@@ -1,7 +1,8 @@
 //! Laws over page images.
 ghost use Rattle.std.specs.Prelude.{◌≡◌, ℕ, ◌+◌, ◌^◌, ◌<◌, ◌≤◌, ◌⊎◌, List, length};
 ghost use Rattle.trace_model.specs.FirstFault.{AreBytes};
-ghost use Rattle.trace_model.specs.Image.{Missed, DecodesImageWithin, DecodesImage, ImageCause, FirstImageFault, image_of, missed_reported};
+ghost use Rattle.trace_model.specs.Image.{Missed, DecodesImageWithin, DecodesImage, ImageCause, FirstImageFault};
+ghost use Rattle.trace_model.specs.Image.{image_of, missed_reported};
 ghost use Rattle.trace_model.specs.declared.limits.TheConstants.{MAX_IMAGE};
 ghost use Rattle.trace_model.specs.Record.{Record};
 ghost use Rattle.trace_model.specs.Words.{Decodes};

@@ -1,6 +1,8 @@
 //! The limits, each by its value.
 ghost use Rattle.std.specs.Prelude.{◌≡◌, ◌^◌};
-ghost use Rattle.trace_model.specs.declared.limits.TheConstants.{LINK_FILLS, LINK_PAGES, MAX_CPUS, MAX_FRAMES, MAX_IMAGE, MAX_INPUT, MAX_PAGES, MAX_SIZE, MIN_PAGES, MIN_SIZE, MOMENT_LIMIT, START_FILL};
+ghost use Rattle.trace_model.specs.declared.limits.TheConstants.{LINK_FILLS, LINK_PAGES, MAX_CPUS, MAX_FRAMES};
+ghost use Rattle.trace_model.specs.declared.limits.TheConstants.{MAX_IMAGE, MAX_INPUT, MAX_PAGES, MAX_SIZE, MIN_PAGES};
+ghost use Rattle.trace_model.specs.declared.limits.TheConstants.{MIN_SIZE, MOMENT_LIMIT, START_FILL};
 
 /// Each limit has the value that is stated here; contracts and definitions name it. What else a changed limit touches
 /// is listed in `docs/ARCHITECTURE.md`, "Where to change what".

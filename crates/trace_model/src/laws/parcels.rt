@@ -2,7 +2,8 @@
 ghost use Rattle.std.specs.Prelude.{◌≡◌, ℕ, ◌+◌, ◌^◌, ◌<◌, ◌≤◌, ◌⊎◌, List, length};
 ghost use Rattle.trace_model.specs.FirstFault.{AreBytes};
 ghost use Rattle.trace_model.specs.Parcel.{Parcel};
-ghost use Rattle.trace_model.specs.ParcelBytes.{IsParcel, bytes_of_parcel, DecodesParcel, ParcelCause, FirstParcelFault};
+ghost use Rattle.trace_model.specs.ParcelBytes.{IsParcel, bytes_of_parcel, DecodesParcel, ParcelCause};
+ghost use Rattle.trace_model.specs.ParcelBytes.{FirstParcelFault};
 ghost use Rattle.trace_model.specs.Words.{Decodes};
 ghost use Rattle.trace_model.specs.declared.limits.TheConstants.{MAX_IMAGE};
 

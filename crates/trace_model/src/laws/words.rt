@@ -2,7 +2,9 @@
 ghost use Rattle.std.specs.Prelude.{◌≡◌, ℕ, ◌≤◌, ◌⊎◌, List, length, All};
 ghost use Rattle.trace_model.specs.Faults.{Cause, IsWordFault, HasWord, HasEnding, HasFault};
 ghost use Rattle.trace_model.specs.FirstFault.{AreBytes, FirstFault};
-ghost use Rattle.trace_model.specs.Laws.{EncodingHasItsLength, EncodingsReadBack, OverwritingChangesOneRecord, OverwritingKeepsPlaces, OverwritingKeepsTheEnd, PlacesAreUnique, PlainReaderAgrees, ReadingIsUnique};
+ghost use Rattle.trace_model.specs.Laws.{EncodingHasItsLength, EncodingsReadBack, OverwritingChangesOneRecord};
+ghost use Rattle.trace_model.specs.Laws.{OverwritingKeepsPlaces, OverwritingKeepsTheEnd, PlacesAreUnique};
+ghost use Rattle.trace_model.specs.Laws.{PlainReaderAgrees, ReadingIsUnique};
 ghost use Rattle.trace_model.specs.Record.{Record, IsRecord};
 ghost use Rattle.trace_model.specs.Words.{Decodes};
 

@@ -3,7 +3,8 @@ ghost use Rattle.std.specs.Prelude.{◌≡◌, ℕ, ◌++◌, List, [], ◌∷�
 ghost use Rattle.text_model.specs.Text.{hex_text};
 ghost use Rattle.text_model.specs.Log.{LogLine};
 ghost use Rattle.text_model.specs.Printing.{printed_log_line};
-ghost use Rattle.world_model.specs.Printing.{Shown, printed_line, printed_missing, printed_runs, printed_collector, printed_world};
+ghost use Rattle.world_model.specs.Printing.{Shown, printed_line, printed_missing, printed_runs, printed_collector};
+ghost use Rattle.world_model.specs.Printing.{printed_world};
 
 /// The lines of a collector, and what a replay prints (its log, if it is asked for, and its collectors in their order),
 /// are the texts that are stated here.
