@@ -125,8 +125,8 @@ fn a_whole_region_tells_what_is_missing(rt: HostRuntime) -> Result<(), Fail> {
     Ok(())
 }
 
-/// Compares the pages of a region of which so many numbers were taken: of the two only the last one is left, before which
-/// so many are missing.
+/// Compares the pages of a region of which so many numbers were taken: of the two only the last one is left, before
+/// which so many are missing.
 fn compare_last(rt: &impl Abort, region: &Region, missed: u64) {
     let [seven] = region.parcels.as_slice() else {
         panic!(rt; "other parcels");

@@ -37,7 +37,8 @@ pub fn put_hex(out: &mut String, alloc: Global, bytes: &[u8]) -> Result<(), NoMe
 
 /// Puts bytes as hexadecimal digits, none as `-`.
 pub fn put_bytes(out: &mut String, alloc: Global, bytes: &[u8]) -> Result<(), NoMemory>
-    ensures some { (bytes.now ≢ []) → OnOk result (string_bytes out.new ≡ string_bytes out.old ++ encode_lower bytes.now) }
+    ensures some { (bytes.now ≢ [])
+        → OnOk result (string_bytes out.new ≡ string_bytes out.old ++ encode_lower bytes.now) }
     ensures none { (bytes.now ≡ []) → OnOk result (string_bytes out.new ≡ string_bytes out.old ++ codes "-") }
 {
     if bytes.is_empty() {

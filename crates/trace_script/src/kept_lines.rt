@@ -5,8 +5,8 @@ use std::alloc::Global;
 use std::marker::Model;
 use trace_model::NoMemory;
 
-/// The commands of a script, in the order of their lines. All are narrow ones in a text of less than 2^32 bytes that has
-/// fewer than 65,530 lines without a command.
+/// The commands of a script, in the order of their lines. All are narrow ones in a text of less than 2^32 bytes that
+/// has fewer than 65,530 lines without a command.
 #[derive(Drop)]
 pub(crate) struct KeptLines {
     narrow: Vec<Narrow>,
