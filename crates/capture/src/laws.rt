@@ -11,7 +11,8 @@ ghost use Rattle.trace_model.specs.ParcelBytes.{AgreesWith};
 ghost use Rattle.trace_model.specs.Collection.{Agree};
 ghost use Rattle.trace_model.specs.declared.limits.TheConstants.{MAX_IMAGE};
 ghost use Rattle.capture.specs.Pages.{PageRead, Page, intact, told, least_missed, IsPageOf, AreCut, parcels_from};
-ghost use Rattle.capture.specs.Rings.{AreReported, HaveCounts, IsAtMost, parcels_of_captures, FitsImage, images_from, page_written};
+ghost use Rattle.capture.specs.Rings.{AreReported, HaveCounts, IsAtMost, parcels_of_captures, FitsImage, images_from};
+ghost use Rattle.capture.specs.Rings.{page_written};
 
 /// Bytes are cut into pages of a size in one way at most.
 pub fn captures_have_one_reading()

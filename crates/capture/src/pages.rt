@@ -6,7 +6,8 @@ ghost use Rattle.page_image.specs.Contents.{IsPage};
 ghost use Rattle.page_image.specs.Images.{missed_of};
 ghost use Rattle.page_numbers.specs.Faults.{image_fault};
 ghost use Rattle.page_numbers.specs.Parcels.{as_parcel};
-ghost use Rattle.capture.specs.Pages.{Page, intact, damaged, loss_stated, told_of, least_missed, parcel_at, behind, unknown_at};
+ghost use Rattle.capture.specs.Pages.{Page, intact, damaged, loss_stated, told_of, least_missed, parcel_at, behind};
+ghost use Rattle.capture.specs.Pages.{unknown_at};
 ghost use Rattle.capture.specs.Captures.{page_read, numbers_of};
 ghost use Rattle.capture.specs.declared.pages.CaptureFault.TheVariants.{NoMemory as MemoryIs};
 
@@ -159,7 +160,8 @@ impl Capture {
     ghost use Rattle.page_image.specs.Images.{missed_of};
     ghost use Rattle.page_numbers.specs.Faults.{image_fault};
     ghost use Rattle.capture.specs.Pages.{Page, intact, damaged, Fit};
-    ghost use Rattle.capture.specs.Captures.{page_read, IsCapture, AddsPage, AddsRest, PassesNumbers, AddsPages, PassesWithin};
+    ghost use Rattle.capture.specs.Captures.{page_read, IsCapture, AddsPage, AddsRest, PassesNumbers, AddsPages};
+    ghost use Rattle.capture.specs.Captures.{PassesWithin};
 
     /// A capture of which nothing is read.
     pub fn new(alloc: Global, cpu: CpuId) -> Capture

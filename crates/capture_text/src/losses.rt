@@ -6,7 +6,8 @@ ghost use Rattle.capture.specs.Captures.{numbers_of};
 ghost use Rattle.world_model.specs.Printing.{printed_missing};
 ghost use Rattle.dump_command.specs.ImageFaults.{reader_fault_text, word_fault_text};
 ghost use Rattle.text_buffer.specs.Putting.{has_failed, Puts};
-ghost use Rattle.capture_text.specs.Printing.{json_missing, run_line, run_lines, unknown_line, unknown_lines, damaged_line, reported_line};
+ghost use Rattle.capture_text.specs.Printing.{json_missing, run_line, run_lines, unknown_line, unknown_lines};
+ghost use Rattle.capture_text.specs.Printing.{damaged_line, reported_line};
 
 use crate::form::Form;
 use crate::offsets::offset_of;

@@ -6,7 +6,9 @@ ghost use Rattle.kernel_texts.specs.Names.{event_seen, events_of};
 ghost use Rattle.kernel_texts.specs.FirstBytes.{common_fields_in};
 ghost use Rattle.text_buffer.specs.Putting.{has_failed, Puts};
 ghost use Rattle.capture_text.specs.Quoting.{quoted};
-ghost use Rattle.capture_text.specs.Names.{event_text, is_print, text_before_zero, print_text, event_or_number, print_part, named_part, known_part, json_event, json_print, json_named, json_known};
+ghost use Rattle.capture_text.specs.Names.{event_text, is_print, text_before_zero, print_text, event_or_number};
+ghost use Rattle.capture_text.specs.Names.{print_part, named_part, known_part, json_event, json_print, json_named};
+ghost use Rattle.capture_text.specs.Names.{json_known};
 
 use crate::quoting::{put_name, put_quoted};
 use command_io::Sink;

@@ -25,7 +25,8 @@ pub struct Printer<'a> {
 }
 
 impl<'a> Printer<'a> {
-    ghost use Rattle.std.specs.Prelude.{◌≡◌, ℕ, ◌↔◌, ◌++◌, List, [], Option, true, false, IfOk, OnOk, OnErr, IsErr, slice_index_or};
+    ghost use Rattle.std.specs.Prelude.{◌≡◌, ℕ, ◌↔◌, ◌++◌, List, [], Option, true, false, IfOk, OnOk, OnErr, IsErr};
+    ghost use Rattle.std.specs.Prelude.{slice_index_or};
     ghost use Rattle.std.specs.Io.KnownBytes.{Appends};
     ghost use Rattle.trace_dat.specs.Contents.{EventFormat};
     ghost use Rattle.command_io.specs.CommandRun.{AppendsPrefix};

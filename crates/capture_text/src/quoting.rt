@@ -3,7 +3,8 @@ ghost use Rattle.std.specs.Prelude.{◌≡◌, ◌<◌, ◌≤◌, ◌↔◌, �
 ghost use Rattle.text_values.specs.Digits.{pair_of};
 ghost use Rattle.std.specs.Str.{is_utf8};
 ghost use Rattle.text_buffer.specs.Putting.{has_failed, Puts};
-ghost use Rattle.capture_text.specs.Quoting.{shown_byte, shown_name, escaped_ascii, escaped, escaped_text, IsPlain, quoted};
+ghost use Rattle.capture_text.specs.Quoting.{shown_byte, shown_name, escaped_ascii, escaped, escaped_text, IsPlain};
+ghost use Rattle.capture_text.specs.Quoting.{quoted};
 
 use command_io::Sink;
 use std::str::from_utf8;

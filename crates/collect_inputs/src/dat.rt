@@ -1,5 +1,6 @@
 //! A file of trace-cmd.
-ghost use Rattle.std.specs.Prelude.{◌≡◌, ℕ, true, ◌+◌, ◌-◌, ◌^◌, List, [], ◌∷◌, ◌++◌, map, min, length, Err, Ok, IfErr, IsOk, OnOk};
+ghost use Rattle.std.specs.Prelude.{◌≡◌, ℕ, true, ◌+◌, ◌-◌, ◌^◌, List, [], ◌∷◌, ◌++◌, map, min, length, Err, Ok, IfErr};
+ghost use Rattle.std.specs.Prelude.{IsOk, OnOk};
 ghost use Rattle.trace_model.specs.Image.{unknown};
 ghost use Rattle.trace_dat.specs.Contents.{EventFormat, format_seen, buffer_seen, contents_seen};
 ghost use Rattle.trace_dat.specs.Versions.{reading_of};

@@ -9,7 +9,8 @@ ghost use Rattle.capture.specs.Captures.{IsCapture};
 ghost use Rattle.kernel_texts.specs.Counters.{counters_in};
 ghost use Rattle.collect_inputs.specs.Files.{ModelPart, parts_of_cpu};
 ghost use Rattle.collect_inputs.specs.Losses.{overrun_at, overrun_of, missed_in, loss_of};
-ghost use Rattle.collect_inputs.specs.Captures.{IsCpuRead, AreCpusRead, AreCpusCaptured, IsCpuPast, IsCpuCaptured, IsOwnPast};
+ghost use Rattle.collect_inputs.specs.Captures.{IsCpuRead, AreCpusRead, AreCpusCaptured, IsCpuPast, IsCpuCaptured};
+ghost use Rattle.collect_inputs.specs.Captures.{IsOwnPast};
 ghost use Rattle.collect_inputs.specs.Giving.{part_seen};
 
 use crate::captured::CpuCapture;

@@ -1,10 +1,14 @@
 //! The parse of the program's command line.
-ghost use Rattle.std.specs.Prelude.{◌≡◌, ◌≢◌, ◌⊎◌, ℕ, List, ◌∷◌, [], map, codes, Some, None, Ok, Err, IfOk, IfSome, true, false};
+ghost use Rattle.std.specs.Prelude.{◌≡◌, ◌≢◌, ◌⊎◌, ℕ, List, ◌∷◌, [], map, codes, Some, None, Ok, Err, IfOk, IfSome};
+ghost use Rattle.std.specs.Prelude.{true, false};
 ghost use Rattle.clap.specs.declared.builder.command.Command.TheViews.{out-Command as fields_of};
 ghost use Rattle.clap.specs.Words.{HasMatchesOf, Text, app_of, subcommand_name_of, subcommand_rows_of, with_rule};
 ghost use Rattle.command_line.specs.Calls.{IsAsked, IsAskedToRecover, IsInRange};
 ghost use Rattle.command_line.specs.declared.call.CollectCall.{CollectCall};
-ghost use Rattle.command_line.specs.CommandLine.{HasSource, IsAccepted, IsCallOf, IsParseOf, collect_commands, collect_options, command_line, flag_rule, flag_text, image_commands, is_version, name_of, option_rule, recover_command, script_commands, values_rule};
+ghost use Rattle.command_line.specs.CommandLine.{HasSource, IsAccepted, IsCallOf, IsParseOf, collect_commands};
+ghost use Rattle.command_line.specs.CommandLine.{collect_options, command_line, flag_rule, flag_text, image_commands};
+ghost use Rattle.command_line.specs.CommandLine.{is_version, name_of, option_rule, recover_command, script_commands};
+ghost use Rattle.command_line.specs.CommandLine.{values_rule};
 
 use crate::call::{Call, CallFault};
 use crate::collect::collect_call;

@@ -1,7 +1,8 @@
 //! How the words of `collect` and `recover` are read.
 ghost use Rattle.std.specs.Prelude.{◌≡◌, None, MatchOption, option_map};
 ghost use Rattle.std.specs.List.{position as first_place};
-ghost use Rattle.command_line.specs.FileWords.{IsSplitAt, file_word, is_equals, is_input as is_input_path, is_number as is_number_text, number_in as number_in_text, page_word};
+ghost use Rattle.command_line.specs.FileWords.{IsSplitAt, file_word, is_equals, is_input as is_input_path};
+ghost use Rattle.command_line.specs.FileWords.{is_number as is_number_text, number_in as number_in_text, page_word};
 ghost use Rattle.command_line.specs.Calls.{file_seen};
 
 use crate::call::CpuFile;

@@ -2,7 +2,8 @@
 ghost use Rattle.std.specs.Prelude.{◌≡◌, ◌++◌, OnOk, OnErr, flat_map};
 ghost use Rattle.std.specs.Fmt.{decimal};
 ghost use Rattle.trace_model.specs.Sublist.{IsPrefix};
-ghost use Rattle.text_model.specs.Printing.{delivery_text, line_text, log_line_text, page_text, printed_log_line, refusal_text};
+ghost use Rattle.text_model.specs.Printing.{delivery_text, line_text, log_line_text, page_text, printed_log_line};
+ghost use Rattle.text_model.specs.Printing.{refusal_text};
 ghost use Rattle.ring_frames.specs.Answers.{refusal_of};
 ghost use Rattle.log_text.specs.LogTypes.{shown_log, shown_log_line};
 

@@ -1,5 +1,6 @@
 //! An open page. It is lent whole, and acts as the bytes of one payload in it.
-ghost use Rattle.std.specs.Prelude.{◌≡◌, ◌+◌, ◌-◌, ◌*◌, ◌≤◌, ◌<◌, true, false, length, replicate, if◌then◌else◌, IfSome};
+ghost use Rattle.std.specs.Prelude.{◌≡◌, ◌+◌, ◌-◌, ◌*◌, ◌≤◌, ◌<◌, true, false, length, replicate, if◌then◌else◌};
+ghost use Rattle.std.specs.Prelude.{IfSome};
 ghost use Rattle.trace_model.specs.declared.limits.TheConstants.{MOMENT_LIMIT, MAX_SIZE};
 ghost use Rattle.trace_model.specs.Words.{padded, slot_len};
 ghost use Rattle.trace_model.specs.Reading.{EndsInRecord};

@@ -71,7 +71,8 @@ fn next_body(alloc: Global, size: usize, body: Option<Body>) -> Result<Body, NoM
 }
 
 impl ReaderEnd {
-    ghost use Rattle.std.specs.Prelude.{◌≡◌, ◌≢◌, ◌<◌, ◌≤◌, ◌%◌, ◌++◌, ◌↔◌, List, [], ◌∷◌, Some, MatchOption, IfOk, IsTrue};
+    ghost use Rattle.std.specs.Prelude.{◌≡◌, ◌≢◌, ◌<◌, ◌≤◌, ◌%◌, ◌++◌, ◌↔◌, List, [], ◌∷◌, Some, MatchOption, IfOk};
+    ghost use Rattle.std.specs.Prelude.{IsTrue};
     ghost use Rattle.trace_model.specs.declared.limits.TheConstants.{MAX_CPUS, MIN_SIZE, MAX_SIZE};
     ghost use Rattle.page_numbers.specs.Parcels.{ParcelValue};
     ghost use Rattle.ring_steps.specs.NewRings.{first_reading};

@@ -6,7 +6,8 @@ ghost use Rattle.parcel_streams.specs.Answers.{piece_seen};
 ghost use Rattle.fleet_collector.specs.Pieces.{HasKnownCpu, IsRefusal};
 ghost use Rattle.stream_command.specs.Reading.{IsOrigin};
 ghost use Rattle.recover_command.specs.Telling.{MayBeTold};
-ghost use Rattle.recover_command.specs.Gathering.{gathering_of, IsTied, Has, AddsOne, AddsAll, StopsAmong, AddsRegion, StopsInRegion, AddsRegions, StopsInRegions};
+ghost use Rattle.recover_command.specs.Gathering.{gathering_of, IsTied, Has, AddsOne, AddsAll, StopsAmong, AddsRegion};
+ghost use Rattle.recover_command.specs.Gathering.{StopsInRegion, AddsRegions, StopsInRegions};
 
 use command_io::Sink;
 use fleet_collector::{Fleet, PieceRefusal};

@@ -1,7 +1,8 @@
 //! What a run writes, and how it ends then.
 ghost use Rattle.std.specs.Prelude.{◌≡◌, ◌⊎◌, ◌↔◌, IsTrue, false, ℕ, List, [], Option, IfErr, OnOk};
 ghost use Rattle.text_buffer.specs.Putting.{has_failed, HasPut};
-ghost use Rattle.recover_command.specs.Runs.{IsTextWritten, IsMemoryLine, AreSound, IsEndingFor, IsListed, TellsUnread, TellsStop};
+ghost use Rattle.recover_command.specs.Runs.{IsTextWritten, IsMemoryLine, AreSound, IsEndingFor, IsListed, TellsUnread};
+ghost use Rattle.recover_command.specs.Runs.{TellsStop};
 
 use crate::ending::Ending;
 use crate::gather::{Stop, StoppedAt};

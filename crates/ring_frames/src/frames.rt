@@ -39,7 +39,8 @@ impl Model for Frames {
 
 impl Frames {
     ghost use Rattle.std.specs.Prelude.{◌≡◌, ◌≢◌, ℕ, true, false, ◌+◌, ◌≤◌, ◌<◌, ◌↔◌, List, [], length, IfOk, IsTrue};
-    ghost use Rattle.trace_model.specs.declared.limits.TheConstants.{MIN_PAGES, MAX_PAGES, MIN_SIZE, MAX_SIZE, MAX_FRAMES, LINK_FILLS};
+    ghost use Rattle.trace_model.specs.declared.limits.TheConstants.{MIN_PAGES, MAX_PAGES, MIN_SIZE, MAX_SIZE};
+    ghost use Rattle.trace_model.specs.declared.limits.TheConstants.{MAX_FRAMES, LINK_FILLS};
     ghost use Rattle.trace_model.specs.History.{HistoryEvent};
     ghost use Rattle.trace_model.specs.Ring.{HasRingLimits};
     ghost use Rattle.trace_model.specs.Steps.{MayContinue};

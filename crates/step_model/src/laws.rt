@@ -1,5 +1,6 @@
 //! Laws of step texts.
-ghost use Rattle.step_model.specs.StepLaws.{ChangesLeadOn, CountsFollowSteps, GainsLeadOn, KeysAreAll, TextsAreOfWorlds, TextsAreOne};
+ghost use Rattle.step_model.specs.StepLaws.{ChangesLeadOn, CountsFollowSteps, GainsLeadOn, KeysAreAll};
+ghost use Rattle.step_model.specs.StepLaws.{TextsAreOfWorlds, TextsAreOne};
 
 /// What a step prints, assigned to what was seen of the ring before it, is what is seen of it after it, for each step
 /// from a state that steps reach; and all keys of a new ring are what is seen of it. So a page that assigns and draws,

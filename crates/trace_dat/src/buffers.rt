@@ -4,7 +4,8 @@ ghost use Rattle.trace_dat.specs.Parts.{seen};
 ghost use Rattle.trace_dat.specs.Fields.{Gives, with_front, with_list, all_at, each_of};
 ghost use Rattle.trace_dat.specs.Contents.{recorded_seen, buffer_seen};
 ghost use Rattle.trace_dat.specs.Entries.{option_seen};
-ghost use Rattle.trace_dat.specs.Buffers.{pages_at, numbered_pages_at, buffer_at, instance_at, instance_of, stated_buffer_at, buffer_of, counters_of};
+ghost use Rattle.trace_dat.specs.Buffers.{pages_at, numbered_pages_at, buffer_at, instance_at, instance_of};
+ghost use Rattle.trace_dat.specs.Buffers.{stated_buffer_at, buffer_of, counters_of};
 
 use crate::contents::{Buffer, CpuPages};
 use crate::entries::{BUFFER, COUNTERS, Entry};

@@ -24,7 +24,8 @@ impl<'a> Part<'a> {
     ghost use Rattle.std.specs.List.{starts_with};
     ghost use Rattle.std.specs.Int.{w16, w32, w64};
     ghost use Rattle.trace_dat.specs.Parts.{seen};
-    ghost use Rattle.trace_dat.specs.Fields.{Gives, behind, front, part_at, number_at, block_at, text_at, expected_at, pointed_at, range_at};
+    ghost use Rattle.trace_dat.specs.Fields.{Gives, behind, front, part_at, number_at, block_at, text_at, expected_at};
+    ghost use Rattle.trace_dat.specs.Fields.{pointed_at, range_at};
 
     /// The fault of this cause at the front.
     pub(crate) fn fault(self, cause: Cause) -> ReadError

@@ -5,7 +5,8 @@ ghost use Rattle.trace_dat.specs.Parts.{seen};
 ghost use Rattle.trace_dat.specs.Fields.{Gives, with_front, with_list, each_of};
 ghost use Rattle.trace_dat.specs.Contents.{format_seen};
 ghost use Rattle.trace_dat.specs.Entries.{option_seen};
-ghost use Rattle.trace_dat.specs.Sections.{section_body_at, section_at, place_seen, linked_at, link_from, link_at, chained_options_at, ring_formats_at, event_formats_at, formats_of};
+ghost use Rattle.trace_dat.specs.Sections.{section_body_at, section_at, place_seen, linked_at, link_from, link_at};
+ghost use Rattle.trace_dat.specs.Sections.{chained_options_at, ring_formats_at, event_formats_at, formats_of};
 
 use crate::contents::Format;
 use crate::entries::{Entry, FORMATS, OPTIONS, RING_FORMATS, put_options};

@@ -64,7 +64,11 @@ pub struct FleetLine {
 }
 
 ghost use Rattle.std.specs.Prelude.{◌≡◌};
-ghost use Rattle.tracering_c.specs.FleetCodes.{piece_code, parcel_refusal_code, mark_code, refusal_code, added_code, answer_code, answer_used, answer_at, marked_code, marked_at, merge_code, merged_code, packed_code, packed_len, found_code, frontier_code, frontier_moment, given_code, next_line, line_at, parcel_number, mark_number, refusal_number, place_at};
+ghost use Rattle.tracering_c.specs.FleetCodes.{piece_code, parcel_refusal_code, mark_code, refusal_code, added_code};
+ghost use Rattle.tracering_c.specs.FleetCodes.{answer_code, answer_used, answer_at, marked_code, marked_at, merge_code};
+ghost use Rattle.tracering_c.specs.FleetCodes.{merged_code, packed_code, packed_len, found_code, frontier_code};
+ghost use Rattle.tracering_c.specs.FleetCodes.{frontier_moment, given_code, next_line, line_at, parcel_number};
+ghost use Rattle.tracering_c.specs.FleetCodes.{mark_number, refusal_number, place_at};
 
 /// The number of why bytes have no piece at their front.
 fn code_of_piece(fault: PieceFault) -> i32

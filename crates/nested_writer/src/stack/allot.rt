@@ -18,7 +18,8 @@ impl WriterStack {
     ghost use Rattle.std.specs.Prelude.{◌≡◌, ℕ, ◌↔◌, max, [], ◌∷◌, List, Option, IsTrue, IfSome, IfOk, IfErr, OnOk};
     ghost use Rattle.trace_model.specs.History.{HistoryEvent, reserve};
     ghost use Rattle.nested_writer.specs.Stack.{next_number};
-    ghost use Rattle.nested_writer.specs.Calls.{with_progress, after_leave, IsTop, WantsPage, IsCrowded, IsWorn, ReservesRecord, HasRecordRoom, IsTopSlot};
+    ghost use Rattle.nested_writer.specs.Calls.{with_progress, after_leave, IsTop, WantsPage, IsCrowded, IsWorn};
+    ghost use Rattle.nested_writer.specs.Calls.{ReservesRecord, HasRecordRoom, IsTopSlot};
     ghost use Rattle.nested_writer.specs.Ends.{MayEndTop};
     ghost use Rattle.nested_writer.specs.Kept.{SameFills, SamePages};
     ghost use Rattle.nested_writer.specs.Next.{IsReadyForPage, IsAllottedTo, IsSameFrame, IsRefusedTo};

@@ -20,7 +20,8 @@ impl WriterStack {
     ghost use Rattle.trace_model.specs.Packing.{tail_of};
     ghost use Rattle.trace_model.specs.Words.{padded};
     ghost use Rattle.nested_writer.specs.Allotted.{HasEvents};
-    ghost use Rattle.nested_writer.specs.AtOnce.{MayStand, FitsAtOnce, with_written, with_left, with_record, IsShortAlone};
+    ghost use Rattle.nested_writer.specs.AtOnce.{MayStand, FitsAtOnce, with_written, with_left, with_record};
+    ghost use Rattle.nested_writer.specs.AtOnce.{IsShortAlone};
     ghost use Rattle.nested_writer.specs.Promises.{WritesWhatFits, StandsAgain};
     ghost use Rattle.nested_writer.specs.Stack.{opened};
     ghost use Rattle.nested_writer.specs.Calls.{HasRecordRoom, with_bottom, IsAtBottom, MayAddPage};

@@ -21,7 +21,8 @@ impl Frames {
     ghost use Rattle.ring_frames.specs.Value.{phase_of};
     ghost use Rattle.ring_frames.specs.Answers.{KeepsPayloads, ZerosSlot};
     ghost use Rattle.ring_frames.specs.Phases.{with_left_phase, left_answer, as_answer};
-    ghost use Rattle.ring_frames.specs.Steps.{MakesPrivate, IsFrames, AreSomeFrames, GoesOnIn, IsNotedIn, BeginsAgain, LeavesWithout, IsCloseTop};
+    ghost use Rattle.ring_frames.specs.Steps.{MakesPrivate, IsFrames, AreSomeFrames, GoesOnIn, IsNotedIn, BeginsAgain};
+    ghost use Rattle.ring_frames.specs.Steps.{LeavesWithout, IsCloseTop};
 
     /// What the frame on top was pushed with, if it is a record frame that tried nothing yet, and its record is plain
     /// (`docs/GLOSSARY.md`): short, and far enough from the page's end for any short record. `None` says nothing of the
