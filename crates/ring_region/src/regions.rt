@@ -27,7 +27,8 @@ pub struct Region {
     pub header: Header,
     /// Its pages as parcels, by rising fill, but for those that were passed, which end below `taken`. Before each of
     /// them the numbers from the end of the one before it on are missing; before the first one those from `taken` on,
-    /// unless it begins below. If any slot is damaged, none is missing: nothing is known of what lies between the others.
+    /// unless it begins below. If any slot is damaged, none is missing: nothing is known of what lies between the
+    /// others.
     pub parcels: Vec<Parcel>,
     /// The slots that are damaged: those that aren't pages, in their order, and then those that can't be beside others.
     pub damaged: Vec<Damaged>,

@@ -74,8 +74,8 @@ impl WriterStack {
         Wrote::Record
     }
 
-    /// `write_alone`, for a record that `write_if_short` didn't write. Most of these have no room in the tail, so that is
-    /// looked at first.
+    /// `write_alone`, for a record that `write_if_short` didn't write. Most of these have no room in the tail, so that
+    /// is looked at first.
     #[inline(always)]
     pub fn write_any(&mut self, moment: u64, payload: &[u8]) -> Wrote
         requires stack { IsReachedStack self.old }
