@@ -41,7 +41,8 @@ pub struct Collecting<'a> {
 /// Writes a text, and answers how that ends.
 fn write_line<W: Sink>(writer: &mut W, line: &[u8], wanted: Ending) -> Ending
     requires { W.failed writer.old ≡ false }
-    ensures { IsTextWritten (W.contents writer.old) (W.contents writer.new) (W.failed writer.new) line.now wanted result }
+    ensures { IsTextWritten (W.contents writer.old) (W.contents writer.new) (W.failed writer.new) line.now
+        wanted result }
 {
     match write_all(writer, line) {
         Ok(()) => wanted,
