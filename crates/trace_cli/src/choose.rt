@@ -6,6 +6,7 @@ ghost use Rattle.piece_source.specs.Readers.{peeked_unread};
 
 use crate::collect::collect_captures;
 use crate::inputs::{Reader, Trial, open_inputs};
+use crate::kept::is_kept_in;
 use crate::streams::collect_pieces;
 use collect_inputs::Input;
 use command_io::{END_FAILED, Std, USAGE, print_memory_line};
@@ -49,19 +50,22 @@ fn are_captures(inputs: &[Input<Reader<'_>>]) -> bool
 }
 
 /// Whether a file is both read and written.
-fn keep_is_read(asked: &CollectCall<'_>) -> bool {
+fn keep_is_read(rt: &HostRuntime, asked: &CollectCall<'_>) -> bool {
     match asked.keep {
-        Some(path) => asked.files.iter().any(|file| file.path == path),
+        Some(kept) => asked
+            .files
+            .iter()
+            .any(|file| is_kept_in(rt, file.path, kept)),
         None => false,
     }
 }
 
 /// What is wrong with the options, whatever the files have.
-fn wrong_options(asked: &CollectCall<'_>) -> Option<&'static str> {
+fn wrong_options(rt: &HostRuntime, asked: &CollectCall<'_>) -> Option<&'static str> {
     if asked.keep.is_some() && asked.parcels {
         return Some(BOTH);
     }
-    if keep_is_read(asked) {
+    if keep_is_read(rt, asked) {
         return Some(KEEP_IS_READ);
     }
     None
@@ -77,7 +81,7 @@ pub(crate) fn refuse(rt: &HostRuntime, sentence: &str) -> u8 {
 fn list<'b>(rt: &HostRuntime, asked: &CollectCall<'b>) -> Result<u8, Trial<'b>>
     requires { IsInRange asked.now }
 {
-    if let Some(sentence) = wrong_options(asked) {
+    if let Some(sentence) = wrong_options(rt, asked) {
         return Ok(refuse(rt, sentence));
     }
     let is_watched = rt.stderr().is_terminal();

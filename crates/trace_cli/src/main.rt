@@ -6,6 +6,7 @@ mod answer;
 mod choose;
 mod collect;
 mod inputs;
+mod kept;
 mod laws;
 mod recover;
 mod streams;

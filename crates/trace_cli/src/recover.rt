@@ -4,6 +4,7 @@ ghost use Rattle.command_io.specs.Ends.{has_failed};
 
 use crate::choose::{KEEP_IS_READ, refuse};
 use crate::inputs::{Opened, Trial, open_input, open_output, trial_of};
+use crate::kept::is_kept_in;
 use crate::unkept::Unkept;
 use capture_text::Form;
 use command_io::{END_FAILED, INPUT_TOO_LONG, Std, WRITE_FAILED, print_memory_line};
@@ -103,16 +104,16 @@ fn list<'b>(
 }
 
 /// Whether a file is both read and written.
-fn keep_is_read(asked: &RecoverCall<'_>) -> bool {
+fn keep_is_read(rt: &HostRuntime, asked: &RecoverCall<'_>) -> bool {
     match asked.keep {
-        Some(path) => asked.files.iter().any(|file| *file == path),
+        Some(kept) => asked.files.iter().any(|file| is_kept_in(rt, file, kept)),
         None => false,
     }
 }
 
 /// Lists the files, and gives the exit status.
 fn list_files<'b>(rt: &HostRuntime, asked: &RecoverCall<'b>) -> Result<u8, Trial<'b>> {
-    if keep_is_read(asked) {
+    if keep_is_read(rt, asked) {
         return Ok(refuse(rt, KEEP_IS_READ));
     }
     let is_watched = rt.stderr().is_terminal();
