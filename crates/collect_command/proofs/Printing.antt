@@ -28,7 +28,9 @@ use Rattle.capture_text.specs.declared.printer.Printer.{Printer}
 use Rattle.capture_text.specs.Printing.{record_line, unknown_lines, damaged_lines}
 use Rattle.capture_text.specs.Printed.{HasPrinted, Prints}
 use Rattle.collect_command.specs.Gathered.{AreReadFrom}
-use Rattle.collect_command.specs.Listings.{all_unknown, all_damaged, are_all_intact, ending_of, IsTextWritten}
+use Rattle.command_io.specs.Written.{IsTextWritten}
+use Rattle.collect_command.specs.declared.ending.Ending.TheVariants.{NotWritten}
+use Rattle.collect_command.specs.Listings.{all_unknown, all_damaged, are_all_intact, ending_of}
 
 -- ---- one text after the other
 
@@ -188,7 +190,8 @@ pub ended : {T F : Type 0} (result : Result T F) (failed is_intact : Bool) (cont
     (text : List ℕ)
     → OnOk result (Appends contents after text) → OnErr result (AppendsPrefix contents after text)
     → ((failed ≡ true) ↔ IsErr result)
-    → IsTextWritten contents after failed text (ending_of true is_intact) (ending_of (is_ok result) is_intact)
+    → IsTextWritten NotWritten contents after failed text (ending_of true is_intact)
+    (ending_of (is_ok result) is_intact)
 ended (Ok x) failed is_intact contents after text all prefix fault = record {
   all = λ sound. (all, refl);
   cut_off = λ broken. absurd (true≢false (sym (fault.0 broken)));

@@ -1,10 +1,9 @@
 -- What is printed of captures.
 use Rattle.std.specs.Prelude.{◌≡◌, ℕ, suc, Bool, true, false, ◌&&◌, if◌then◌else◌, List, [], ◌∷◌, ◌++◌, map, flat_map}
 use Rattle.std.specs.Prelude.{Option}
-use Rattle.std.specs.Io.KnownBytes.{Appends}
 use Rattle.trace_dat.specs.Contents.{EventFormat}
 use Rattle.world_model.specs.Printing.{Shown}
-use Rattle.command_io.specs.CommandRun.{AppendsPrefix}
+use Rattle.command_io.specs.Written.{IsTextWritten}
 use Rattle.capture.specs.Pages.{Page, unknown_from, damages_from}
 use Rattle.capture.specs.Rings.{parcels_of_captures}
 use Rattle.collector_text.specs.Prints.{IsPrintOf}
@@ -44,16 +43,10 @@ listing_text form formats parts shown captures =
 abbrev pub ending_of : (is_written is_intact : Bool) → Ending
 ending_of is_written is_intact = if is_written then (if is_intact then Done else Damaged) else NotWritten
 
--- The text was written, or a beginning of it, and not all, and then the ending says so.
-pub record IsTextWritten (contents after : Option (List ℕ)) (failed : Bool) (text : List ℕ) (wanted ending : Ending)
-    : Type 0 where
-  pub all : failed ≡ false → Appends contents after text × (ending ≡ wanted)
-  pub cut_off : failed ≡ true → AppendsPrefix contents after text × (ending ≡ NotWritten)
-
 -- What the captures have and miss was written.
 pub record IsListed (form : Form) (formats : Option (List EventFormat)) (parts : List ModelPart)
     (captures : List (List Page)) (contents after : Option (List ℕ)) (failed : Bool) (ending : Ending) : Type 0 where
   pub shown : Shown
   pub is_print : IsPrintOf (parcels_of_captures 0 captures) shown
-  pub written : IsTextWritten contents after failed (listing_text form formats parts shown captures)
+  pub written : IsTextWritten NotWritten contents after failed (listing_text form formats parts shown captures)
       (ending_of true (are_all_intact captures)) ending

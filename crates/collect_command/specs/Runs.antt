@@ -4,6 +4,7 @@ use Rattle.std.specs.Prelude.{None}
 use Rattle.trace_model.specs.declared.limits.TheConstants.{MAX_CPUS}
 use Rattle.trace_dat.specs.Contents.{EventFormat}
 use Rattle.command_io.specs.declared.command.TheConstants.{MEMORY_LINE}
+use Rattle.command_io.specs.Written.{IsTextWritten}
 use Rattle.capture.specs.Pages.{Page}
 use Rattle.collect_inputs.specs.declared.captured.Input.{Input}
 use Rattle.collect_inputs.specs.declared.fault.InputFault.{InputFault}
@@ -15,9 +16,10 @@ use Rattle.capture_text.specs.declared.form.Form.{Form}
 use Rattle.collect_command.specs.declared.ending.Collected.{Collected}
 use Rattle.collect_command.specs.declared.ending.Ending.{Ending}
 use Rattle.collect_command.specs.declared.ending.Ending.TheVariants.{Malformed, Numbers, NoMemory, NotRead}
+use Rattle.collect_command.specs.declared.ending.Ending.TheVariants.{NotWritten}
 use Rattle.collect_command.specs.Gathered.{AreCpusPages}
 use Rattle.collect_command.specs.Faults.{fault_line, numbers_line}
-use Rattle.collect_command.specs.Listings.{IsTextWritten, IsListed}
+use Rattle.collect_command.specs.Listings.{IsListed}
 
 -- How files are listed: the form of lines, the size of a raw page, and whether events are named, by the formats in the
 -- files and by these.
@@ -48,16 +50,16 @@ pub record IsUnwritten (contents after : Option (List ℕ)) (failed : Bool) : Ty
 
 -- the line for refused memory is all that is written
 abbrev pub IsMemoryLine : (contents after : Option (List ℕ)) (failed : Bool) → Ending → Type 0
-IsMemoryLine contents after failed ending = IsTextWritten contents after failed MEMORY_LINE NoMemory ending
+IsMemoryLine contents after failed ending = IsTextWritten NotWritten contents after failed MEMORY_LINE NoMemory ending
 
 -- what is written if this input can't be read for this fault
 abbrev pub TellsFault : (index : ℕ) → InputFault → (contents after : Option (List ℕ)) (failed : Bool) → Ending → Type 0
 TellsFault index faults.Read contents after failed ending = IsUnwritten contents after failed × (ending ≡ NotRead index)
 TellsFault index (faults.File fault) contents after failed ending =
-    IsTextWritten contents after failed (fault_line fault) (Malformed index fault) ending
+    IsTextWritten NotWritten contents after failed (fault_line fault) (Malformed index fault) ending
     ⊎ IsMemoryLine contents after failed ending
 TellsFault index faults.Numbers contents after failed ending =
-    IsTextWritten contents after failed numbers_line Numbers ending
+    IsTextWritten NotWritten contents after failed numbers_line Numbers ending
 TellsFault index faults.NoMemory contents after failed ending = IsMemoryLine contents after failed ending
 
 module _ {R : Type 0} (remaining : R → Option (List ℕ)) (has_failed : R → Bool) where

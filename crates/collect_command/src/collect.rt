@@ -8,7 +8,7 @@ ghost use Rattle.capture_text.specs.Printed.{AreNames};
 ghost use Rattle.collect_inputs.specs.Files.{File};
 ghost use Rattle.collect_inputs.specs.Captures.{AreCaptured};
 ghost use Rattle.collect_command.specs.Asking.{asked_by};
-ghost use Rattle.collect_command.specs.Listings.{IsTextWritten};
+ghost use Rattle.command_io.specs.Written.{IsTextWritten};
 ghost use Rattle.collect_command.specs.Runs.{ListsFiles, TellsFault, IsMemoryLine, IsCollectRun};
 
 use crate::ending::{Collected, Ending};
@@ -16,7 +16,7 @@ use crate::fault_line::fault_line;
 use crate::listing::print_listing;
 use capture_text::Form;
 use collect_inputs::{Captured, FileFault, Input, InputFault, Unread, read_inputs};
-use command_io::{MEMORY_LINE, Sink, Source, write_all};
+use command_io::{MEMORY_LINE, Sink, Source, write_text};
 use kernel_texts::EventNames;
 use std::alloc::Global;
 use trace_dat::Format;
@@ -41,13 +41,10 @@ pub struct Collecting<'a> {
 /// Writes a text, and answers how that ends.
 fn write_line<W: Sink>(writer: &mut W, line: &[u8], wanted: Ending) -> Ending
     requires { W.failed writer.old ≡ false }
-    ensures { IsTextWritten (W.contents writer.old) (W.contents writer.new) (W.failed writer.new) line.now
-        wanted result }
+    ensures { IsTextWritten Ending.NotWritten (W.contents writer.old) (W.contents writer.new) (W.failed writer.new)
+        line.now wanted result }
 {
-    match write_all(writer, line) {
-        Ok(()) => wanted,
-        Err(_) => Ending::NotWritten,
-    }
+    write_text(writer, line, wanted, Ending::NotWritten)
 }
 
 /// Reports that memory was refused.

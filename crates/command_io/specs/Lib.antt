@@ -3,3 +3,4 @@ pub mod Failing
 pub mod Counting
 pub mod Output
 pub mod CommandRun
+pub mod Written

@@ -10,6 +10,7 @@ pub mod laws;
 mod messages;
 mod output;
 mod status;
+mod written;
 
 pub use command::{MEMORY_LINE, Subcommand, carry_out, print_memory_line};
 pub use ends::{Sink, Source, Std};
@@ -17,3 +18,4 @@ pub use input::{InputFault, READ_CHUNK, read_all};
 pub use messages::{EndFault, INPUT_TOO_LONG, READ_FAILED, USAGE_LINE, WRITE_FAILED, message_for};
 pub use output::{Output, OutputFault, THREAD_LINE, write_all};
 pub use status::{DONE, END_FAILED, NO_MEMORY, REFUSED, USAGE};
+pub use written::write_text;

@@ -1,7 +1,6 @@
 -- What a run of `recover` does with its inputs and its sinks.
 use Rattle.std.specs.Prelude.{◌≡◌, ◌⊎◌, ℕ, All, Bool, true, false, List, [], ◌∷◌, ◌++◌, length, Option}
-use Rattle.std.specs.Io.KnownBytes.{Appends}
-use Rattle.command_io.specs.CommandRun.{AppendsPrefix}
+use Rattle.command_io.specs.Written.{IsTextWritten}
 use Rattle.command_io.specs.declared.command.TheConstants.{MEMORY_LINE}
 use Rattle.parcel_streams.specs.Pieces.{AreAllPieces}
 use Rattle.parcel_streams.specs.Answers.{pieces_seen}
@@ -28,15 +27,9 @@ use Rattle.recover_command.specs.Telling.{AreToldBy}
 use Rattle.recover_command.specs.Gathering.{IsRegionStop}
 use Rattle.recover_command.specs.Lines.{damaged_lines, region_line}
 
--- The text was written, or a beginning of it, and not all, and then the ending says so.
-pub record IsTextWritten (contents after : Option (List ℕ)) (failed : Bool) (text : List ℕ) (wanted ending : Ending)
-    : Type 0 where
-  pub all : failed ≡ false → Appends contents after text × (ending ≡ wanted)
-  pub cut_off : failed ≡ true → AppendsPrefix contents after text × (ending ≡ NotWritten)
-
 -- the line for refused memory alone
 abbrev pub IsMemoryLine : (contents after : Option (List ℕ)) (failed : Bool) → Ending → Type 0
-IsMemoryLine contents after failed ending = IsTextWritten contents after failed MEMORY_LINE NoMemory ending
+IsMemoryLine contents after failed ending = IsTextWritten NotWritten contents after failed MEMORY_LINE NoMemory ending
 
 -- ---- a listing
 
@@ -56,17 +49,20 @@ pub record IsListed (form : Form) (regions : List Region) (fleet : List (ℕ × 
   pub is_shown : IsFleetShown fleet shown
   pub wanted : Ending
   pub wanted_is : IsEndingFor regions wanted
-  pub written : IsTextWritten contents after failed (shown_text form shown ++ damaged_lines form regions) wanted ending
+  pub written : IsTextWritten NotWritten contents after failed
+      (shown_text form shown ++ damaged_lines form regions) wanted ending
 
 -- ---- why nothing is listed
 
 -- What is written if an input gives no region: nothing if a read failed or it is too long; else the line of its fault,
 -- or that of refused memory.
 abbrev pub TellsUnread : (input : ℕ) → Unread → (contents after : Option (List ℕ)) (failed : Bool) → Ending → Type 0
-TellsUnread input Read contents after failed ending = IsTextWritten contents after failed [] (NotRead input) ending
-TellsUnread input TooMany contents after failed ending = IsTextWritten contents after failed [] (TooLong input) ending
+TellsUnread input Read contents after failed ending =
+    IsTextWritten NotWritten contents after failed [] (NotRead input) ending
+TellsUnread input TooMany contents after failed ending =
+    IsTextWritten NotWritten contents after failed [] (TooLong input) ending
 TellsUnread input (Fault fault) contents after failed ending =
-    IsTextWritten contents after failed (region_line fault) (Malformed input) ending
+    IsTextWritten NotWritten contents after failed (region_line fault) (Malformed input) ending
 TellsUnread input NoRoom contents after failed ending = IsMemoryLine contents after failed ending
 
 -- what is written if a piece isn't added: the line that says why it is refused, or that of refused memory
@@ -74,7 +70,8 @@ abbrev pub TellsStop : (input : ℕ) → Stop → (contents after : Option (List
 TellsStop input NoRoomLeft contents after failed ending = IsMemoryLine contents after failed ending
 TellsStop input (Refused index at stream cpu refusal) contents after failed ending =
     ((is_memory_refusal refusal ≡ false)
-    × IsTextWritten contents after failed (fault_line at index (RefusedPiece stream cpu refusal)) (Malformed input)
+    × IsTextWritten NotWritten contents after failed (fault_line at index (RefusedPiece stream cpu refusal))
+    (Malformed input)
     ending)
     ⊎ ((is_memory_refusal refusal ≡ true) × IsMemoryLine contents after failed ending)
 

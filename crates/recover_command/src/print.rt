@@ -1,56 +1,28 @@
 //! What a run writes, and how it ends then.
 ghost use Rattle.std.specs.Prelude.{◌≡◌, ◌⊎◌, ◌↔◌, IsTrue, false, ℕ, List, [], Option, IfErr, OnOk};
 ghost use Rattle.text_buffer.specs.Putting.{has_failed, HasPut};
-ghost use Rattle.recover_command.specs.Runs.{IsTextWritten, IsMemoryLine, AreSound, IsEndingFor, IsListed, TellsUnread};
-ghost use Rattle.recover_command.specs.Runs.{TellsStop};
+ghost use Rattle.recover_command.specs.Runs.{IsMemoryLine, AreSound, IsEndingFor, IsListed, TellsUnread, TellsStop};
 
 use crate::ending::Ending;
 use crate::gather::{Stop, StoppedAt};
 use crate::lines::{put_damaged, put_region_fault};
 use crate::read::{Stopped, Unread};
 use capture_text::Form;
-use command_io::{MEMORY_LINE, Sink, write_all};
+use command_io::{MEMORY_LINE, Sink, write_text};
 use fleet_collector::Fleet;
 use fleet_text::{Listed, PieceTrouble, put_fault};
 use ring_region::Region;
 use std::alloc::Global;
+use stream_command::{finish, finish_memory};
 use text_buffer::TextBuffer;
 use trace_model::NoMemory;
-
-/// Writes what is still in the buffer, and answers how that ends.
-fn finish<W: Sink>(buffer: TextBuffer, writer: &mut W, wanted: Ending) -> Ending
-    requires { has_failed buffer ≡ W.failed writer.old }
-    ensures { (start : Option (List ℕ)) (text : List ℕ)
-        → HasPut start (W.contents writer.old) (W.failed writer.old) text buffer
-        → IsTextWritten start (W.contents writer.new) (W.failed writer.new) text wanted result }
-{
-    match buffer.finish(writer) {
-        Ok(()) => wanted,
-        Err(_) => Ending::NotWritten,
-    }
-}
-
-/// Reports that memory was refused, before anything else is put.
-fn finish_memory<W: Sink>(buffer: TextBuffer, writer: &mut W) -> Ending
-    requires { has_failed buffer ≡ W.failed writer.old }
-    ensures { (start : Option (List ℕ))
-        → HasPut start (W.contents writer.old) (W.failed writer.old) [] buffer
-        → IsMemoryLine start (W.contents writer.new) (W.failed writer.new) result }
-{
-    let mut buffer = buffer;
-    buffer.put(writer, &MEMORY_LINE);
-    finish(buffer, writer, Ending::NoMemory)
-}
 
 /// Reports that memory was refused before there was a buffer.
 pub(crate) fn tell_memory<W: Sink>(writer: &mut W) -> Ending
     requires { W.failed writer.old ≡ false }
     ensures { IsMemoryLine (W.contents writer.old) (W.contents writer.new) (W.failed writer.new) result }
 {
-    match write_all(writer, &MEMORY_LINE) {
-        Ok(()) => Ending::NoMemory,
-        Err(_) => Ending::NotWritten,
-    }
+    write_text(writer, &MEMORY_LINE, Ending::NoMemory, Ending::NotWritten)
 }
 
 /// Reports why an input gives no region.
@@ -61,13 +33,28 @@ pub(crate) fn tell_unread<W: Sink>(buffer: TextBuffer, writer: &mut W, stopped: 
         → TellsUnread stopped.input stopped.why start (W.contents writer.new) (W.failed writer.new) result }
 {
     match stopped.why {
-        Unread::Read => finish(buffer, writer, Ending::NotRead(stopped.input)),
-        Unread::TooLong => finish(buffer, writer, Ending::TooLong(stopped.input)),
-        Unread::NoMemory => finish_memory(buffer, writer),
+        Unread::Read => finish(
+            buffer,
+            writer,
+            Ending::NotRead(stopped.input),
+            Ending::NotWritten,
+        ),
+        Unread::TooLong => finish(
+            buffer,
+            writer,
+            Ending::TooLong(stopped.input),
+            Ending::NotWritten,
+        ),
+        Unread::NoMemory => finish_memory(buffer, writer, Ending::NoMemory, Ending::NotWritten),
         Unread::Fault(fault) => {
             let mut buffer = buffer;
             put_region_fault(&mut buffer, writer, fault);
-            finish(buffer, writer, Ending::Malformed(stopped.input))
+            finish(
+                buffer,
+                writer,
+                Ending::Malformed(stopped.input),
+                Ending::NotWritten,
+            )
         }
     }
 }
@@ -80,7 +67,7 @@ fn tell_stop<W: Sink>(buffer: TextBuffer, writer: &mut W, stopped: StoppedAt) ->
         → TellsStop stopped.input stopped.stop start (W.contents writer.new) (W.failed writer.new) result }
 {
     match stopped.stop {
-        Stop::NoMemory => finish_memory(buffer, writer),
+        Stop::NoMemory => finish_memory(buffer, writer, Ending::NoMemory, Ending::NotWritten),
         Stop::Refused {
             index,
             at,
@@ -90,11 +77,16 @@ fn tell_stop<W: Sink>(buffer: TextBuffer, writer: &mut W, stopped: StoppedAt) ->
         } => {
             let trouble = PieceTrouble::Refused(stream, cpu, refusal);
             if trouble.is_no_memory() {
-                return finish_memory(buffer, writer);
+                return finish_memory(buffer, writer, Ending::NoMemory, Ending::NotWritten);
             }
             let mut buffer = buffer;
             put_fault(&mut buffer, writer, at, index, trouble);
-            finish(buffer, writer, Ending::Malformed(stopped.input))
+            finish(
+                buffer,
+                writer,
+                Ending::Malformed(stopped.input),
+                Ending::NotWritten,
+            )
         }
     }
 }
@@ -142,9 +134,9 @@ fn list_fleet<W: Sink>(
             let mut buffer = buffer;
             listed.put(&mut buffer, writer, form);
             put_damaged(&mut buffer, writer, form, regions);
-            finish(buffer, writer, ending_for(regions))
+            finish(buffer, writer, ending_for(regions), Ending::NotWritten)
         }
-        Err(NoMemory) => finish_memory(buffer, writer),
+        Err(NoMemory) => finish_memory(buffer, writer, Ending::NoMemory, Ending::NotWritten),
     }
 }
 

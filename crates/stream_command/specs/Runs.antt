@@ -1,7 +1,6 @@
 -- What a run of `collect` of streams does with its inputs and its sinks.
 use Rattle.std.specs.Prelude.{◌≡◌, ◌⊎◌, ⊤, ℕ, Bool, true, false, List, [], ◌++◌, Option}
-use Rattle.std.specs.Io.KnownBytes.{Appends}
-use Rattle.command_io.specs.CommandRun.{AppendsPrefix}
+use Rattle.command_io.specs.Written.{IsTextWritten}
 use Rattle.command_io.specs.declared.command.TheConstants.{MEMORY_LINE}
 use Rattle.stream_collector.specs.Stream.{Stream}
 use Rattle.fleet_collector.specs.declared.refusal.PieceRefusal.{PieceRefusal}
@@ -20,25 +19,20 @@ use Rattle.stream_command.specs.declared.read.Stopped.{Stopped}
 use Rattle.stream_command.specs.Reading.{Placed, placed, AreWhole, StopsInputs}
 use Rattle.stream_command.specs.Gathering.{IsGathered, pieces_in, piece_lines}
 
--- The text was written, or a beginning of it, and not all, and then the ending says so.
-pub record IsTextWritten (contents after : Option (List ℕ)) (failed : Bool) (text : List ℕ) (wanted ending : Ending)
-    : Type 0 where
-  pub all : failed ≡ false → Appends contents after text × (ending ≡ wanted)
-  pub cut_off : failed ≡ true → AppendsPrefix contents after text × (ending ≡ NotWritten)
-
 -- the text and then the line for refused memory
 abbrev pub IsMemoryLine : (contents after : Option (List ℕ)) (failed : Bool) → List ℕ → Ending → Type 0
 IsMemoryLine contents after failed text ending =
-    IsTextWritten contents after failed (text ++ MEMORY_LINE) NoMemory ending
+    IsTextWritten NotWritten contents after failed (text ++ MEMORY_LINE) NoMemory ending
 
 -- What is written after a text if an input isn't read to its end: nothing more if a read failed; else the line of the
 -- fault, or that of refused memory.
 abbrev pub TellsStop : (input : ℕ) → Stop → (contents after : Option (List ℕ)) (failed : Bool) → List ℕ → Ending
     → Type 0
-TellsStop input Read contents after failed text ending = IsTextWritten contents after failed text (NotRead input) ending
+TellsStop input Read contents after failed text ending =
+    IsTextWritten NotWritten contents after failed text (NotRead input) ending
 TellsStop input (PieceStop index at trouble) contents after failed text ending =
     ((is_no_memory trouble ≡ false)
-    × IsTextWritten contents after failed (text ++ fault_line at index trouble) (Malformed input) ending)
+    × IsTextWritten NotWritten contents after failed (text ++ fault_line at index trouble) (Malformed input) ending)
     ⊎ IsMemoryLine contents after failed text ending
 
 -- what the fleet has was written, or that memory was refused
@@ -46,7 +40,7 @@ pub record IsListed (form : Form) (fleet : List (ℕ × Stream)) (contents after
     (ending : Ending) : Type 0 where
   pub shown : Shown
   pub is_shown : IsFleetShown fleet shown
-  pub written : IsTextWritten contents after failed (shown_text form shown) Done ending
+  pub written : IsTextWritten NotWritten contents after failed (shown_text form shown) Done ending
 
 -- a piece was added to a fleet
 abbrev pub Adds : (old : List (ℕ × Stream)) → Placed → (new : List (ℕ × Stream)) → Type 0
@@ -112,7 +106,7 @@ module _ {R : Type 0} (remaining : R → Option (List ℕ)) (has_failed : R → 
       (ending : Ending) : Type 0 where
     pub pieces : List Placed
     pub are_whole : AreWhole remaining has_failed 0 old new pieces
-    pub written : IsTextWritten contents after failed (piece_lines form pieces) Done ending
+    pub written : IsTextWritten NotWritten contents after failed (piece_lines form pieces) Done ending
 
   -- An input wasn't read to its end: there is a line for each piece before, and then why.
   pub record PrintsSome (form : Form) (old new : List (PieceReader R)) (contents after : Option (List ℕ))

@@ -4,14 +4,15 @@ ghost use Rattle.text_buffer.specs.Putting.{has_failed, HasPut};
 ghost use Rattle.piece_source.specs.Readers.{source_of};
 ghost use Rattle.stream_command.specs.Reading.{IsFresh};
 ghost use Rattle.stream_command.specs.Gathering.{HasGathered};
-ghost use Rattle.stream_command.specs.Runs.{IsTextWritten, IsMemoryLine, TellsStop, IsListed, IsStreamRun, IsPrintRun};
+ghost use Rattle.stream_command.specs.Runs.{IsMemoryLine, TellsStop, IsListed, IsStreamRun, IsPrintRun};
 
 use crate::ending::{Collected, Ending};
+use crate::finishing::{finish, finish_memory};
 use crate::gather::Gatherer;
 use crate::print::PiecePrinter;
 use crate::read::{Stop, Stopped, read_inputs};
 use capture_text::Form;
-use command_io::{MEMORY_LINE, Sink, Source, write_all};
+use command_io::{MEMORY_LINE, Sink, Source, write_text};
 use fleet_collector::Fleet;
 use fleet_text::{Listed, put_fault};
 use piece_source::PieceReader;
@@ -19,40 +20,12 @@ use std::alloc::Global;
 use text_buffer::TextBuffer;
 use trace_model::NoMemory;
 
-/// Writes what is still in the buffer, and answers how that ends.
-fn finish<W: Sink>(buffer: TextBuffer, writer: &mut W, wanted: Ending) -> Ending
-    requires { has_failed buffer ≡ W.failed writer.old }
-    ensures { (start : Option (List ℕ)) (text : List ℕ)
-        → HasPut start (W.contents writer.old) (W.failed writer.old) text buffer
-        → IsTextWritten start (W.contents writer.new) (W.failed writer.new) text wanted result }
-{
-    match buffer.finish(writer) {
-        Ok(()) => wanted,
-        Err(_) => Ending::NotWritten,
-    }
-}
-
-/// Reports that memory was refused, behind what was put.
-fn finish_memory<W: Sink>(buffer: TextBuffer, writer: &mut W) -> Ending
-    requires { has_failed buffer ≡ W.failed writer.old }
-    ensures { (start : Option (List ℕ)) (text : List ℕ)
-        → HasPut start (W.contents writer.old) (W.failed writer.old) text buffer
-        → IsMemoryLine start (W.contents writer.new) (W.failed writer.new) text result }
-{
-    let mut buffer = buffer;
-    buffer.put(writer, &MEMORY_LINE);
-    finish(buffer, writer, Ending::NoMemory)
-}
-
 /// Reports that memory was refused before there was a buffer.
 fn tell_memory<W: Sink>(writer: &mut W) -> Ending
     requires { W.failed writer.old ≡ false }
     ensures { IsMemoryLine (W.contents writer.old) (W.contents writer.new) (W.failed writer.new) [] result }
 {
-    match write_all(writer, &MEMORY_LINE) {
-        Ok(()) => Ending::NoMemory,
-        Err(_) => Ending::NotWritten,
-    }
+    write_text(writer, &MEMORY_LINE, Ending::NoMemory, Ending::NotWritten)
 }
 
 /// Reports why an input isn't read to its end, behind what was put.
@@ -63,14 +36,24 @@ fn tell_stop<W: Sink>(buffer: TextBuffer, writer: &mut W, stopped: Stopped) -> E
         → TellsStop stopped.input stopped.stop start (W.contents writer.new) (W.failed writer.new) text result }
 {
     match stopped.stop {
-        Stop::Read => finish(buffer, writer, Ending::NotRead(stopped.input)),
+        Stop::Read => finish(
+            buffer,
+            writer,
+            Ending::NotRead(stopped.input),
+            Ending::NotWritten,
+        ),
         Stop::Piece { index, at, trouble } => {
             if trouble.is_no_memory() {
-                return finish_memory(buffer, writer);
+                return finish_memory(buffer, writer, Ending::NoMemory, Ending::NotWritten);
             }
             let mut buffer = buffer;
             put_fault(&mut buffer, writer, at, index, trouble);
-            finish(buffer, writer, Ending::Malformed(stopped.input))
+            finish(
+                buffer,
+                writer,
+                Ending::Malformed(stopped.input),
+                Ending::NotWritten,
+            )
         }
     }
 }
@@ -93,9 +76,9 @@ fn list_fleet<W: Sink>(
         Ok(listed) => {
             let mut buffer = buffer;
             listed.put(&mut buffer, writer, form);
-            finish(buffer, writer, Ending::Done)
+            finish(buffer, writer, Ending::Done, Ending::NotWritten)
         }
-        Err(NoMemory) => finish_memory(buffer, writer),
+        Err(NoMemory) => finish_memory(buffer, writer, Ending::NoMemory, Ending::NotWritten),
     }
 }
 
@@ -189,7 +172,7 @@ pub fn print_pieces<R: Source, W: Sink>(
     };
     let mut printer = PiecePrinter { buffer, form };
     match read_inputs(alloc, inputs, &mut printer, writer) {
-        Ok(()) => finish(printer.buffer, writer, Ending::Done),
+        Ok(()) => finish(printer.buffer, writer, Ending::Done, Ending::NotWritten),
         Err(stopped) => tell_stop(printer.buffer, writer, stopped),
     }
 }

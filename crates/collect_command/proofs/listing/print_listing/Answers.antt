@@ -4,8 +4,10 @@ use Rattle.world_model.specs.Printing.{Shown}
 use Rattle.capture.specs.Rings.{parcels_of_captures}
 use Rattle.capture_text.specs.Printing.{record_line}
 use Rattle.capture_text.specs.Printed.{HasPrinted}
+use Rattle.command_io.specs.Written.{IsTextWritten}
 use Rattle.collect_command.specs.declared.ending.Ending.{Ending}
-use Rattle.collect_command.specs.Listings.{IsTextWritten, ending_of, are_all_intact, listing_text}
+use Rattle.collect_command.specs.declared.ending.Ending.TheVariants.{NotWritten}
+use Rattle.collect_command.specs.Listings.{ending_of, are_all_intact, listing_text}
 use Rattle.collect_command.proofs.Printing.{walked, same_print, ended}
 use Rattle.collect_command.proofs.listing.print_listing.Goals as goal
 
@@ -47,7 +49,7 @@ returns-clause-listed g c formats parts captures names read =
       written =
           subst
           (λ (e : Ending).
-          IsTextWritten start (contents c.finish.new.writer) (failed c.finish.new.writer)
+          IsTextWritten NotWritten start (contents c.finish.new.writer) (failed c.finish.new.writer)
           (listing_text form formats parts shown captures) (ending_of true (are_all_intact captures)) e)
           ending end;
     }
