@@ -101,7 +101,8 @@ IsRegionFault bytes BadPages =
     HasVersion bytes × ((number_in bytes PAGES_AT < MIN_PAGES) ⊎ (MAX_PAGES < number_in bytes PAGES_AT))
 IsRegionFault bytes BadSize =
     HasPages bytes
-    × ((number_in bytes SIZE_AT < MIN_SIZE) ⊎ ((MAX_SIZE < number_in bytes SIZE_AT) ⊎ (number_in bytes SIZE_AT % 4 ≢ 0)))
+    × ((number_in bytes SIZE_AT < MIN_SIZE)
+    ⊎ ((MAX_SIZE < number_in bytes SIZE_AT) ⊎ (number_in bytes SIZE_AT % 4 ≢ 0)))
 IsRegionFault bytes BadCpu = HasSize bytes × (MAX_CPUS ≤ number_in bytes CPU_AT)
 IsRegionFault bytes BadEnd = HasCpu bytes × (1 < number_in bytes ENDED_AT)
 IsRegionFault bytes NoMemory = IsWhole bytes
