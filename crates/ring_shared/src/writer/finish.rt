@@ -153,7 +153,7 @@ impl Writer {
 
     /// The frame on top makes steps until its record is reserved, or it is refused.
     #[inline(always)]
-    pub(crate) fn reserve_top(&mut self) -> Answer
+    fn reserve_top(&mut self) -> Answer
         requires writer { IsWriter self.old }
         requires top { (frame : ModelFrame) × (below : List ModelFrame) × (self.old.part.frames ≡ frame ∷ below)
             × IsReserving frame.kind frame.state }

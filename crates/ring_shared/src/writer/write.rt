@@ -112,9 +112,9 @@ impl Writer {
         if let Some(fault) = met_first(None, self.begin(moment, len)) {
             return Err(fault);
         }
-        if let Some(fault) = met_first(None, self.reserve_top()) {
+        if let Some(fault) = met_first(None, self.finish_top()) {
             if self.depth() > depth {
-                let _refusal = self.leave_on();
+                let _gone = met_first(None, self.finish_top());
             }
             return Err(fault);
         }
@@ -136,7 +136,7 @@ impl Writer {
     {
         let _slot = slot;
         if stands_alone(self.end()) {
-            let _refusal = self.leave_on();
+            let _gone = met_first(None, self.finish_top());
         }
     }
 }
