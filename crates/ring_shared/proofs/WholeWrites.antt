@@ -219,14 +219,18 @@ module _ (shape : Shape) (before pushed after : Writing) (moment len : ℕ) (beg
   stands_on (inl s) deep = s
   stands_on (inr top) deep = let same = ap (length {A = Frame}) top in absurd (omega arith)
 
+  -- it stays on the stack, and leaves
+  pub refused_stands : (fault : WriteFault) → result ≡ Refused fault → length before.frames < length after.frames
+      → (next : Frame) × (after.frames ≡ next ∷ before.frames) × IsLeaving next.kind next.state
+  refused_stands fault e deep =
+      stands_on (refused_so (for_record moment len) before.frames result fault after.frames reserving.ends e) deep
+
   -- it stays on the stack, and is finished
   pub refused_left : (fault : WriteFault) (last : Answer) (end : Writing) → result ≡ Refused fault
       → length before.frames < length after.frames → Finishes shape after last end
       → IsRefusedWrite shape before moment len fault end
   refused_left fault last end e deep f =
-      let (next, top, leaves) =
-      stands_on (refused_so (for_record moment len) before.frames result fault after.frames reserving.ends e)
-      deep in
+      let (next, top, leaves) = refused_stands fault e deep in
       let all : Leaves shape before.frames after last end =
       finished_leaving shape after last end next before.frames top f leaves in
       inr record {
@@ -354,6 +358,12 @@ module _ (shape : Shape) (before after : Writing) (payload : List ℕ) (result :
       any : (kind : Purpose) → IsLeaving kind left
       any (for_record moment len) = tt
       any for_close = tt
+
+  -- it is alone on the stack, and leaves
+  pub alone_leaves : result ≡ Ended Full
+      → (frame : Frame) × (after.frames ≡ frame ∷ []) × IsLeaving frame.kind frame.state
+  alone_leaves full = let (frame, top, gone) = left_alone t.below refl full in
+      (frame, top, has_left frame.kind frame.state gone)
 
   -- it is alone on the stack, and is finished
   pub ends_alone : (last : Answer) (end : Writing) → result ≡ Ended Full → Finishes shape after last end

@@ -172,6 +172,22 @@ impl Writer {
         }
     }
 
+    /// As `reserve_top`: the refusal that the frame met, if any.
+    #[inline(never)]
+    pub(crate) fn reserve_on(&mut self) -> Option<WriteFault>
+        requires writer { IsWriter self.old }
+        requires top { (frame : ModelFrame) × (below : List ModelFrame) × (self.old.part.frames ≡ frame ∷ below)
+            × IsReserving frame.kind frame.state }
+        ensures reserves { (answer : Answer) × (result ≡ met_behind None answer)
+            × ((frame : ModelFrame) (below : List ModelFrame) → self.old.part.frames ≡ frame ∷ below
+            → Reserves self.old.shape frame.kind below self.old.part answer self.new.part) }
+        ensures payloads { KeepsPayloads self.old.frames.stack self.new.frames.stack }
+        ensures ring { SameWriter self.old self.new }
+        ensures writer { IsWriter self.new }
+    {
+        met_first(None, self.reserve_top())
+    }
+
     /// The frame on top, in whatever phase, is stepped by `step` until it is gone.
     #[inline(always)]
     fn leave_top(&mut self) -> Answer

@@ -112,9 +112,9 @@ impl Writer {
         if let Some(fault) = met_first(None, self.begin(moment, len)) {
             return Err(fault);
         }
-        if let Some(fault) = met_first(None, self.finish_top()) {
+        if let Some(fault) = self.reserve_on() {
             if self.depth() > depth {
-                let _gone = met_first(None, self.finish_top());
+                let _refusal = self.leave_on();
             }
             return Err(fault);
         }
@@ -136,7 +136,7 @@ impl Writer {
     {
         let _slot = slot;
         if stands_alone(self.end()) {
-            let _gone = met_first(None, self.finish_top());
+            let _refusal = self.leave_on();
         }
     }
 }
