@@ -15,6 +15,8 @@ from lib.programs import Failure, rival, staged
 NEEDS = ("rt", "rustc", "valgrind", "/usr/bin/time")
 # What is measured: which step takes how much more than which.
 MORE = (("Adding", "add", "read"), ("Listing", "list", "add"), ("Merging", "merge", "halves"))
+# How many times the rival's instructions listing a record of a genuine page may take. Other loads have no limit.
+LISTING = 1.3
 GENUINE, FORGED = ("in-order", "reverse", "shuffled"), ("forged", "overlapping")
 LOADS = [("in-order", 10_000), ("in-order", 100_000), ("in-order", 1_000_000), ("reverse", 100_000)]
 LOADS += [("shuffled", 100_000), ("forged", 10_000), ("forged", 100_000), ("overlapping", 100_000)]
@@ -56,6 +58,11 @@ class Collectors:
         }
 
 
+def is_over(what, load, ours, plain):
+    """Whether the instructions are over the limit."""
+    return what == "Listing" and load in GENUINE and ours > LISTING * plain
+
+
 def run(folder):
     collectors = Collectors(folder)
     yield f"The same answers as the rival's on {collectors.compare()} files of parcels."
@@ -72,5 +79,7 @@ def run(folder):
         yield from tables.head("Load", "Records", "Instructions", "Rival", "Ratio", "Bytes of memory", "Rival")
         for load, many, ours, plain in found:
             (counted, memory), (other, others) = ours[what], plain[what]
+            if is_over(what, load, counted, other):
+                tables.OVER.append(f"listing of {many:,} records, {load}")
             cells = [f"{counted:,.0f}", f"{other:,.0f}", f"{counted / other:.2f}", f"{memory:,.0f}", f"{others:,.0f}"]
             yield tables.line([load, f"{many:,}", *cells])
