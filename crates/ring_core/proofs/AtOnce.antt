@@ -27,7 +27,7 @@ use Rattle.ring_core.proofs.Privately.{closed_is_other, shows_reframed, looked_f
 -- ---- private steps, one after the other
 
 -- In the second state only what is the writer's differs from the first: closed pages hold what they held.
-record Behind (n : ℕ) (c d : Core) : Type 0 where
+record OnlyWritersChanged (n : ℕ) (c d : Core) : Type 0 where
   is : d ≡ private_state c d.frames d.history d.held
   holds : (f : ℕ)
       → c.head ≤ f
@@ -38,7 +38,7 @@ one_step : (n size start : ℕ) (c : Core) (event : model.Event) (answer : model
     → IsReached n size start c
     → IsPrivate c event
     → model.Step n size c event answer after
-    → Behind n c after
+    → OnlyWritersChanged n c after
 one_step n size start c event answer after reached own step =
     let kept = reached_kept n size start c reached in
     record {
@@ -48,7 +48,7 @@ one_step n size start c event answer after reached own step =
           (closed_is_other n size start c f kept low high);
     }
 
-two_parts : (n : ℕ) (c d e : Core) → Behind n c d → Behind n d e → Behind n c e
+two_parts : (n : ℕ) (c d e : Core) → OnlyWritersChanged n c d → OnlyWritersChanged n d e → OnlyWritersChanged n c e
 two_parts n c d e first second = record {
   is = second.is ∙ ap (λ (x : Core). private_state x e.frames e.history e.held) first.is;
   holds = λ f low high.
@@ -91,8 +91,8 @@ module _ (v : CoreValue) (new : FramesValue) (moment : ℕ) (payload : List ℕ)
     ended_reached : IsReached n size start h.after
     ended_reached = reached_further n size start h.reserved _ _ h.after reserved_reached h.end
 
-    behind : Behind n c h.after
-    behind =
+    changed : OnlyWritersChanged n c h.after
+    changed =
         two_parts n c h.reserved h.after
         (two_parts n c h.pushed h.reserved
         (one_step n size start c _ _ h.pushed core.reached h.push_private h.push)
@@ -102,12 +102,12 @@ module _ (v : CoreValue) (new : FramesValue) (moment : ℕ) (payload : List ℕ)
     mid_core : IsCore n size start mid h.after
     mid_core = record {
       reached = ended_reached;
-      shows = subst (HasStateOf n size start mid) (sym behind.is)
+      shows = subst (HasStateOf n size start mid) (sym changed.is)
           (shows_reframed n size start v c frames h.after.frames h.after.history h.after.held core.shows
-          (subst (AreFrames n size start frames) behind.is h.are)
+          (subst (AreFrames n size start frames) changed.is h.are)
           (λ f low high.
-          subst (λ (d : Core). contents_of d (page_at n c.order f) ≡ contents_of c (page_at n c.order f)) behind.is
-          (behind.holds f low high)));
+          subst (λ (d : Core). contents_of d (page_at n c.order f) ≡ contents_of c (page_at n c.order f)) changed.is
+          (changed.holds f low high)));
     }
 
     gone : IsStep n size start h.after model.steps Gone (with_frames v new)
@@ -122,6 +122,7 @@ module _ (v : CoreValue) (new : FramesValue) (moment : ℕ) (payload : List ℕ)
       push = h.push;
       waits = h.waits;
       number = next_number v.stack;
+      next = h.next;
       reserved = h.reserved;
       reserve = h.reserve;
       has_slot = h.has_slot;

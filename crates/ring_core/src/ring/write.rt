@@ -4,46 +4,51 @@ use nested_writer::Wrote;
 use ring_frames::WriteKind;
 
 impl Core {
-    ghost use Rattle.std.specs.Prelude.{◌≡◌};
-    ghost use Rattle.ring_core.specs.AtOnce.{WritesAlone};
+    ghost use Rattle.std.specs.Prelude.{◌≡◌, ◌↔◌, length};
+    ghost use Rattle.ring_frames.specs.declared.frames.write.WriteKind.TheVariants.{Any};
+    ghost use Rattle.ring_core.specs.AtOnce.{MayWriteAlone, WritesAlone};
     ghost use Rattle.ring_core.specs.Steps.{IsReachedCore};
 
     /// Writes a record of this moment and payload in one call, as its frame's four steps would, if no frame is on the
-    /// stack, the record fits in the tail, and the reader has no new wish. In all other cases, and if a push would be
-    /// refused, nothing changes.
+    /// stack, a push would not be refused, the record fits in the tail, and the reader has no new wish. In all other
+    /// cases it answers `Nothing`, and nothing changes.
     #[inline(always)]
     pub fn write(&mut self, moment: u64, payload: &[u8]) -> Wrote
         requires ring { IsReachedCore self.old }
+        ensures may { result ≡ Wrote.Record ↔ MayWriteAlone self.old moment (length payload.now) }
         ensures wrote { result ≡ Wrote.Record → WritesAlone self.old moment payload.now self.new }
         ensures nothing { result ≡ Wrote.Nothing → self.new ≡ self.old }
     {
         if !self.frames.is_empty() {
             return Wrote::Nothing;
         }
-        match self.write_kind(WriteKind::Short, moment, payload) {
+        match self.write_at_once(WriteKind::Short, moment, payload) {
             Wrote::Record => Wrote::Record,
-            Wrote::Nothing => self.write_any(moment, payload),
+            Wrote::Nothing => self.write_rarely(moment, payload),
         }
     }
 
-    /// The same.
+    /// `write`, for a record that isn't short. It is called rarely, so it isn't in line.
     #[inline(never)]
-    fn write_any(&mut self, moment: u64, payload: &[u8]) -> Wrote
+    fn write_rarely(&mut self, moment: u64, payload: &[u8]) -> Wrote
         requires ring { IsReachedCore self.old }
+        ensures may { result ≡ Wrote.Record ↔ MayWriteAlone self.old moment (length payload.now) }
         ensures wrote { result ≡ Wrote.Record → WritesAlone self.old moment payload.now self.new }
         ensures nothing { result ≡ Wrote.Nothing → self.new ≡ self.old }
     {
-        self.write_kind(WriteKind::Any, moment, payload)
+        self.write_at_once(WriteKind::Any, moment, payload)
     }
 
-    /// The same, if the record is one of these.
+    /// `write`, for records of this kind.
     #[inline(always)]
-    fn write_kind(&mut self, kind: WriteKind, moment: u64, payload: &[u8]) -> Wrote
+    fn write_at_once(&mut self, kind: WriteKind, moment: u64, payload: &[u8]) -> Wrote
         requires ring { IsReachedCore self.old }
+        ensures may { result ≡ Wrote.Record → MayWriteAlone self.old moment (length payload.now) }
+        ensures any { kind ≡ Any → MayWriteAlone self.old moment (length payload.now) → result ≡ Wrote.Record }
         ensures wrote { result ≡ Wrote.Record → WritesAlone self.old moment payload.now self.new }
         ensures nothing { result ≡ Wrote.Nothing → self.new ≡ self.old }
     {
-        if self.frames.may_be_wished(self.wish) {
+        if self.wish > self.frames.done() {
             return Wrote::Nothing;
         }
         self.frames.write(kind, moment, payload)
