@@ -68,8 +68,8 @@ fn kept_index(content: Option<Content>) -> Option<usize>
 }
 
 /// The entries of the first record of a CPU from this number on, and of those after it in its parcel.
-// (Inlined, so that its answer takes no memory, which would be cleared for each record.)
-#[inline(always)]
+// (It is called once for a parcel, and would be in the way of the next record.)
+#[inline(never)]
 fn next_kept(collector: &Collector, cpu: CpuId, number: u64) -> Option<Kept<'_>>
     ensures from { IfSome result (λ kept. number ≤ kept.number) }
     ensures forward { IfSome result (λ kept. kept.number < kept.end) }
