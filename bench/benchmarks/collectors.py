@@ -1,7 +1,8 @@
 """Collectors: pages added, listed by time, and two collectors merged
 
 Genuine pages have 62 records with payloads of 60 bytes, on pages of 4,080 bytes and 8 CPUs, and each is delivered
-twice; some pages were overwritten. Forged parcels have one record each, of 4 CPUs; overlapping ones up to 62, of 8 CPUs.
+twice; some pages were overwritten. Forged parcels have one record each, of 4 CPUs; overlapping ones up to 62, of 8
+CPUs.
 """
 
 import os
