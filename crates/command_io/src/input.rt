@@ -1,5 +1,5 @@
 //! Reads all of a source, up to a limit.
-ghost use Rattle.std.specs.Prelude.{◌≡◌, ◌≢◌, ◌↔◌, ◌+◌, ◌<◌, ◌≤◌, ◌++◌, false, true, vec_len, vec_capacity, length};
+ghost use Rattle.std.specs.Prelude.{◌≡◌, ◌≢◌, ◌↔◌, ◌+◌, ◌<◌, ◌≤◌, ◌++◌, false, true, vec_len, length};
 ghost use Rattle.std.specs.Prelude.{IfOk, IfErr, OnOk, OnErr, Err};
 ghost use Rattle.std.specs.Io.KnownBytes.{Consumes, IsAtEnd};
 ghost use Rattle.command_io.specs.CommandRun.{TakesAtMost, TakesMoreThan};
@@ -33,23 +33,6 @@ fn new_chunk(alloc: Global) -> Result<Vec<u8>, InputFault>
     }
 }
 
-// How many bytes are copied at a time. The C library moves so few by vector registers, and many by an instruction that
-// repeats itself for each byte.
-const PIECE: usize = 1024;
-
-// Appends bytes for which there is room.
-fn put_bytes(text: &mut Vec<u8>, bytes: &[u8])
-    requires { vec_len text.old + length bytes.now ≤ vec_capacity text.old }
-    ensures { text.new.items ≡ text.old.items ++ bytes.now }
-{
-    let mut left = bytes;
-    while let Some((piece, rest)) = left.split_first_chunk::<PIECE>() {
-        let _ = text.extend_from_slice(piece);
-        left = rest;
-    }
-    let _ = text.extend_from_slice(left);
-}
-
 // Adds what was read to the text, which stays within the limit.
 fn add_chunk(text: &mut Vec<u8>, chunk: &[u8]) -> Result<(), InputFault>
     requires { vec_len text.old ≤ MAX_INPUT }
@@ -63,11 +46,8 @@ fn add_chunk(text: &mut Vec<u8>, chunk: &[u8]) -> Result<(), InputFault>
     if chunk.len() > MAX_INPUT - text.len() {
         return Err(InputFault::TooLong);
     }
-    match text.reserve(chunk.len()) {
-        Ok(()) => {
-            put_bytes(text, chunk);
-            Ok(())
-        }
+    match text.extend_from_slice(chunk) {
+        Ok(()) => Ok(()),
         Err(_) => Err(InputFault::NoMemory),
     }
 }
