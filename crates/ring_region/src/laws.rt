@@ -6,13 +6,36 @@ ghost use Rattle.trace_model.specs.Parcel.{Parcel, AreGenuine};
 ghost use Rattle.trace_model.specs.Partition.{Piece, IsPartition};
 ghost use Rattle.trace_model.specs.Collection.{Agree, Has, Misses};
 ghost use Rattle.trace_model.specs.declared.limits.TheConstants.{MAX_CPUS, MAX_SIZE};
-ghost use Rattle.ring_region.specs.declared.limits.TheConstants.{HEAD};
+ghost use Rattle.ring_region.specs.declared.limits.TheConstants.{START, HEAD, ALIGN, VERSION_AT, PAGES_AT, SIZE_AT};
+ghost use Rattle.ring_region.specs.declared.limits.TheConstants.{CPU_AT, STREAM_AT, TAKEN_AT, ENDED_AT, SLOT_CPU_AT};
+ghost use Rattle.ring_region.specs.declared.limits.TheConstants.{FILL_AT, FIRST_AT, MISSED_AT, IMAGE_AT, COMMIT_AT};
 ghost use Rattle.ring_region.specs.declared.faults.RegionFault.{RegionFault};
 ghost use Rattle.ring_region.specs.declared.faults.RegionFault.TheVariants.{NoMemory};
 ghost use Rattle.ring_region.specs.Headers.{IsRegionFault};
 ghost use Rattle.ring_region.specs.Slots.{Slot, commit_in, IsSlotOf};
 ghost use Rattle.ring_region.specs.Regions.{Recovered, IsRegion, last_end};
 ghost use Rattle.ring_region.specs.Agreement.{AreTaken, AreLeft};
+
+/// The numbers of a region's layout have the values that are stated here, in bytes; contracts name them, so that one that
+/// is changed is refused here.
+pub fn constants_are()
+    ensures start { START ≡ 128 }
+    ensures head { HEAD ≡ 48 }
+    ensures align { ALIGN ≡ 64 }
+    ensures version_at { VERSION_AT ≡ 8 }
+    ensures pages_at { PAGES_AT ≡ 16 }
+    ensures size_at { SIZE_AT ≡ 24 }
+    ensures cpu_at { CPU_AT ≡ 32 }
+    ensures stream_at { STREAM_AT ≡ 40 }
+    ensures taken_at { TAKEN_AT ≡ 48 }
+    ensures ended_at { ENDED_AT ≡ 56 }
+    ensures slot_cpu_at { SLOT_CPU_AT ≡ 0 }
+    ensures fill_at { FILL_AT ≡ 8 }
+    ensures first_at { FIRST_AT ≡ 16 }
+    ensures missed_at { MISSED_AT ≡ 24 }
+    ensures image_at { IMAGE_AT ≡ 32 }
+    ensures commit_at { COMMIT_AT ≡ 40 }
+{}
 
 /// A slot holds one thing, whatever its bytes are, and what is behind its commit changes nothing.
 pub fn slots_hold_one_thing()
