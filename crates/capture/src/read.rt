@@ -1,5 +1,5 @@
 //! A capture, read from its source in pieces of one page.
-ghost use Rattle.std.specs.Prelude.{◌≡◌, ◌↔◌, ◌<◌, ◌≤◌, false, true, Err, length, take, vec_len, IfOk, IsErr, OnOk};
+ghost use Rattle.std.specs.Prelude.{◌≡◌, ◌↔◌, ◌<◌, ◌≤◌, false, true, Err, length, take, IfOk, IsErr, OnOk};
 ghost use Rattle.std.specs.Prelude.{List};
 ghost use Rattle.std.specs.Io.KnownBytes.{Consumes, IsAtEnd};
 ghost use Rattle.trace_model.specs.declared.limits.TheConstants.{MAX_CPUS};

@@ -1,5 +1,5 @@
 //! Lines for missing runs, losses of unknown number, and damaged pages.
-ghost use Rattle.std.specs.Prelude.{◌≡◌, ℕ, [], ◌∷◌, ◌++◌, List, codes, flat_map, slice_index_or};
+ghost use Rattle.std.specs.Prelude.{◌≡◌, ℕ, [], ◌++◌, List, codes, flat_map, slice_index_or};
 ghost use Rattle.std.specs.Fmt.{decimal};
 ghost use Rattle.collector.specs.Runs.{AreMissingRuns};
 ghost use Rattle.capture.specs.Captures.{numbers_of};

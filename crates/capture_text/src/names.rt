@@ -1,11 +1,10 @@
 //! What a line says of its record's event.
-ghost use Rattle.std.specs.Prelude.{◌≡◌, ◌==◌, ◌++◌, ◌∷◌, [], codes, position};
+ghost use Rattle.std.specs.Prelude.{◌≡◌, ◌==◌, ◌++◌, ◌∷◌, [], position};
 ghost use Rattle.std.specs.Option.{option_map};
 ghost use Rattle.std.specs.Fmt.{signed_decimal};
 ghost use Rattle.kernel_texts.specs.Names.{event_seen, events_of};
 ghost use Rattle.kernel_texts.specs.FirstBytes.{common_fields_in};
 ghost use Rattle.text_buffer.specs.Putting.{has_failed, Puts};
-ghost use Rattle.capture_text.specs.Quoting.{quoted};
 ghost use Rattle.capture_text.specs.Names.{event_text, is_print, text_before_zero, print_text, event_or_number};
 ghost use Rattle.capture_text.specs.Names.{print_part, named_part, known_part, json_event, json_print, json_named};
 ghost use Rattle.capture_text.specs.Names.{json_known};

@@ -25,7 +25,7 @@ pub struct Printer<'a> {
 }
 
 impl<'a> Printer<'a> {
-    ghost use Rattle.std.specs.Prelude.{◌≡◌, ℕ, ◌↔◌, ◌++◌, List, [], Option, true, false, IfOk, OnOk, OnErr, IsErr};
+    ghost use Rattle.std.specs.Prelude.{◌≡◌, ℕ, ◌↔◌, List, [], Option, true, false, IfOk, OnOk, OnErr, IsErr};
     ghost use Rattle.std.specs.Prelude.{slice_index_or};
     ghost use Rattle.std.specs.Io.KnownBytes.{Appends};
     ghost use Rattle.trace_dat.specs.Contents.{EventFormat};
@@ -120,7 +120,6 @@ impl<'a> Printer<'a> {
 
 impl<W: Sink> TakesLines<W> for Printer<'_> {
     ghost use Rattle.std.specs.Prelude.{◌≡◌};
-    ghost use Rattle.trace_model.specs.Listing.{Line as ModelLine};
     ghost use Rattle.capture_text.specs.Printing.{record_line};
     ghost use Rattle.capture_text.specs.Printed.{failed_of, Prints};
 

@@ -1,5 +1,5 @@
 -- What is printed of captures.
-use Rattle.std.specs.Prelude.{◌≡◌, ℕ, suc, Bool, true, false, ◌&&◌, if◌then◌else◌, List, [], ◌∷◌, ◌++◌, map, flat_map}
+use Rattle.std.specs.Prelude.{ℕ, suc, Bool, true, ◌&&◌, if◌then◌else◌, List, [], ◌∷◌, ◌++◌, map, flat_map}
 use Rattle.std.specs.Prelude.{Option}
 use Rattle.trace_dat.specs.Contents.{EventFormat}
 use Rattle.world_model.specs.Printing.{Shown}

@@ -1,7 +1,7 @@
 //! What is read of all CPUs.
-ghost use Rattle.std.specs.Prelude.{◌≡◌, ◌≢◌, ℕ, ◌<◌, List, [], ◌∷◌, ◌++◌, length, map, Err, IfOk, IfErr, OnOk};
+ghost use Rattle.std.specs.Prelude.{◌≡◌, ℕ, ◌<◌, List, [], ◌∷◌, ◌++◌, length, map, Err, IfOk, OnOk};
 ghost use Rattle.trace_model.specs.declared.limits.TheConstants.{MAX_CPUS};
-ghost use Rattle.trace_model.specs.Image.{Missed as ModelMissed, unknown};
+ghost use Rattle.trace_model.specs.Image.{unknown};
 ghost use Rattle.collect_inputs.specs.Files.{ModelPart};
 ghost use Rattle.collect_inputs.specs.Captures.{AreCpusRead, IsCpuPast};
 ghost use Rattle.collect_inputs.specs.Giving.{part_seen};

@@ -1,11 +1,11 @@
 //! A file of trace-cmd.
-ghost use Rattle.std.specs.Prelude.{◌≡◌, ℕ, true, ◌+◌, ◌-◌, ◌^◌, List, [], ◌∷◌, ◌++◌, map, min, length, Err, Ok, IfErr};
+ghost use Rattle.std.specs.Prelude.{◌≡◌, ℕ, true, ◌+◌, ◌-◌, ◌^◌, List, ◌++◌, map, min, Err, Ok, IfErr};
 ghost use Rattle.std.specs.Prelude.{IsOk, OnOk};
 ghost use Rattle.trace_model.specs.Image.{unknown};
 ghost use Rattle.trace_dat.specs.Contents.{EventFormat, format_seen, buffer_seen, contents_seen};
 ghost use Rattle.trace_dat.specs.Versions.{reading_of};
 ghost use Rattle.kernel_texts.specs.Names.{HasEvents};
-ghost use Rattle.collect_inputs.specs.Files.{File, ModelPart, is_dat, count_instances, formatted};
+ghost use Rattle.collect_inputs.specs.Files.{File, is_dat, count_instances, formatted};
 ghost use Rattle.collect_inputs.specs.Losses.{overrun_of};
 ghost use Rattle.collect_inputs.specs.Captures.{AreCpusRead, AreCpusCaptured, IsOwnPast, AreFilesRead, unsaid};
 ghost use Rattle.collect_inputs.specs.FilesRead.{IsAlone, AddsFile, IsFileFault};

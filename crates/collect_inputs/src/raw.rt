@@ -1,7 +1,7 @@
 //! Raw pages of a CPU.
-ghost use Rattle.std.specs.Prelude.{◌≡◌, ◌↔◌, ℕ, ◌+◌, ◌*◌, ◌^◌, ◌<◌, ◌≤◌, true, false, List, [], ◌++◌, length, take};
+ghost use Rattle.std.specs.Prelude.{◌≡◌, ◌↔◌, ℕ, ◌+◌, ◌*◌, ◌^◌, ◌<◌, ◌≤◌, true, false, List, length, take};
 ghost use Rattle.std.specs.Prelude.{Err, IfOk, OnOk};
-ghost use Rattle.std.specs.Io.KnownBytes.{Consumes, IsAtEnd};
+ghost use Rattle.std.specs.Io.KnownBytes.{IsAtEnd};
 ghost use Rattle.trace_model.specs.declared.limits.TheConstants.{MAX_CPUS};
 ghost use Rattle.trace_model.specs.Image.{unknown};
 ghost use Rattle.collect_inputs.specs.Files.{ModelPart};

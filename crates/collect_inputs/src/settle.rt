@@ -2,12 +2,12 @@
 ghost use Rattle.std.specs.Prelude.{◌≡◌, ℕ, ◌^◌, ◌<◌, List, map, Option, Some, Err, IfOk, OnOk};
 ghost use Rattle.std.specs.List.{slice_get};
 ghost use Rattle.trace_model.specs.declared.limits.TheConstants.{MAX_CPUS};
-ghost use Rattle.trace_model.specs.Image.{Missed as ModelMissed, unknown};
+ghost use Rattle.trace_model.specs.Image.{unknown};
 ghost use Rattle.page_image.specs.Images.{missed_of};
 ghost use Rattle.capture.specs.Pages.{Page};
 ghost use Rattle.capture.specs.Captures.{IsCapture};
 ghost use Rattle.kernel_texts.specs.Counters.{counters_in};
-ghost use Rattle.collect_inputs.specs.Files.{ModelPart, parts_of_cpu};
+ghost use Rattle.collect_inputs.specs.Files.{parts_of_cpu};
 ghost use Rattle.collect_inputs.specs.Losses.{overrun_at, overrun_of, missed_in, loss_of};
 ghost use Rattle.collect_inputs.specs.Captures.{IsCpuRead, AreCpusRead, AreCpusCaptured, IsCpuPast, IsCpuCaptured};
 ghost use Rattle.collect_inputs.specs.Captures.{IsOwnPast};

@@ -1,5 +1,5 @@
 //! The remainder, eight bytes a step.
-ghost use Rattle.std.specs.Prelude.{◌≡◌, ◌+◌, ◌*◌, ◌<◌, length};
+ghost use Rattle.std.specs.Prelude.{◌≡◌, ◌+◌, ◌*◌, ◌<◌};
 ghost use Rattle.crc32c.specs.Castagnoli.{next_bits, next_byte, remainder_after};
 
 use crate::tables::TABLES;

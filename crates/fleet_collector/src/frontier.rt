@@ -1,24 +1,9 @@
 //! Up to which moment a fleet is known, and forgetting what is before it.
-ghost use Rattle.std.specs.Prelude.{◌≡◌, ◌≤◌, ◌⊎◌, Some};
-ghost use Rattle.trace_model.specs.declared.numbers.Moment.{Moment as MomentSeen};
+ghost use Rattle.std.specs.Prelude.{◌≡◌};
 
 use crate::fleet::Fleet;
+use stream_collector::earlier;
 use trace_model::{Moment, NoMemory};
-
-/// The earlier one of the moments that are there.
-fn earlier(own: Option<Moment>, other: Option<Moment>) -> Option<Moment>
-    ensures of_them { (result ≡ own) ⊎ (result ≡ other) }
-    ensures own { (m : MomentSeen) → own ≡ Some m → (r : MomentSeen) × (result ≡ Some r) × (r.0 ≤ m.0) }
-    ensures other { (m : MomentSeen) → other ≡ Some m → (r : MomentSeen) × (result ≡ Some r) × (r.0 ≤ m.0) }
-{
-    let Some(moment) = own else {
-        return other;
-    };
-    let Some(that) = other else {
-        return own;
-    };
-    if moment.0 <= that.0 { own } else { other }
-}
 
 impl Fleet {
     ghost use Rattle.std.specs.Prelude.{map, IfOk, OnOk, OnErr};
@@ -29,8 +14,7 @@ impl Fleet {
 
     /// The moment up to which all is known, if each CPU's moments never fall: the least of the frontiers of the streams
     /// (`StreamCollector::frontier`). It is none if each CPU of which something is there is complete. What comes
-    /// later is
-    /// at or after it, but for records of a CPU of which nothing is there yet. It takes no memory.
+    /// later is at or after it, but for records of a CPU of which nothing is there yet. It takes no memory.
     pub fn frontier(&self) -> Option<Moment>
         ensures { IsFleetFrontier self.now result }
     {
@@ -42,9 +26,8 @@ impl Fleet {
     }
 
     /// Raises the bound of each CPU of each stream to its cut at a moment, as `StreamCollector::forget_before` does:
-    /// what
-    /// `lines_before` lists at that moment is forgotten. If memory is refused, some streams may have been done; it may
-    /// be called again.
+    /// what `lines_before` lists at that moment is forgotten. If memory is refused, some streams may have been done; it
+    /// may be called again.
     pub fn forget_before(&mut self, moment: Moment) -> Result<(), NoMemory>
         ensures forgotten { OnOk result (AllForgottenBefore self.old self.new moment.0) }
         ensures some { SomeForgottenBefore self.old self.new moment.0 }

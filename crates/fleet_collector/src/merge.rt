@@ -1,5 +1,5 @@
 //! Merging two fleets, and comparing them.
-ghost use Rattle.std.specs.Prelude.{◌≡◌, ◌↔◌, ℕ, Some, None, IsTrue, IsSome, IfSome, IfNone, OnOk, IfErr};
+ghost use Rattle.std.specs.Prelude.{◌≡◌, ◌↔◌, ℕ, Some, None, IsTrue, IsSome, OnOk, IfErr};
 ghost use Rattle.stream_collector.specs.Same.{IsSameStream};
 ghost use Rattle.fleet_collector.specs.Fleet.{known_of, stream_at, empty_stream, HasKnownCpus};
 ghost use Rattle.fleet_collector.specs.Merging.{IsFleetMergeFault, AreMerges, OfEachThere};

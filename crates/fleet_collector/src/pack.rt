@@ -1,5 +1,5 @@
 //! A snapshot of a stream, as packed pieces.
-ghost use Rattle.std.specs.Prelude.{◌≡◌, ◌<◌, [], ◌∷◌, IfOk, OnOk};
+ghost use Rattle.std.specs.Prelude.{◌<◌, [], ◌∷◌, IfOk, OnOk};
 ghost use Rattle.trace_model.specs.declared.limits.TheConstants.{MAX_CPUS};
 ghost use Rattle.page_numbers.specs.Parcels.{as_parcel};
 ghost use Rattle.parcel_streams.specs.Pieces.{mark_piece, IsMark};
@@ -7,7 +7,7 @@ ghost use Rattle.parcel_streams.specs.Answers.{piece_of_parcel};
 ghost use Rattle.fleet_collector.specs.Fleet.{stream_at, HasKnownCpus};
 ghost use Rattle.fleet_collector.specs.Snapshot.{IsSnapshot, ArePut, PutsMarks, PutsParcels};
 ghost use Rattle.fleet_collector.specs.Snapshot.{bound_pieces, end_pieces, marks_of, run_pieces, runs_of_all};
-ghost use Rattle.stream_collector.specs.Stream.{bound_of, end_of};
+ghost use Rattle.stream_collector.specs.Stream.{end_of};
 
 use crate::fleet::Fleet;
 use page_numbers::Parcel;

@@ -1,8 +1,7 @@
 //! The lines of records and of runs.
-ghost use Rattle.std.specs.Prelude.{◌≡◌, [], ◌∷◌, ◌++◌, codes, map, flat_map};
+ghost use Rattle.std.specs.Prelude.{◌≡◌, ◌++◌, map, flat_map};
 ghost use Rattle.std.specs.Fmt.{decimal};
-ghost use Rattle.text_model.specs.Text.{space, line_feed, hex_text};
-ghost use Rattle.text_values.specs.Digits.{pairs_of};
+ghost use Rattle.text_model.specs.Text.{hex_text};
 ghost use Rattle.text_buffer.specs.Putting.{has_failed, Puts};
 ghost use Rattle.fleet_collector.specs.Lines.{line_seen};
 ghost use Rattle.fleet_text.specs.Runs.{run_seen};

@@ -1,5 +1,5 @@
 //! Lines of the form KEY VALUE, and numbers.
-ghost use Rattle.std.specs.Prelude.{◌≡◌, ◌+◌, ◌-◌, ◌*◌, ◌==◌, ◌<◌, ◌^◌, SomeIff, length, position};
+ghost use Rattle.std.specs.Prelude.{◌≡◌, ◌+◌, ◌-◌, ◌*◌, ◌==◌, ◌<◌, ◌^◌, SomeIff, position};
 ghost use Rattle.std.specs.Option.{option_map};
 ghost use Rattle.std.specs.Int.{IsInRange};
 ghost use Rattle.kernel_texts.specs.Lines.{line_at, value_in, number_in};

@@ -4,7 +4,7 @@ use Rattle.std.proofs.Common.{refl, sym, ap, ◌∙◌, subst, inl, inr, ⊎_eli
 use Rattle.std.proofs.Common.{length-append}
 use Rattle.trace_model.specs.History.{HistoryEvent, reserve}
 use Rattle.trace_model.specs.Window.{RingEvent, acts, history_events_of}
-use Rattle.trace_model.specs.Frames.{Purpose, Progress, waiting, reserved, left, idle, noted_fill, Frame}
+use Rattle.trace_model.specs.Frames.{Progress, waiting, reserved, left, Frame}
 use Rattle.trace_model.specs.Ring.{Core}
 use Rattle.trace_model.specs.Steps.{Exchange}
 use Rattle.text_model.specs.Script.{Script}

@@ -1,5 +1,5 @@
 //! Reads on until it is decided what the next piece is.
-ghost use Rattle.std.specs.Prelude.{◌≡◌, ◌<◌, ◌≤◌, ◌↔◌, true, false, [], take, length, IsErr, OnOk};
+ghost use Rattle.std.specs.Prelude.{◌≡◌, ◌<◌, ◌↔◌, true, false, [], IsErr, OnOk};
 ghost use Rattle.piece_source.specs.Held.{held_unread, held_given};
 ghost use Rattle.piece_source.specs.Reading.{ReadsOn, IsEnough};
 

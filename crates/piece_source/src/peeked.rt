@@ -62,7 +62,7 @@ impl<R> Peeked<R> {
 }
 
 impl<R: Source> Peeked<R> {
-    ghost use Rattle.std.specs.Prelude.{◌≡◌, ◌↔◌, false, length, IfOk, IfSome, OnOk};
+    ghost use Rattle.std.specs.Prelude.{◌≡◌, ◌↔◌, false, length, IfOk, IfSome};
     ghost use Rattle.std.specs.Io.KnownBytes.{Keeps};
     ghost use Rattle.piece_source.specs.Reading.{BeginsStream};
     ghost use Rattle.piece_source.specs.Readers.{peeked_reader, peeked_unread, peeked_left};

@@ -57,7 +57,7 @@ impl<R> PieceReader<R> {
 }
 
 impl<R: Source> PieceReader<R> {
-    ghost use Rattle.std.specs.Prelude.{◌≡◌, ℕ, ◌+◌, ◌-◌, ◌^◌, ◌↔◌, true, false, [], min, length, None, Ok, Err, IfOk};
+    ghost use Rattle.std.specs.Prelude.{◌≡◌, ◌+◌, ◌-◌, ◌^◌, ◌↔◌, true, false, [], min, length, None, Ok, Err, IfOk};
     ghost use Rattle.std.specs.Prelude.{IfSome, OnOk};
     ghost use Rattle.std.specs.Io.KnownBytes.{IsAtEnd, Keeps};
     ghost use Rattle.parcel_streams.specs.Pieces.{bytes_of_piece};

@@ -27,7 +27,7 @@ pub(crate) struct Window {
 }
 
 impl Window {
-    ghost use Rattle.std.specs.Prelude.{◌≡◌, ℕ, ◌≤◌, ◌++◌, false, [], take, drop, length, IfOk, OnErr, is_err};
+    ghost use Rattle.std.specs.Prelude.{◌≡◌, ◌≤◌, false, [], take, drop, length, IfOk, OnErr, is_err};
     ghost use Rattle.std.specs.Io.KnownBytes.{Keeps};
     ghost use Rattle.parcel_streams.specs.declared.limits.TheConstants.{MAX_PIECE};
     ghost use Rattle.piece_source.specs.Held.{held_unread, held_given};

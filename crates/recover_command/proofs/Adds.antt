@@ -1,7 +1,7 @@
 -- Pieces that are added one after the other.
-use Rattle.std.proofs.Common.{◌≡◌, ℕ, suc, ◌+◌, ◌-◌, ◌^◌, ◌<◌, min, inl, inr, List, [], ◌∷◌, ◌++◌, length, map, take}
-use Rattle.std.proofs.Common.{drop, get_or, drop-cons, take-append-drop, append_assoc, length-append, Option, Result}
-use Rattle.std.proofs.Common.{Ok, Err, IfErr, refl, sym, ap, ◌∙◌, subst, arith}
+use Rattle.std.proofs.Common.{◌≡◌, ℕ, suc, ◌+◌, ◌-◌, ◌^◌, ◌<◌, min, inr, List, [], ◌∷◌, ◌++◌, length, take}
+use Rattle.std.proofs.Common.{drop, get_or, drop-cons, take-append-drop, append_assoc, length-append, Result}
+use Rattle.std.proofs.Common.{Ok, Err, IfErr, sym, ap, ◌∙◌, subst, arith}
 use Rattle.std.proofs.lemmas.List.{map-append, take_more}
 use Rattle.parcel_streams.specs.Pieces.{AreAllPieces, IsPiece, bytes_of_piece, bytes_of_pieces}
 use Rattle.parcel_streams.specs.Answers.{piece_seen, pieces_seen}

@@ -12,7 +12,7 @@ use Rattle.parcel_streams.specs.declared.piece.Piece.TheVariants.{Parcel as Parc
 use Rattle.ring_region.specs.declared.faults.Damaged.{Damaged}
 use Rattle.ring_region.specs.declared.headers.Header.{Header}
 use Rattle.ring_region.specs.declared.regions.Region.{Region}
-use Rattle.ring_region.specs.Regions.{IsClean, count_in}
+use Rattle.ring_region.specs.Regions.{count_in}
 use Rattle.ring_region.specs.Answers.{region_seen, pieces_of, end_pieces}
 use Rattle.recover_command.specs.Telling.{IsToldBy, AreToldBy, MayBeTold}
 

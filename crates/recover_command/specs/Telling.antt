@@ -1,5 +1,5 @@
 -- What regions tell, as pieces of their streams.
-use Rattle.std.specs.Prelude.{◌≡◌, ◌<◌, ◌⊎◌, ℕ, List, [], ◌∷◌, ◌++◌, Some, None, ⊤}
+use Rattle.std.specs.Prelude.{◌≡◌, ◌<◌, List, [], ◌∷◌, ◌++◌, Some, None, ⊤}
 use Rattle.trace_model.specs.declared.limits.TheConstants.{MAX_CPUS}
 use Rattle.parcel_streams.specs.Pieces.{Packed}
 use Rattle.parcel_streams.specs.Answers.{pieces_seen}

@@ -3,7 +3,7 @@ ghost use Rattle.std.specs.Prelude.{◌≡◌, ◌<◌, false, [], All, IfOk, If
 ghost use Rattle.trace_model.specs.declared.limits.TheConstants.{MAX_CPUS};
 ghost use Rattle.parcel_streams.specs.Pieces.{IsPiece, bytes_of_piece};
 ghost use Rattle.parcel_streams.specs.Answers.{piece_seen};
-ghost use Rattle.fleet_collector.specs.Pieces.{HasKnownCpu, IsRefusal};
+ghost use Rattle.fleet_collector.specs.Pieces.{IsRefusal};
 ghost use Rattle.stream_command.specs.Reading.{IsOrigin};
 ghost use Rattle.recover_command.specs.Telling.{MayBeTold};
 ghost use Rattle.recover_command.specs.Gathering.{gathering_of, IsTied, Has, AddsOne, AddsAll, StopsAmong, AddsRegion};

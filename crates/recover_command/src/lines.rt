@@ -1,8 +1,8 @@
 //! The lines of damaged slots, and the line of an input that isn't a region.
-ghost use Rattle.std.specs.Prelude.{◌≡◌, ◌++◌, ◌∷◌, [], flat_map};
+ghost use Rattle.std.specs.Prelude.{◌≡◌, ◌++◌, flat_map};
 ghost use Rattle.std.specs.Fmt.{decimal};
 ghost use Rattle.text_buffer.specs.Putting.{has_failed, Puts};
-ghost use Rattle.recover_command.specs.Lines.{word_fault_name, cause_name, damaged_line, damaged_in, damaged_lines};
+ghost use Rattle.recover_command.specs.Lines.{word_fault_name, cause_name, damaged_line, damaged_lines};
 ghost use Rattle.recover_command.specs.Lines.{region_fault_name, place_text, region_line};
 
 use capture_text::Form;

@@ -13,8 +13,7 @@ use fleet_collector::Fleet;
 use fleet_text::{Listed, PieceTrouble, put_fault};
 use ring_region::Region;
 use std::alloc::Global;
-use stream_command::{finish, finish_memory};
-use text_buffer::TextBuffer;
+use text_buffer::{TextBuffer, finish, finish_memory};
 use trace_model::NoMemory;
 
 /// Reports that memory was refused before there was a buffer.

@@ -1,6 +1,6 @@
 //! A page that was read, under its numbers.
 use page_image::Page;
-use page_numbers::{Parcel, ParcelFault};
+use page_numbers::Parcel;
 use std::alloc::Global;
 use std::marker::Model;
 use trace_model::{CpuId, NoMemory};
@@ -23,7 +23,7 @@ impl Model for Numbered {
 }
 
 impl Numbered {
-    ghost use Rattle.std.specs.Prelude.{◌≡◌, ◌+◌, ◌<◌, ◌≤◌, ◌^◌, length, IfOk};
+    ghost use Rattle.std.specs.Prelude.{◌≡◌, ◌+◌, ◌<◌, ◌≤◌, length, IfOk};
     ghost use Rattle.trace_model.specs.declared.limits.TheConstants.{MAX_CPUS};
     ghost use Rattle.page_image.specs.Contents.{records_of_page};
     ghost use Rattle.ring_region.specs.Numbered.{IsNumbered};

@@ -2,7 +2,7 @@
 ghost use Rattle.std.specs.Prelude.{◌≡◌, ◌≢◌, ◌-◌, ◌<◌, ◌≤◌, ◌++◌, ℕ, List, map, Err, OnOk, IfOk, IfErr, MatchResult};
 ghost use Rattle.std.specs.Prelude.{if◌then◌else◌};
 ghost use Rattle.std.specs.Option.{option_map};
-ghost use Rattle.trace_model.specs.declared.limits.TheConstants.{MAX_CPUS, MAX_PAGES, MAX_SIZE};
+ghost use Rattle.trace_model.specs.declared.limits.TheConstants.{MAX_CPUS, MAX_SIZE};
 ghost use Rattle.page_numbers.specs.Parcels.{as_parcels};
 ghost use Rattle.parcel_streams.specs.Answers.{pieces_seen};
 ghost use Rattle.ring_region.specs.Headers.{IsRegionFault};
@@ -127,7 +127,7 @@ fn put_end(pieces: &mut Vec<Piece>, header: Header, end: Option<RecordNo>) -> Re
 }
 
 impl Region {
-    ghost use Rattle.std.specs.Prelude.{◌≡◌, ℕ, max, true, [], None, Some, Option, IfOk, MatchOption};
+    ghost use Rattle.std.specs.Prelude.{◌≡◌, ℕ, max, None, Some, Option, IfOk, MatchOption};
     ghost use Rattle.std.specs.Option.{SomeIff};
     ghost use Rattle.parcel_streams.specs.Answers.{pieces_seen};
     ghost use Rattle.ring_region.specs.Regions.{IsClean, count_in};

@@ -23,7 +23,7 @@ pub(crate) struct Scan {
 }
 
 impl Scan {
-    ghost use Rattle.std.specs.Prelude.{◌≡◌, ℕ, ◌+◌, ◌≤◌, ◌<◌, List, [], length, OnOk};
+    ghost use Rattle.std.specs.Prelude.{◌≡◌, ◌+◌, ◌≤◌, ◌<◌, List, [], length, OnOk};
     ghost use Rattle.trace_model.specs.declared.limits.TheConstants.{MAX_CPUS, MAX_PAGES, MAX_SIZE};
     ghost use Rattle.ring_region.specs.declared.limits.TheConstants.{HEAD};
     ghost use Rattle.ring_region.specs.Slots.{Slot};

@@ -1,5 +1,5 @@
 //! One slot of a region.
-ghost use Rattle.std.specs.Prelude.{◌≡◌, ◌≢◌, ℕ, ◌+◌, ◌-◌, ◌<◌, ◌≤◌, ◌^◌, List, length, take, drop, IfOk, IfErr};
+ghost use Rattle.std.specs.Prelude.{◌≡◌, ℕ, ◌+◌, ◌-◌, ◌<◌, ◌≤◌, ◌^◌, length, take, IfOk};
 ghost use Rattle.trace_model.specs.declared.limits.TheConstants.{MAX_CPUS, MAX_SIZE};
 ghost use Rattle.page_image.specs.Contents.{Contents, IsPage, records_of_page};
 ghost use Rattle.ring_region.specs.Slots.{Slot as SlotSeen, intact, IsSlotOf, IsUnmissed, slot_of_page, commit_in};

@@ -5,7 +5,7 @@ use Rattle.std.specs.Prelude.{IfSome}
 use Rattle.std.proofs.lemmas.Grind.{flat_map-append}
 use Rattle.trace_model.specs.Ring.{Core}
 use Rattle.trace_model.specs.Steps as model
-use Rattle.trace_model.specs.Steps.{Step, Exchange}
+use Rattle.trace_model.specs.Steps.{Exchange}
 use Rattle.text_model.specs.Log.{LogLine}
 use Rattle.world_model.specs.Log.{logged, log_of}
 use Rattle.log_text.specs.LogTypes.{shown_log}

@@ -1,9 +1,8 @@
 //! Stamps replaced by extends, in place.
-ghost use Rattle.std.specs.Prelude.{◌≡◌, ◌+◌, ◌≤◌, ◌<◌, ◌++◌, length, take, drop, IfSome, None};
-ghost use Rattle.trace_model.specs.Words.{le32, bytes_of_word, time_extend, time_stamp, word_time_limit};
+ghost use Rattle.std.specs.Prelude.{◌≡◌, ◌+◌, ◌<◌, ◌++◌, length, take, drop, IfSome, None};
+ghost use Rattle.trace_model.specs.Words.{bytes_of_word, time_stamp, word_time_limit};
 ghost use Rattle.trace_model.specs.Reading.{word_at_front};
 ghost use Rattle.record_words.specs.Next.{StandsAt};
-ghost use Rattle.record_words.specs.Puts.{Puts};
 ghost use Rattle.stamp_times.specs.Restored.{time_until, restored_word, restored_time, restored_data, restored_image};
 ghost use Rattle.stamp_times.specs.Walk.{RestoresWord};
 

@@ -7,7 +7,6 @@ use Rattle.trace_model.specs.HistoryLaws.{committed_count}
 use Rattle.trace_model.specs.Frames.{Frame}
 use Rattle.trace_model.specs.Ring.{Core}
 use Rattle.trace_model.specs.Steps as steps
-use Rattle.trace_model.specs.Steps.{page_taken, reserved_as}
 use Rattle.ring_model.proofs.partition.RingsKept.{reached_kept}
 use Rattle.ring_model.proofs.contents.RecordCounts.{numbers_fit}
 use Rattle.nested_writer.specs.declared.frame.Frame as stack

@@ -5,10 +5,9 @@ ghost use Rattle.trace_model.specs.Ring as model;
 ghost use Rattle.link_marks.specs.ModelLinks.{link_of};
 ghost use Rattle.ring_core.specs.IsCore.{IsCore};
 ghost use Rattle.ring_frames.specs.Value.{phase_of};
-ghost use Rattle.ring_frames.specs.ReaderPhases.{reader_phase_of};
 ghost use Rattle.step_model.specs.Seen.{CountKey, count_is, frame_is, phase_is, reader_is, ring_seen, spare_link_is};
 ghost use Rattle.step_model.specs.Changes.{changes, count_change, count_changes, link_changes, page_changes};
-ghost use Rattle.step_model.specs.Changes.{same_phase, same_reader, same_reader_phase, same_state, unless_same};
+ghost use Rattle.step_model.specs.Changes.{same_phase, same_reader, same_state, unless_same};
 ghost use Rattle.step_model.specs.StepTexts.{change_text, count_text};
 ghost use Rattle.step_text.specs.Seen.{ArePartsOf, counts_in, frame_in, reader_in, state_in, top_in};
 ghost use Rattle.step_text.specs.FrameChanges.{frame_changes_in};
@@ -20,10 +19,9 @@ use crate::put::{
 };
 use crate::seen::{Counts, FrameSeen, FrameState, Parts};
 use crate::teller::Known;
-use link_marks::{Link, Mark};
+use link_marks::Link;
 use ring_core::Core;
-use ring_frames::{Phase, ReaderPhase, Role, TakeState};
-use text_values::put_number;
+use ring_frames::{Phase, TakeState};
 use trace_model::NoMemory;
 
 /// Whether two links are the same.

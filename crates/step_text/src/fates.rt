@@ -17,7 +17,7 @@ use crate::put::put_spaced;
 use crate::seen::{FrameSeen, FrameState, Parts};
 use page_numbers::Parcel;
 use ring_core::{Answer, Core};
-use text_values::{put_number, put_payload};
+use text_values::put_payload;
 use trace_model::NoMemory;
 
 /// A fill that is begun.

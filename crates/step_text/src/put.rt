@@ -1,6 +1,6 @@
 //! The lines of keys: what each is, and its value. On an error a part of a line may be left after what was there.
-ghost use Rattle.std.specs.Prelude.{◌≡◌, ◌++◌, ◌∷◌, [], OnOk, codes, Some, None};
-ghost use Rattle.text_model.specs.Text.{space, line_feed};
+ghost use Rattle.std.specs.Prelude.{◌≡◌, ◌++◌, OnOk, Some, None};
+ghost use Rattle.text_model.specs.Text.{space};
 ghost use Rattle.trace_model.specs.Frames.{noted_fill};
 ghost use Rattle.link_marks.specs.ModelLinks.{link_of};
 ghost use Rattle.nested_writer.specs.Stack.{kind_of};
@@ -8,8 +8,8 @@ ghost use Rattle.ring_frames.specs.Value.{phase_of, role_of};
 ghost use Rattle.ring_frames.specs.ReaderPhases.{reader_phase_of};
 ghost use Rattle.step_model.specs.Seen.{link_is, page_is, spare_link_is, frame_is, frame_gone, phase_is, reader_is};
 ghost use Rattle.step_model.specs.StepTexts as texts;
-ghost use Rattle.step_model.specs.StepTexts.{change_text, head_text, kind_text, link_text, page_of, next_of};
-ghost use Rattle.step_model.specs.StepTexts.{phase_name, phase_text, reader_name, reader_text, role_text, spaced};
+ghost use Rattle.step_model.specs.StepTexts.{change_text, head_text, link_text, page_of, next_of};
+ghost use Rattle.step_model.specs.StepTexts.{phase_name, reader_name, role_text, spaced};
 ghost use Rattle.step_model.specs.StepTexts.{spaced_or_none, state_text};
 ghost use Rattle.step_text.specs.Seen.{reader_in, state_in};
 

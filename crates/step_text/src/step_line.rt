@@ -3,11 +3,10 @@ ghost use Rattle.std.specs.Prelude.{◌≡◌, ◌++◌, ◌∷◌, ◌<◌, ◌
 ghost use Rattle.trace_model.specs.Ring as model;
 ghost use Rattle.trace_model.specs.Steps as steps;
 ghost use Rattle.link_marks.specs.ModelLinks.{link_of};
-ghost use Rattle.ring_core.specs.IsCore.{IsCore};
 ghost use Rattle.ring_frames.specs.Answers.{IsAnswerOf};
-ghost use Rattle.ring_frames.specs.Value.{phase_of, role_of};
+ghost use Rattle.ring_frames.specs.Value.{phase_of};
 ghost use Rattle.ring_frames.specs.ReaderPhases.{reader_phase_of};
-ghost use Rattle.step_model.specs.StepTexts.{answer_text, done_text, exchange_text, frame_step_name, late_or};
+ghost use Rattle.step_model.specs.StepTexts.{answer_text, done_text, exchange_text, frame_step_name};
 ghost use Rattle.step_model.specs.StepTexts.{links_differ, outcome_text, read_step_name, spaced, step_line};
 ghost use Rattle.world_model.specs.Lanes.{event_on_top};
 ghost use Rattle.step_text.specs.Seen.{ArePartsOf, frame_in};

@@ -6,7 +6,7 @@ ghost use Rattle.world_model.specs.Lanes.{Lane, IsNewLane};
 ghost use Rattle.log_text.specs.LogTypes.{shown_log_line};
 ghost use Rattle.page_numbers.specs.Parcels.{as_parcel};
 ghost use Rattle.step_model.specs.RunTexts.{gain_text, gains_of, new_rings_text, trace_line};
-ghost use Rattle.step_text.specs.Known.{StepTextValue, known_in, step_text_of, Knows, KnowsOthers};
+ghost use Rattle.step_text.specs.Known.{StepTextValue, known_in, step_text_of, Knows};
 ghost use Rattle.step_text.specs.Tells.{MayTell, MayTellOf, TellsStep, TellsStepOf};
 
 use crate::asked::Asked;

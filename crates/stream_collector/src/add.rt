@@ -6,8 +6,8 @@ use page_numbers::Parcel;
 use trace_model::RecordNo;
 
 impl StreamCollector {
-    ghost use Rattle.std.specs.Prelude.{◌≡◌, ℕ, ◌≤◌, ◌↔◌, [], ◌∷◌, ◌++◌, Ok, IfOk, IfErr, OnOk, OnErr, IfSome, IfNone};
-    ghost use Rattle.trace_model.specs.Collection.{Agree, IsBelow, IsSame};
+    ghost use Rattle.std.specs.Prelude.{◌≡◌, ℕ, ◌≤◌, ◌↔◌, [], ◌∷◌, ◌++◌, Ok, IfOk, IfErr, OnErr, IfSome, IfNone};
+    ghost use Rattle.trace_model.specs.Collection.{Agree, IsBelow};
     ghost use Rattle.page_numbers.specs.Parcels.{as_parcel};
     ghost use Rattle.collector.specs.declared.fault.AddFault.TheVariants.{NoMemory};
     ghost use Rattle.stream_collector.specs.Faults.{IsForgotten, IsBeyondEnd, IsWithinEnd, IsNotAdded};

@@ -6,7 +6,7 @@ use collector::KnownCpus;
 use trace_model::{CpuId, Moment, NoMemory, RecordNo};
 
 impl StreamCollector {
-    ghost use Rattle.std.specs.Prelude.{◌≡◌, ◌≢◌, ℕ, ◌≤◌, ◌⊎◌, OnOk, OnErr};
+    ghost use Rattle.std.specs.Prelude.{◌≡◌, ◌≢◌, ℕ, ◌⊎◌, OnOk, OnErr};
     ghost use Rattle.std.specs.List.{Contains};
     ghost use Rattle.std.specs.List.Sorted.{IsStrictlyIncreasing};
     ghost use Rattle.stream_collector.specs.Marks.{marks_at, AllSaySomething};

@@ -6,9 +6,9 @@ use crate::stream::StreamCollector;
 use trace_model::{CpuId, RecordNo};
 
 impl StreamCollector {
-    ghost use Rattle.std.specs.Prelude.{◌≡◌, ℕ, ◌-◌, ◌<◌, ◌≤◌, ◌↔◌, Some, None, Ok, IfErr, OnErr};
+    ghost use Rattle.std.specs.Prelude.{◌≡◌, ℕ, ◌-◌, ◌<◌, ◌↔◌, Some, None, Ok, IfErr, OnErr};
     ghost use Rattle.trace_model.specs.declared.limits.TheConstants.{MAX_CPUS};
-    ghost use Rattle.stream_collector.specs.Stream.{bound_of, end_of};
+    ghost use Rattle.stream_collector.specs.Stream.{end_of};
     ghost use Rattle.stream_collector.specs.Marking.{IsNotOpen, HasEnd, IsEndFault};
     ghost use Rattle.stream_collector.specs.declared.added.Marked.TheVariants.{New as NewMark, Known as KnownMark};
 

@@ -9,7 +9,7 @@ use collector::Collector;
 use trace_model::{CpuId, NoMemory, RecordNo};
 
 impl StreamCollector {
-    ghost use Rattle.std.specs.Prelude.{◌≡◌, ℕ, ◌<◌, ◌≤◌, ◌↔◌, Ok, IfOk, IfErr, OnOk, OnErr};
+    ghost use Rattle.std.specs.Prelude.{◌≡◌, ◌<◌, ◌≤◌, ◌↔◌, Ok, IfOk, IfErr, OnOk, OnErr};
     ghost use Rattle.trace_model.specs.Collection.{IsSame};
     ghost use Rattle.trace_model.specs.declared.limits.TheConstants.{MAX_CPUS};
     ghost use Rattle.stream_collector.specs.Stream.{bound_of, IsUpToEnd, HaveNoRecord};

@@ -8,7 +8,7 @@ use page_borrow::Entry;
 use trace_model::{CpuId, Moment, RecordNo};
 
 /// The earlier one of the moments that are there.
-fn earlier(own: Option<Moment>, other: Option<Moment>) -> Option<Moment>
+pub fn earlier(own: Option<Moment>, other: Option<Moment>) -> Option<Moment>
     ensures of_them { (result ≡ own) ⊎ (result ≡ other) }
     ensures own { (m : MomentSeen) → own ≡ Some m → (r : MomentSeen) × (result ≡ Some r) × (r.0 ≤ m.0) }
     ensures other { (m : MomentSeen) → other ≡ Some m → (r : MomentSeen) × (result ≡ Some r) × (r.0 ≤ m.0) }

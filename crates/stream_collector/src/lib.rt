@@ -27,5 +27,6 @@ mod undelivered;
 pub use added::{Added, Marked};
 pub use cpus::MarkedCpus;
 pub use fault::{AddFault, MarkFault, MergeFault};
+pub use frontier::earlier;
 pub use runs::StreamRuns;
 pub use stream::StreamCollector;

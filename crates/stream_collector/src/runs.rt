@@ -63,7 +63,7 @@ impl<'a> Iterator for StreamRuns<'a> {
 impl<'a> FusedIterator for StreamRuns<'a> {}
 
 impl StreamCollector {
-    ghost use Rattle.std.specs.Prelude.{ℕ, ◌<◌, ◌≤◌, ◌↔◌};
+    ghost use Rattle.std.specs.Prelude.{ℕ, ◌<◌, ◌↔◌};
     ghost use Rattle.trace_model.specs.Runs.{AreRuns};
     ghost use Rattle.stream_collector.specs.Kinds.{IsOfKindWithin};
     ghost use Rattle.stream_collector.specs.Stream.{IsMissing, IsUndelivered, IsUnknownYet, IsExpected};

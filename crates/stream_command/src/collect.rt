@@ -7,7 +7,6 @@ ghost use Rattle.stream_command.specs.Gathering.{HasGathered};
 ghost use Rattle.stream_command.specs.Runs.{IsMemoryLine, TellsStop, IsListed, IsStreamRun, IsPrintRun};
 
 use crate::ending::{Collected, Ending};
-use crate::finishing::{finish, finish_memory};
 use crate::gather::Gatherer;
 use crate::print::PiecePrinter;
 use crate::read::{Stop, Stopped, read_inputs};
@@ -17,7 +16,7 @@ use fleet_collector::Fleet;
 use fleet_text::{Listed, put_fault};
 use piece_source::PieceReader;
 use std::alloc::Global;
-use text_buffer::TextBuffer;
+use text_buffer::{TextBuffer, finish, finish_memory};
 use trace_model::NoMemory;
 
 /// Reports that memory was refused before there was a buffer.

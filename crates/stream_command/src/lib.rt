@@ -4,11 +4,9 @@
 
 mod collect;
 mod ending;
-mod finishing;
 mod gather;
 mod print;
 mod read;
 
 pub use collect::{collect_streams, print_pieces};
 pub use ending::{Collected, Ending};
-pub use finishing::{finish, finish_memory};

@@ -15,7 +15,7 @@ pub(crate) struct PiecePrinter {
 }
 
 impl<W: Sink> TakesPieces<W> for PiecePrinter {
-    ghost use Rattle.std.specs.Prelude.{◌≡◌, length};
+    ghost use Rattle.std.specs.Prelude.{◌≡◌};
     ghost use Rattle.text_buffer.specs.Putting.{has_failed};
     ghost use Rattle.stream_command.specs.Gathering.{PrintsPiece};
 

@@ -2,5 +2,7 @@
 #![tactic(auto)]
 
 mod buffer;
+mod finishing;
 
 pub use buffer::TextBuffer;
+pub use finishing::{finish, finish_memory};

@@ -8,7 +8,6 @@ use Rattle.ring_shared.specs.Value.{WriterValue}
 use Rattle.ledger_audit.specs.declared.ledger.Ledger.{Ledger}
 use Rattle.ledger_audit.specs.Audit.{taken_of}
 use Rattle.writer_thread.specs.declared.gate.Who.{Who}
-use Rattle.writer_thread.specs.declared.gate.Who.TheVariants as who
 use Rattle.writer_thread.specs.Asking.{HavePassed}
 use Rattle.reader_thread.specs.Value.{ReaderEndValue}
 use Rattle.reader_thread.specs.Ledgers.{writer_in, IsLedger}

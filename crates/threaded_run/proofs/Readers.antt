@@ -1,7 +1,7 @@
 -- What a reader takes on, and where the gate lets it pass meanwhile.
 use Rattle.std.specs.Prelude.{Bool, true, Contains, Some, Result, Ok, Err}
 use Rattle.std.specs.List.{slice_get}
-use Rattle.std.proofs.Common.{◌≡◌, ℕ, zero, suc, List, [], ◌∷◌, ◌++◌, refl, sym, ap, ◌∙◌, subst, ⊎_elim, arith}
+use Rattle.std.proofs.Common.{◌≡◌, ℕ, zero, suc, List, [], ◌∷◌, ◌++◌, refl, sym, ◌∙◌, subst, ⊎_elim}
 use Rattle.std.proofs.lemmas.List.Elements.{Contains-append_cases}
 use Rattle.trace_model.specs.Parcel.{Parcel}
 use Rattle.page_numbers.specs.Parcels.{ParcelValue, as_parcels}

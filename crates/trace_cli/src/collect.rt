@@ -1,6 +1,5 @@
 //! The command `collect` over captures.
-ghost use Rattle.std.specs.Prelude.{◌≡◌, ◌<◌, false, if◌then◌else◌, length, map, All, IfOk};
-ghost use Rattle.trace_model.specs.declared.limits.TheConstants.{MAX_CPUS};
+ghost use Rattle.std.specs.Prelude.{◌≡◌, ◌<◌, false, if◌then◌else◌, map, All, IfOk};
 ghost use Rattle.command_io.specs.Ends.{has_failed};
 ghost use Rattle.piece_source.specs.Readers.{peeked_reader};
 ghost use Rattle.command_line.specs.Calls.{IsInRange};

@@ -1,5 +1,5 @@
 //! The pages of trace buffers, CPU by CPU, in either version's form.
-ghost use Rattle.std.specs.Prelude.{◌≡◌, ◌++◌, [], map, flat_map, IfOk};
+ghost use Rattle.std.specs.Prelude.{◌≡◌, map, flat_map, IfOk};
 ghost use Rattle.trace_dat.specs.Parts.{seen};
 ghost use Rattle.trace_dat.specs.Fields.{Gives, with_front, with_list, all_at, each_of};
 ghost use Rattle.trace_dat.specs.Contents.{recorded_seen, buffer_seen};

@@ -1,5 +1,5 @@
 //! Options: what a file has beside its texts and pages.
-ghost use Rattle.std.specs.Prelude.{◌≡◌, ◌<◌, length, map, IfOk};
+ghost use Rattle.std.specs.Prelude.{◌<◌, length, map, IfOk};
 ghost use Rattle.std.specs.Option.{option_map};
 ghost use Rattle.trace_dat.specs.Parts.{seen};
 ghost use Rattle.trace_dat.specs.Fields.{Gives, with_front};

@@ -1,5 +1,5 @@
 //! The formats of events.
-ghost use Rattle.std.specs.Prelude.{◌≡◌, map};
+ghost use Rattle.std.specs.Prelude.{map};
 ghost use Rattle.trace_dat.specs.Parts.{seen};
 ghost use Rattle.trace_dat.specs.Fields.{Gives, with_front, all_at};
 ghost use Rattle.trace_dat.specs.Contents.{format_seen};

@@ -5,8 +5,8 @@ ghost use Rattle.trace_dat.specs.Parts.{seen};
 ghost use Rattle.trace_dat.specs.Fields.{Gives};
 ghost use Rattle.trace_dat.specs.Contents.{format_seen, contents_seen};
 ghost use Rattle.trace_dat.specs.Entries.{option_seen};
-ghost use Rattle.trace_dat.specs.Versions.{ended, titled_at, all_formats_at, tables_at, stated_options_at, version_six};
-ghost use Rattle.trace_dat.specs.Versions.{version_seven, version_at, contents_of, magic, reading_of};
+ghost use Rattle.trace_dat.specs.Versions.{titled_at, all_formats_at, tables_at, stated_options_at, version_six};
+ghost use Rattle.trace_dat.specs.Versions.{version_seven, version_at, magic, reading_of};
 
 use crate::buffers::{Shape, counters, put_buffer, put_buffers, put_instances};
 use crate::contents::{Format, TraceDat};

@@ -4,7 +4,7 @@ ghost use Rattle.std.specs.Prelude.{◌≡◌, ◌<◌, ◌≤◌, ℕ, List, []
 ghost use Rattle.text_model.specs.ScriptLines.{decimal_in, payload_in, cpu_in};
 ghost use Rattle.text_model.specs.Script.{count_in, SpellsCommand};
 ghost use Rattle.trace_script.specs.Kept.{command_shown, shown};
-ghost use Rattle.trace_script.specs.UsualLines.{BeginsWith, BeginsBehindCpu, IsUsual, IsUsualBehindCpu};
+ghost use Rattle.trace_script.specs.UsualLines.{BeginsBehindCpu, IsUsual, IsUsualBehindCpu};
 
 use crate::kept::{Kind, Narrow, asked};
 use crate::payload::payload_cut;

@@ -1,5 +1,5 @@
 //! A ring's pages, added to a collector as they are taken.
-ghost use Rattle.std.specs.Prelude.{◌≡◌, ◌<◌, Some, None, IsSomeAnd, pos};
+ghost use Rattle.std.specs.Prelude.{◌≡◌, ◌<◌, Some, None, IsSomeAnd};
 ghost use Rattle.trace_model.specs.declared.limits.TheConstants.{MAX_CPUS};
 ghost use Rattle.ring_shared.specs.Takes.{IsReader, SameRing};
 ghost use Rattle.tracering_c.specs.declared.ends.HeldReader.{HeldReader as ReaderValue};

@@ -1,5 +1,5 @@
 //! The page that is written, copied while its writer has begun nothing.
-ghost use Rattle.std.specs.Prelude.{◌≡◌, ◌≢◌, Some, None, length, pos};
+ghost use Rattle.std.specs.Prelude.{◌≡◌, ◌≢◌, Some, length, pos};
 ghost use Rattle.ring_shared.specs.Calls.{IsWriter};
 ghost use Rattle.tracering_c.specs.declared.ends.HeldWriter.{HeldWriter as EndValue};
 ghost use Rattle.tracering_c.specs.Held.{writer_of};

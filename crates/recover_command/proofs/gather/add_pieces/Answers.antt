@@ -1,4 +1,4 @@
-use Rattle.std.proofs.Common.{◌≡◌, ℕ, suc, ◌+◌, ◌-◌, ◌^◌, min, List, [], ◌∷◌, ◌++◌, length, take, drop, sym, ap, ◌∙◌}
+use Rattle.std.proofs.Common.{suc, ◌+◌, ◌-◌, ◌^◌, min, List, [], ◌∷◌, ◌++◌, length, take, drop, sym, ap, ◌∙◌}
 use Rattle.std.proofs.Common.{subst}
 use Rattle.parcel_streams.specs.declared.piece.Piece.{Piece}
 use Rattle.fleet_collector.specs.Pieces.{IsRefusal}

@@ -1,4 +1,4 @@
-use Rattle.std.proofs.Common.{◌≡◌, ℕ, suc, ◌+◌, ◌++◌, List, take, drop, length-take-le, sym, ap, ◌∙◌, subst}
+use Rattle.std.proofs.Common.{suc, ◌+◌, ◌++◌, List, take, drop, length-take-le, sym, ap, ◌∙◌, subst}
 use Rattle.ring_region.specs.declared.regions.Region.{Region}
 use Rattle.recover_command.specs.Gathering.{gathering_of, AddsRegions}
 use Rattle.recover_command.proofs.Told.{told_more}

@@ -1,6 +1,5 @@
-use Rattle.std.proofs.Common.{◌<◌, All, List, subst, sym}
+use Rattle.std.proofs.Common.{◌<◌}
 use Rattle.trace_model.specs.declared.limits.TheConstants.{MAX_CPUS}
-use Rattle.command_line.specs.declared.call.CpuFile.{CpuFile}
 use Rattle.trace_cli.proofs.SameCpus.{All-same}
 use Rattle.trace_cli.proofs.collect.list.Goals as goal
 

@@ -1,4 +1,4 @@
-use Rattle.std.proofs.Common.{rules, ℕ, ◌++◌, ◌∷◌, [], List, ap, ◌∙◌}
+use Rattle.std.proofs.Common.{rules, ◌++◌, ◌∷◌, [], ap, ◌∙◌}
 use Rattle.library_values.proofs.LinePlaces.{pushed}
 use Rattle.library_values.proofs.own_lines.OwnLines.push.Goals as goal
 

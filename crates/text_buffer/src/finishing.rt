@@ -4,8 +4,8 @@ ghost use Rattle.command_io.specs.Written.{IsTextWritten};
 ghost use Rattle.command_io.specs.declared.command.TheConstants.{MEMORY_LINE as memory_line};
 ghost use Rattle.text_buffer.specs.Putting.{has_failed, HasPut};
 
+use crate::buffer::TextBuffer;
 use command_io::{MEMORY_LINE, Sink};
-use text_buffer::TextBuffer;
 
 /// Writes what is still in the buffer. The answer is `wanted`, or `not_written` if a write failed.
 pub fn finish<W: Sink, E: Copy>(buffer: TextBuffer, writer: &mut W, wanted: E, not_written: E) -> E
