@@ -1,4 +1,5 @@
 pub mod TextParts
+pub mod DigitLemmas
 pub mod FieldLemmas
 pub mod ValueLemmas
 pub mod PayloadLemmas

@@ -7,7 +7,7 @@ use Rattle.std.specs.List.{list_all, enumerate_from}
 use Rattle.std.specs.Str.{bytes_eq}
 use Rattle.std.proofs.lemmas.Bool.{ltb-true, lt-ltb, ne_eqb, eqb-true, eqb-false, eq-eqb, and_from, and_parts, or_right}
 use Rattle.std.proofs.lemmas.Bool.{or_cases, both_ways, cases_Bool, cond-true, cond-false, false_from_ne_true}
-use Rattle.std.proofs.lemmas.List.{append-nil, take_rest, drop-drop, get_or-drop}
+use Rattle.std.proofs.lemmas.List.{append-nil, take_rest, take-append-drop, drop-drop, get_or-drop}
 use Rattle.std.proofs.lemmas.List.Folds.{list_all-append}
 use Rattle.std.proofs.lemmas.Slice.Eq.{bytes_eq-Decides}
 use Rattle.trace_model.specs.declared.numbers.NoMemory.{NoMemory}
@@ -137,6 +137,27 @@ put_then text middle left old between new first second =
           ∙ append_assoc old (bytes_of_pairs first.digits) (bytes_of_pairs second.digits)
           ∙ ap (λ (bs : List ℕ). old ++ bs) (sym (pairs_append first.digits second.digits first.even));
     }
+
+-- 32 pairs more
+pub many_turn : (text left digits rest old new bytes after : List ℕ) → ArePut text left old new
+    → (digits ≡ take 64 left) × (rest ≡ drop 64 left) × (length rest + 64 ≡ length left)
+    → list_all (λ c. is_digit c 16) digits ≡ true → bytes ≡ bytes_of_pairs digits → after ≡ new ++ bytes
+    → ArePut text rest old after
+many_turn text left digits rest old new bytes after so_far (front, back, count) all is more =
+    put_then text left rest old new after so_far
+    record {
+      digits = digits;
+      cut = cut;
+      even =
+          (let len = length-append digits rest in
+          let whole : length left ≡ length (digits ++ rest) = ap (λ (l : List ℕ). length l) cut in
+          omega (arith, len, whole, count));
+      are_digits = all;
+      put = more ∙ ap (λ (bs : List ℕ). new ++ bs) is;
+    }
+  where
+    cut : left ≡ digits ++ rest
+    cut = rw (front, back) (sym (take-append-drop 64 left))
 
 pub pair_fits : (high low : ℕ) → pair_value high low ≤ 8192
 pair_fits high low = elim (high_of high) [

@@ -5,6 +5,7 @@
 
 mod command;
 mod commands;
+mod digits;
 mod fault;
 mod fault_line;
 mod fields;

@@ -7,6 +7,7 @@ ghost use Rattle.trace_script.specs.Decoding.{high_value, low_value, pair_value,
 ghost use Rattle.trace_script.specs.Kept.{PutsPayload};
 ghost use Rattle.trace_script.specs.UsualLines.{IsPayloadCut};
 
+use crate::digits::{are_digits, bytes_of};
 use crate::fault::LineFault;
 use crate::fields::is_letter;
 use trace_model::NoMemory;
@@ -80,7 +81,29 @@ fn pair_value(high: u8, low: u8) -> u16
     high_value(high) + low_value(low)
 }
 
-/// Appends the bytes of the pairs of digits at a text's beginning, eight at a time, and returns the rest of the text.
+/// Appends the bytes of the pairs of digits at a text's beginning, 32 at a time, and returns the rest of the text. Two
+/// bytes are looked at first, since the look at all 64 is lost at the end of a shorter payload.
+#[inline(always)]
+fn put_many<'a>(payloads: &mut Vec<u8>, text: &'a [u8]) -> &'a [u8]
+    ensures { ArePut text.now result.now payloads.old.items payloads.new.items }
+{
+    let mut left = text;
+    while let Some((digits, rest)) = left.split_first_chunk::<64>() {
+        if low_value(digits[16]) == NO_DIGIT || low_value(digits[48]) == NO_DIGIT {
+            break;
+        }
+        if !are_digits(digits) {
+            break;
+        }
+        let Ok(()) = payloads.extend_from_slice(&bytes_of(digits)) else {
+            break;
+        };
+        left = rest;
+    }
+    left
+}
+
+/// The same, eight at a time.
 #[inline(always)]
 fn put_eights<'a>(payloads: &mut Vec<u8>, text: &'a [u8]) -> &'a [u8]
     ensures { ArePut text.now result.now payloads.old.items payloads.new.items }
@@ -175,7 +198,8 @@ fn put_each<'a>(payloads: &mut Vec<u8>, text: &'a [u8]) -> Result<&'a [u8], NoMe
 fn put_pairs<'a>(payloads: &mut Vec<u8>, text: &'a [u8]) -> Result<&'a [u8], NoMemory>
     ensures { PutsPairs result text.now payloads.old.items payloads.new.items }
 {
-    let behind_eights = put_eights(payloads, text);
+    let behind_many = put_many(payloads, text);
+    let behind_eights = put_eights(payloads, behind_many);
     let behind_fours = put_fours(payloads, behind_eights);
     put_each(payloads, behind_fours)
 }
