@@ -56,7 +56,7 @@ without_32 byte below =
     eqb-true (bit_and byte 223) (byte - 32 * (byte / 32 % 2))
     (one_below 256 (λ b. bit_and b 223 == b - 32 * (b / 32 % 2)) byte refl below)
 
--- ---- sixteen pairs
+-- ---- pairs of digits
 -- this is the byte of the two digits from an index on, if they are digits
 abbrev pub IsPairAt : List ℕ → (index byte : ℕ) → Type 0
 IsPairAt digits k byte = is_digit (get_or digits k 0) 16 ≡ true
