@@ -11,7 +11,7 @@ use Rattle.ring_model.proofs.partition.RingsKept.{reached_kept}
 use Rattle.ring_core.specs.Value.{CoreValue}
 use Rattle.ring_core.specs.IsCore.{IsCore}
 use Rattle.ring_frames.specs.declared.answer.Answer.{Answer}
-use Rattle.step_text.specs.declared.asked.Asked.{Asked}
+use Rattle.step_telling.specs.declared.asked.Asked.{Asked}
 use Rattle.step_text.specs.declared.teller.Known.{Known}
 use Rattle.step_text.specs.declared.teller.StepText.TheInside.{Inside}
 use Rattle.step_text.specs.declared.seen.Parts.{Parts}

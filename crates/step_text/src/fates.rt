@@ -12,7 +12,7 @@ ghost use Rattle.step_model.specs.RunTexts.{gain_text, gains_of};
 ghost use Rattle.step_text.specs.Seen.{ArePartsOf};
 ghost use Rattle.step_text.specs.Tells.{IsAsked};
 
-use crate::asked::Asked;
+use step_telling::Asked;
 use crate::put::put_spaced;
 use crate::seen::{FrameSeen, FrameState, Parts};
 use page_numbers::Parcel;

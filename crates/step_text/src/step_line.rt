@@ -14,7 +14,7 @@ ghost use Rattle.step_text.specs.Known.{IsKnownOf, known_in};
 ghost use Rattle.step_text.specs.Exchanges.{begins_again_in, frame_exchanges_in, is_exchange_in};
 ghost use Rattle.step_text.specs.Tells.{IsAsked};
 
-use crate::asked::Asked;
+use step_telling::Asked;
 use crate::put::put_spaced;
 use crate::seen::{FrameSeen, FrameState, Parts};
 use crate::teller::Known;

@@ -9,7 +9,7 @@ ghost use Rattle.step_model.specs.RunTexts.{gain_text, gains_of, new_rings_text,
 ghost use Rattle.step_text.specs.Known.{StepTextValue, known_in, step_text_of, Knows};
 ghost use Rattle.step_text.specs.Tells.{MayTell, MayTellOf, TellsStep, TellsStepOf};
 
-use crate::asked::Asked;
+use step_telling::Asked;
 use crate::changes::put_changes;
 use crate::fates::{put_fates, put_gains};
 use crate::new_rings::{copies_of, new_ring, put_new_rings, put_trace_line};
