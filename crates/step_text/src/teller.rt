@@ -1,6 +1,5 @@
 //! The text of a replay's steps, with what is known of each ring.
 ghost use Rattle.std.specs.Prelude.{◌≡◌, ℕ, ◌++◌, ◌<◌, List, length, All, OnOk, IfOk};
-ghost use Rattle.text_model.specs.ScriptLimits.{IsWithinLimits};
 ghost use Rattle.world_model.specs.Lanes.{Lane, IsNewLane};
 ghost use Rattle.step_model.specs.RunTexts.{new_rings_text, trace_line};
 ghost use Rattle.step_telling.specs.Known.{StepTextValue, Knows};
@@ -82,7 +81,6 @@ impl Model for StepText {
 impl StepText {
     /// The text of a script before its first line: what its rings are, each of them new.
     pub fn new(alloc: Global, script: &Script) -> Result<StepText, NoMemory>
-        requires { IsWithinLimits script.now }
         ensures text { IfOk result (λ told. (lanes : List Lane)
             → length lanes ≡ script.now.cpus
             → All (IsNewLane script.now.pages script.now.start) lanes

@@ -10,8 +10,8 @@ use Rattle.step_text.specs.Seen.{ArePartsOf, reader_in}
 use Rattle.step_text.specs.Known.{IsKnownOf}
 use Rattle.step_text.proofs.new_rings.new_ring.Goals as goal
 
-pub returns : goal.returns
-returns c other is_same =
+pub returns-clause-known : goal.returns-clause-known
+returns-clause-known c other is_same =
     let (new, is_new, core) = c.in_ok-ring.ensures.fresh in
     let v = core.shows in
     let some_pages = core.reached.may_start.some_pages in
