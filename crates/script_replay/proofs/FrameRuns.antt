@@ -22,8 +22,7 @@ use Rattle.ring_frames.specs.Answers.{IsAnswerOf}
 use Rattle.ring_core.specs.Value.{CoreValue}
 use Rattle.step_telling.specs.declared.asked.Asked.{Asked}
 use Rattle.step_telling.specs.Tells.{IsAsked, IsStepOf}
-use Rattle.script_replay.specs.Reports.{ReportsValue}
-use Rattle.script_replay.specs.Reports.{KnowsRing, IsReported}
+use Rattle.script_replay.specs.Reports.{ReportsValue, KnowsRing, IsReported}
 use Rattle.script_replay.specs.declared.lane.Lane.TheInside.{Inside}
 use Rattle.script_replay.specs.Value.{LaneValue, lane_of}
 use Rattle.script_replay.specs.Lanes.{IsLane, Happens, MakesExchanges}
@@ -185,7 +184,8 @@ top_step n size start cpu line depth count before v new asked answer first old h
 }
 
 -- `count` steps are made, or the frame is gone
-pub followed : (n size start cpu line depth made count : ℕ) (before : Lane) (v : LaneValue) (first reports : ReportsValue)
+pub followed : (n size start cpu line depth made count : ℕ) (before : Lane) (v : LaneValue)
+    (first reports : ReportsValue)
     → Happens (HasMadeSteps depth made) line cpu n size start before first v reports
     → depth ≡ length before.core.frames
     → made ≤ count

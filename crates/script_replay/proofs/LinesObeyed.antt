@@ -161,8 +161,7 @@ module _ {T : Type 0} (script : Script) (lines : List (ℕ × Command)) (state :
 -- ---- a line of a ring
 
 module _ {T : Type 0} (script : Script) (line cpu : ℕ) (command : Command) (old new : ReplayState T)
-    (v after : LaneValue) (ring : IsOfRing command)
-    (is : cpu_of command ≡ cpu)
+    (v after : LaneValue) (ring : IsOfRing command) (is : cpu_of command ≡ cpu)
     (limits : IsWithinLimits script)
     (low : cpu < script.cpus)
     (from : IsLaneFrom script (lane_at old.lanes.items cpu) v)

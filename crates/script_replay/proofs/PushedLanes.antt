@@ -26,8 +26,7 @@ use Rattle.ring_core.specs.Steps.{IsStep, MakesStep}
 use Rattle.script_replay.specs.Value.{LaneValue}
 use Rattle.step_telling.specs.declared.asked.Asked.{Asked}
 use Rattle.step_telling.specs.Tells.{IsAsked, IsStepOf}
-use Rattle.script_replay.specs.Reports.{ReportsValue}
-use Rattle.script_replay.specs.Reports.{Reported, KnowsRing, IsReported}
+use Rattle.script_replay.specs.Reports.{ReportsValue, Reported, KnowsRing, IsReported}
 use Rattle.script_replay.specs.Lanes.{IsLane, Happens}
 use Rattle.script_replay.specs.Frames.{IsPushOf, push_event, IsPushed, Pushes}
 use Rattle.script_replay.proofs.Reporting.{reported_more}

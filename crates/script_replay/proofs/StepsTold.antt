@@ -212,7 +212,8 @@ told_delivery script lines line command w after text (Some old) None tells lanes
 told_delivery script lines line command w after text (Some old) (Some new) tells lanes told so_far =
     so_far_more script lines line command w after text old new so_far tells told.0
     (λ cpu lane at.
-    (λ i. slice_get (told.1 i) cpu) ∙ so_far.knows cpu lane (ap (λ (ls : List Lane). slice_get ls cpu) (sym lanes) ∙ at))
+    (λ i. slice_get (told.1 i) cpu)
+    ∙ so_far.knows cpu lane (ap (λ (ls : List Lane). slice_get ls cpu) (sym lanes) ∙ at))
 
 pub told_page : (script : Script) (lines : List (ℕ × Command)) (line collector cpu fill : ℕ) (w after : World)
     (old new : Option StepTextValue)

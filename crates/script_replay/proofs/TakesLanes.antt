@@ -35,8 +35,7 @@ use Rattle.ring_core.specs.Steps.{MakesStep}
 use Rattle.script_replay.specs.Value.{LaneValue}
 use Rattle.step_telling.specs.declared.asked.Asked.{Asked}
 use Rattle.step_telling.specs.Tells.{IsAsked}
-use Rattle.script_replay.specs.Reports.{ReportsValue}
-use Rattle.script_replay.specs.Reports.{IsReported}
+use Rattle.script_replay.specs.Reports.{ReportsValue, IsReported}
 use Rattle.script_replay.specs.Lanes.{IsLane, IsLaneOf, MakesExchanges}
 use Rattle.script_replay.specs.Takes.{ReadsOnce, MayKeep, Keeps}
 use Rattle.script_replay.proofs.LaneValues.{moved_lane}

@@ -86,7 +86,8 @@ Pushes event payload old answer new = (n size start cpu : ℕ) (lane : Lane)
     → IsPushed n size start cpu lane event payload answer new
 
 -- a frame is pushed and finished
-abbrev pub HasWritten : model.Event → List ℕ → (line cpu : ℕ) → LaneValue → ReportsValue → LaneValue → ReportsValue → Type 0
+abbrev pub HasWritten : model.Event → List ℕ → (line cpu : ℕ) → LaneValue → ReportsValue → LaneValue → ReportsValue
+    → Type 0
 HasWritten event payload line cpu old old_reports new reports =
     MakesExchanges (λ n size before exchanges after. WritesFrame n size event payload before exchanges after)
     line cpu old old_reports new reports

@@ -7,9 +7,8 @@ use Rattle.world_model.specs.Lanes.{Lane, IsNewLane, HasPayloads, LineRun}
 use Rattle.world_model.specs.World.{parcel_of}
 use Rattle.page_numbers.specs.Parcels.{as_parcels}
 use Rattle.ring_core.specs.IsCore.{IsCore}
-use Rattle.script_replay.specs.Reports.{ReportsValue}
 use Rattle.script_replay.specs.Value.{LaneValue}
-use Rattle.script_replay.specs.Reports.{Reported, KnowsRing}
+use Rattle.script_replay.specs.Reports.{ReportsValue, Reported, KnowsRing}
 
 -- The value is this lane of a CPU, whose ring has n pages of this size and the first fill start: the ring is the
 -- lane's, with a payload for each frame, and what was taken from it is kept as parcels of the CPU.

@@ -151,8 +151,8 @@ fn new_collectors(alloc: Global, count: usize) -> Result<Vec<Collector>, NoMemor
     Ok(collectors)
 }
 
-/// Obeys all lines of the script, and tells their steps to this teller, if there is one, which has told what comes before
-/// the first line.
+/// Obeys all lines of the script, and tells their steps to this teller, if there is one, which has told what comes
+/// before the first line.
 fn obey_all<'a, T: Teller>(
     alloc: Global,
     script: &'a Script,
@@ -201,8 +201,8 @@ pub fn replay(alloc: Global, script: &Script) -> Result<World, ReplayFault>
     Ok(world_of(alloc, script)?)
 }
 
-/// Replays a script, and tells each step of its lines, and what each delivery brings, to this teller, which has told what
-/// comes before the first line. Gives it back with the text of all.
+/// Replays a script, and tells each step of its lines, and what each delivery brings, to this teller, which has told
+/// what comes before the first line. Gives it back with the text of all.
 pub fn told_replay<T: Teller>(alloc: Global, script: &Script, teller: T) -> Result<T, NoMemory>
     requires { IsNewText script.now (T.told teller) }
     ensures { IfOk result (λ told. (world : model_world.World) × IsStepText script.now world (T.told told).text) }

@@ -1,5 +1,5 @@
 -- What a teller is told of a step.
-use Rattle.std.specs.Prelude.{◌≡◌, ℕ, List, [], ◌∷◌, ◌++◌}
+use Rattle.std.specs.Prelude.{◌≡◌, ℕ, [], ◌∷◌, ◌++◌}
 use Rattle.trace_model.specs.Ring.{Core}
 use Rattle.trace_model.specs.Steps as model
 use Rattle.trace_model.specs.Steps.{pushes, pushes_close, reads, wishes, Step}

@@ -13,19 +13,14 @@ use page_numbers::Parcel;
 use ring_core::{Answer, Core};
 use trace_model::NoMemory;
 
-/// Who is told of a replay's steps, and makes their text: a step's text is what isn't known of its ring yet. What a call
-/// leaves if memory is refused is not used.
+/// Who is told of a replay's steps, and makes their text: a step's text is what isn't known of its ring yet. What a
+/// call leaves if memory is refused is not used.
 pub trait Teller: Drop {
+    /// What it has told so far, and knows of the ring of each CPU.
     ghost told: { Self → StepTextValue };
 
     /// Tells a step of the ring of a CPU: what was asked, what it answered, and the ring after it.
-    fn tell(
-        &mut self,
-        at: At,
-        asked: Asked,
-        answer: &Answer,
-        ring: &Core,
-    ) -> Result<(), NoMemory>
+    fn tell(&mut self, at: At, asked: Asked, answer: &Answer, ring: &Core) -> Result<(), NoMemory>
         requires { MayTell at.cpu.0 asked answer.now ring.now (told self.old) }
         ensures { OnOk result (TellsStep at.line at.cpu.0 asked.entry answer.now ring.now
             (told self.old) (told self.new)) };

@@ -1,6 +1,6 @@
 //! The rings of a script before its first line.
-ghost use Rattle.std.specs.Prelude.{◌≡◌, ◌++◌, ◌∷◌, [], ℕ, ◌%◌, ◌<◌, ◌≤◌, OnOk, IfOk, All, List, codes, length, flat_map};
-ghost use Rattle.std.specs.Prelude.{map};
+ghost use Rattle.std.specs.Prelude.{◌≡◌, ◌++◌, ◌∷◌, [], ℕ, ◌%◌, ◌<◌, ◌≤◌, OnOk, IfOk, All, List, codes, length};
+ghost use Rattle.std.specs.Prelude.{flat_map, map};
 ghost use Rattle.std.specs.Fmt.{decimal};
 ghost use Rattle.text_model.specs.Text.{line_feed};
 ghost use Rattle.trace_model.specs.Ring.{IsStart};

@@ -109,13 +109,7 @@ impl StepText {
 impl Teller for StepText {
     ghost told = { λ text. text };
 
-    fn tell(
-        &mut self,
-        at: At,
-        asked: Asked,
-        answer: &Answer,
-        ring: &Core,
-    ) -> Result<(), NoMemory> {
+    fn tell(&mut self, at: At, asked: Asked, answer: &Answer, ring: &Core) -> Result<(), NoMemory> {
         self.rings[at.cpu.0 as usize].tell(&mut self.text, at, asked, answer, ring)
     }
 

@@ -30,7 +30,7 @@ impl<'a> Lane<'a> {
             self.old reports.old self.new reports.new) }
     {
         let len = payload.len();
-        let answer = self.push::<Told>(Event::Push { moment, len }, payload)?;
+        let answer = self.push::<(Told, T)>(Event::Push { moment, len }, payload)?;
         reports.report(at, Asked::Push, answer, &self.core)
     }
 
@@ -56,7 +56,12 @@ impl<'a> Lane<'a> {
     /// Writes a record of this moment and payload in one call, if its frame would be alone and nothing is to be told of
     /// its steps: nothing is logged of them.
     #[inline(always)]
-    fn write_alone<T: Teller>(&mut self, moment: u64, payload: &'a [u8], reports: &Reports<T>) -> Wrote
+    fn write_alone<T: Teller>(
+        &mut self,
+        moment: u64,
+        payload: &'a [u8],
+        reports: &Reports<T>,
+    ) -> Wrote
         requires { (cpu : ℕ) × IsLaneOf cpu self.old }
         ensures wrote { result ≡ Wrote.Record → HasWrittenAlone moment payload.now self.old self.new }
         ensures untold { result ≡ Wrote.Record → reports.now.steps ≡ None }
@@ -93,7 +98,11 @@ impl<'a> Lane<'a> {
 
     /// Pushes a close frame, and lets it make steps until it is gone.
     #[inline(never)]
-    pub(crate) fn close<T: Teller>(&mut self, at: At, reports: &mut Reports<T>) -> Result<(), NoMemory>
+    pub(crate) fn close<T: Teller>(
+        &mut self,
+        at: At,
+        reports: &mut Reports<T>,
+    ) -> Result<(), NoMemory>
         requires { IsReportedLane at.cpu.0 self.old reports.old }
         ensures { OnOk result (HasLine (close at.cpu.0) at.line at.cpu.0
             self.old reports.old self.new reports.new) }
@@ -121,7 +130,7 @@ impl<'a> Lane<'a> {
         if reports.tells() {
             return self.write_told(at, asked, event, payload, reports);
         }
-        let answer = self.push::<Untold>(event, payload)?;
+        let answer = self.push::<(Untold, T)>(event, payload)?;
         match answer {
             Answer::Pushed => {
                 reports.log(at, Answer::Pushed)?;
@@ -148,7 +157,7 @@ impl<'a> Lane<'a> {
         ensures { OnOk result (HasWritten (push_event event) payload.now at.line at.cpu.0
             self.old reports.old self.new reports.new) }
     {
-        let answer = self.push::<Told>(event, payload)?;
+        let answer = self.push::<(Told, T)>(event, payload)?;
         match answer {
             Answer::Pushed => {
                 reports.report(at, asked, Answer::Pushed, &self.core)?;

@@ -54,7 +54,11 @@ impl<'a> Lane<'a> {
     }
 
     /// Lets the reader wish for the tail page.
-    pub(crate) fn wish<T: Teller>(&mut self, at: At, reports: &mut Reports<T>) -> Result<(), NoMemory>
+    pub(crate) fn wish<T: Teller>(
+        &mut self,
+        at: At,
+        reports: &mut Reports<T>,
+    ) -> Result<(), NoMemory>
         requires { IsReportedLane at.cpu.0 self.old reports.old }
         ensures { OnOk result (HasLine (wish at.cpu.0) at.line at.cpu.0
             self.old reports.old self.new reports.new) }
@@ -64,7 +68,12 @@ impl<'a> Lane<'a> {
     }
 
     /// One step of the reader: the answer says whether its take continues.
-    fn read_once<T: Teller>(&mut self, alloc: Global, at: At, reports: &mut Reports<T>) -> Result<bool, NoMemory>
+    fn read_once<T: Teller>(
+        &mut self,
+        alloc: Global,
+        at: At,
+        reports: &mut Reports<T>,
+    ) -> Result<bool, NoMemory>
         requires { IsReportedLane at.cpu.0 self.old reports.old }
         ensures { IfOk result (λ goes_on. MakesExchanges (ReadsOnce goes_on) at.line at.cpu.0
             self.old reports.old self.new reports.new) }

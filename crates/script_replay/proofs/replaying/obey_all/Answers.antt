@@ -1,4 +1,4 @@
-use Rattle.std.proofs.Common.{rules, ℕ, Option, Some, None, ◌≤◌, List, length, sym, ap, ◌∙◌, subst, arith}
+use Rattle.std.proofs.Common.{rules, ℕ, Option, Some, None, ◌≤◌, List, length, ap, ◌∙◌, subst, arith}
 use Rattle.std.proofs.lemmas.List.{take_all}
 use Rattle.text_model.specs.Script.{Command}
 use Rattle.trace_script.specs.ScriptTypes.{shown_line}

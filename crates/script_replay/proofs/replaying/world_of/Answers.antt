@@ -1,5 +1,4 @@
-use Rattle.std.proofs.Common.{List, sym, subst}
-use Rattle.log_text.specs.declared.line.LogLine.{LogLine}
+use Rattle.std.proofs.Common.{sym, subst}
 use Rattle.script_replay.specs.Reports.{ReportsValue}
 use Rattle.script_replay.specs.Replay.{IsHeadline}
 use Rattle.script_replay.proofs.Answered.{is_replay, headline}
