@@ -16,8 +16,9 @@ use Rattle.log_text.specs.declared.line.LogLine.{LogLine}
 use Rattle.script_replay.specs.declared.replaying.ReplayState.{ReplayState}
 use Rattle.script_replay.specs.Replay.{IsStateAfter, IsReplay, AreExact, AreAlike, Join, IsHeadline}
 
-pub is_replay : (script : Script) (state : ReplayState) → (part_way : IsStateAfter script script.commands state)
-    → IsReplay script state.collectors.items state.reports.log.items part_way.world
+pub is_replay : {T : Type 0} (script : Script) (state : ReplayState T)
+    → (part_way : IsStateAfter script script.commands state)
+    → IsReplay script state.collectors.items state.reports.log part_way.world
 is_replay script state part_way =
     record { world = part_way.behind; log_is = part_way.log_is; collectors_are = part_way.collectors_are }
 

@@ -20,10 +20,9 @@ use Rattle.world_model.proofs.LineEnds.{frame_runs_short}
 use Rattle.ring_frames.specs.declared.answer.Answer.{Answer}
 use Rattle.ring_frames.specs.Answers.{IsAnswerOf}
 use Rattle.ring_core.specs.Value.{CoreValue}
-use Rattle.step_text.specs.declared.asked.Asked.{Asked}
-use Rattle.step_text.specs.Tells.{IsAsked, IsStepOf}
-use Rattle.script_replay.specs.declared.reports.Reports.{Reports}
-use Rattle.script_replay.specs.Reports.{KnowsRing, IsReported}
+use Rattle.step_telling.specs.declared.asked.Asked.{Asked}
+use Rattle.step_telling.specs.Tells.{IsAsked, IsStepOf}
+use Rattle.script_replay.specs.Reports.{ReportsValue, KnowsRing, IsReported}
 use Rattle.script_replay.specs.declared.lane.Lane.TheInside.{Inside}
 use Rattle.script_replay.specs.Value.{LaneValue, lane_of}
 use Rattle.script_replay.specs.Lanes.{IsLane, Happens, MakesExchanges}
@@ -66,7 +65,7 @@ top_fewer n size lane answer core step =
     (step_moves n size lane.core (event_on_top lane.core.frames lane.payloads) answer core
     (pushes_none lane.core.frames lane.payloads) (cases_of step))
 
-pub part_way_none : (n size start cpu line depth : ℕ) (v : LaneValue) (lane : Lane) (reports : Reports)
+pub part_way_none : (n size start cpu line depth : ℕ) (v : LaneValue) (lane : Lane) (reports : ReportsValue)
     → IsLane n size start cpu v lane
     → KnowsRing reports cpu lane.core
     → depth ≡ length v.core.stack.frames
@@ -93,7 +92,7 @@ kept_behind lane core depth payloads many same stands =
     ∙ same
 
 pub part_way_more : (n size start cpu line depth count : ℕ) (before : Lane) (v new : LaneValue) (asked : Asked)
-    (answer : Answer) (first old more : Reports)
+    (answer : Answer) (first old more : ReportsValue)
     → Happens (HasMadeSteps depth count) line cpu n size start before first v old
     → length v.core.stack.frames ≡ depth
     → StepsOnce v answer new
@@ -149,7 +148,7 @@ asks_top frames payloads payload rest is = ap (event_on_top frames) is ∙ by_st
 
 -- in each lane that the value was
 pub part_way_turn : (line cpu depth count : ℕ) (start_value v new : LaneValue) (asked : Asked) (answer : Answer)
-    (first old more : Reports)
+    (first old more : ReportsValue)
     → MakesExchanges (HasMadeSteps depth count) line cpu start_value first v old
     → length v.core.stack.frames ≡ depth
     → StepsOnce v answer new
@@ -168,7 +167,7 @@ part_way_turn line cpu depth count start_value v new asked answer first old more
 
 -- the step of the frame on top
 pub top_step : (n size start cpu line depth count : ℕ) (before : Lane) (v new : LaneValue) (asked : Asked)
-    (answer : Answer) (first old : Reports)
+    (answer : Answer) (first old : ReportsValue)
     → (h : Happens (HasMadeSteps depth count) line cpu n size start before first v old)
     → length v.core.stack.frames ≡ depth
     → (s : IsSteppedOnce n size start cpu h.after answer new)
@@ -185,7 +184,8 @@ top_step n size start cpu line depth count before v new asked answer first old h
 }
 
 -- `count` steps are made, or the frame is gone
-pub followed : (n size start cpu line depth made count : ℕ) (before : Lane) (v : LaneValue) (first reports : Reports)
+pub followed : (n size start cpu line depth made count : ℕ) (before : Lane) (v : LaneValue)
+    (first reports : ReportsValue)
     → Happens (HasMadeSteps depth made) line cpu n size start before first v reports
     → depth ≡ length before.core.frames
     → made ≤ count
@@ -262,7 +262,7 @@ finish_by n size start cpu count v before after xs is long (steps_on frames run 
     (gone_behind n size start count before after xs is.is_core.reached is.most long
     (some_length before.core.frames frames) (run, stop))
 
-pub finished : (n size start cpu line count : ℕ) (v new : LaneValue) (lane : Lane) (first reports : Reports)
+pub finished : (n size start cpu line count : ℕ) (v new : LaneValue) (lane : Lane) (first reports : ReportsValue)
     → IsLane n size start cpu v lane
     → frame_limit MAX_PAGES < count
     → Happens (λ n size before exchanges after. LineRun n size (step_frame cpu count) before exchanges after) line cpu n
@@ -304,7 +304,7 @@ first_payload n size start cpu last inside v lane payload view is some kept at =
           shown)),
     )
 
-pub stepped_on : (n size start cpu line count : ℕ) (v new : LaneValue) (lane : Lane) (first reports : Reports)
+pub stepped_on : (n size start cpu line count : ℕ) (v new : LaneValue) (lane : Lane) (first reports : ReportsValue)
     → IsLane n size start cpu v lane
     → v.core.stack.frames ≢ []
     → Happens (FollowsFrame count) line cpu n size start lane first new reports
@@ -342,7 +342,7 @@ no_frame_step n size start cpu v lane asked answer is none asks means =
     }
 
 pub lacks_step : (n size start cpu line count : ℕ) (v : LaneValue) (lane : Lane) (asked : Asked) (answer : Answer)
-    (first reports : Reports)
+    (first reports : ReportsValue)
     → IsLane n size start cpu v lane
     → KnowsRing first cpu lane.core
     → length v.core.stack.frames ≡ 0

@@ -62,9 +62,10 @@ none_collected kept parcels none none' =
 pub element : {A : Type 0} (P : A → Type 0) (xs : List A) (k : ℕ) (x : A) → All P xs → slice_get xs k ≡ Some x → P x
 element P xs k x all at = subst P (get_or_from_slice_get xs k x x at) (all k x (slice_get_within xs k x at))
 
-pub first_part_way : (script : Script) (state : ReplayState) → IsWithinLimits script → state.lanes.items ≡ []
+pub first_part_way : {T : Type 0} (script : Script) (state : ReplayState T) → IsWithinLimits script
+    → state.lanes.items ≡ []
     → length state.collectors.items ≡ script.collectors → All (λ kept. kept ≡ []) state.collectors.items
-    → state.reports.log.items ≡ [] → IfSome state.reports.steps (λ s. IsNewText script s) → IsStateAfter script [] state
+    → state.reports.log ≡ [] → IfSome state.reports.steps (λ s. IsNewText script s) → IsStateAfter script [] state
 first_part_way script state limits no_lanes count no_pages no_log text =
     let (w, new) = first_world script limits in
     record {
@@ -85,7 +86,8 @@ first_part_way script state limits no_lanes count no_pages no_log text =
 
 -- ---- between two lines
 
-module _ (script : Script) (lines : List (ℕ × Command)) (state : ReplayState) (limits : IsWithinLimits script)
+module _ {T : Type 0} (script : Script) (lines : List (ℕ × Command)) (state : ReplayState T)
+    (limits : IsWithinLimits script)
     (part_way : IsStateAfter script lines state) where
   abbrev w : World
   w = part_way.world
@@ -158,9 +160,8 @@ module _ (script : Script) (lines : List (ℕ × Command)) (state : ReplayState)
 
 -- ---- a line of a ring
 
-module _ (script : Script) (line cpu : ℕ) (command : Command) (old new : ReplayState) (v after : LaneValue)
-    (ring : IsOfRing command)
-    (is : cpu_of command ≡ cpu)
+module _ {T : Type 0} (script : Script) (line cpu : ℕ) (command : Command) (old new : ReplayState T)
+    (v after : LaneValue) (ring : IsOfRing command) (is : cpu_of command ≡ cpu)
     (limits : IsWithinLimits script)
     (low : cpu < script.cpus)
     (from : IsLaneFrom script (lane_at old.lanes.items cpu) v)
@@ -248,15 +249,16 @@ collected_more Known kept delivered new parcel collected (below, is) =
       among = λ p has. Contains-append_left delivered (parcel ∷ []) p (collected.among p has);
     })
 
-module _ (script : Script) (line collector cpu fill : ℕ) (lines : List (ℕ × Command)) (old new : ReplayState)
+module _ {T : Type 0} (script : Script) (line collector cpu fill : ℕ) (lines : List (ℕ × Command))
+    (old new : ReplayState T)
     (limits : IsWithinLimits script)
     (low : cpu < script.cpus)
     (lanes : new.lanes.items ≡ old.lanes.items)
     (part_way : IsStateAfter script lines old) where
   pub untaken_line : IfSome (lane_at old.lanes.items cpu) (λ v. All (λ parcel. parcel.fill ≢ fill) (as_parcels v.taken))
       → new.collectors.items ≡ old.collectors.items
-      → shown_log new.reports.log.items
-      ≡ shown_log old.reports.log.items ++ delivery_line line collector cpu fill no_page ∷ []
+      → shown_log new.reports.log
+      ≡ shown_log old.reports.log ++ delivery_line line collector cpu fill no_page ∷ []
       → IsTextTold (printed_log_line (delivery_line line collector cpu fill no_page)) old.reports.steps
       new.reports.steps
       → IsStateAfter script (lines ++ (line, deliver collector cpu fill) ∷ []) new
@@ -286,8 +288,8 @@ module _ (script : Script) (line collector cpu fill : ℕ) (lines : List (ℕ ×
       → slice_get old.collectors.items collector ≡ Some kept
       → Adds added kept parcel more
       → new.collectors.items ≡ slice_set old.collectors.items collector more
-      → shown_log new.reports.log.items
-      ≡ shown_log old.reports.log.items ++ delivery_line line collector cpu fill (delivery_of added) ∷ []
+      → shown_log new.reports.log
+      ≡ shown_log old.reports.log ++ delivery_line line collector cpu fill (delivery_of added) ∷ []
       → IsTextTold (delivery_step_text line collector cpu fill (delivery_of added) parcel) old.reports.steps
       new.reports.steps
       → IsStateAfter script (lines ++ (line, deliver collector cpu fill) ∷ []) new
@@ -357,8 +359,8 @@ module _ (script : Script) (line collector cpu fill : ℕ) (lines : List (ℕ ×
 
 -- ---- one line more, of all
 
-pub one_more : (script : Script) (commands : List (ℕ × Command)) (index : ℕ) (line : ℕ × Command)
-    (old new : ReplayState)
+pub one_more : {T : Type 0} (script : Script) (commands : List (ℕ × Command)) (index : ℕ) (line : ℕ × Command)
+    (old new : ReplayState T)
     → slice_get commands index ≡ Some line
     → commands ≡ script.commands
     → IsStateAfter script (take index script.commands) old
@@ -374,7 +376,8 @@ one_more script commands index line old new at same part_way leads =
     subst (λ (l : List (ℕ × Command)). IsStateAfter script l new) (sym behind)
     (leads (take index script.commands) part_way).0
 
-pub may_obey : (script : Script) (commands : List (ℕ × Command)) (index : ℕ) (line : ℕ × Command) (state : ReplayState)
+pub may_obey : {T : Type 0} (script : Script) (commands : List (ℕ × Command)) (index : ℕ) (line : ℕ × Command)
+    (state : ReplayState T)
     → IsWithinLimits script
     → slice_get commands index ≡ Some line
     → commands ≡ script.commands

@@ -24,10 +24,9 @@ use Rattle.ring_frames.proofs.Reported.{reported_pushed}
 use Rattle.ring_core.specs.Answers.{event_of}
 use Rattle.ring_core.specs.Steps.{IsStep, MakesStep}
 use Rattle.script_replay.specs.Value.{LaneValue}
-use Rattle.step_text.specs.declared.asked.Asked.{Asked}
-use Rattle.step_text.specs.Tells.{IsAsked, IsStepOf}
-use Rattle.script_replay.specs.declared.reports.Reports.{Reports}
-use Rattle.script_replay.specs.Reports.{Reported, KnowsRing, IsReported}
+use Rattle.step_telling.specs.declared.asked.Asked.{Asked}
+use Rattle.step_telling.specs.Tells.{IsAsked, IsStepOf}
+use Rattle.script_replay.specs.Reports.{ReportsValue, Reported, KnowsRing, IsReported}
 use Rattle.script_replay.specs.Lanes.{IsLane, Happens}
 use Rattle.script_replay.specs.Frames.{IsPushOf, push_event, IsPushed, Pushes}
 use Rattle.script_replay.proofs.Reporting.{reported_more}
@@ -232,7 +231,7 @@ pushed_step n size start cpu v lane asked push payload a new is asks p = record 
 }
 
 pub begun : (n size start cpu line moment : ℕ) (v : LaneValue) (lane : Lane) (asked : Asked) (payload : List ℕ)
-    (a : Answer) (new : LaneValue) (first reports : Reports)
+    (a : Answer) (new : LaneValue) (first reports : ReportsValue)
     → IsLane n size start cpu v lane
     → KnowsRing first cpu lane.core
     → IsAsked asked lane.core (pushes moment (length payload))
@@ -254,7 +253,7 @@ begun n size start cpu line moment v lane asked payload a new first reports is k
 
 -- a push is reported
 pub push_reported : (n size start cpu line : ℕ) (v : LaneValue) (lane : Lane) (asked : Asked) (push : model.Event)
-    (payload : List ℕ) (a : Answer) (new : LaneValue) (first reports : Reports)
+    (payload : List ℕ) (a : Answer) (new : LaneValue) (first reports : ReportsValue)
     → IsLane n size start cpu v lane
     → KnowsRing first cpu lane.core
     → IsAsked asked lane.core push
@@ -267,7 +266,7 @@ push_reported n size start cpu line v lane asked push payload a new first report
 
 -- pushed, and finished
 pub written : (n size start cpu line : ℕ) (lane : Lane) (push : model.Event) (payload : List ℕ) (a : Answer)
-    (between new : LaneValue) (first reports more : Reports)
+    (between new : LaneValue) (first reports more : ReportsValue)
     → (p : IsPushed n size start cpu lane push payload a between)
     → a ≡ answer.Pushed
     → Reported n size line cpu lane.core (record { event = push; answer = p.reported } ∷ []) p.core first reports
@@ -307,7 +306,7 @@ none_follows n size payload c reported after lane not (fails why is frames) =
     subst (λ (t : model.Answer). FinishesPushed n size t lane [] lane) (sym is) (refl, refl)
 
 pub not_written : (n size start cpu line : ℕ) (lane : Lane) (push : Event) (payload : List ℕ) (a : Answer)
-    (new : LaneValue) (first reports : Reports)
+    (new : LaneValue) (first reports : ReportsValue)
     → IsPushOf push payload
     → (p : IsPushed n size start cpu lane (push_event push) payload a new)
     → a ≢ answer.Pushed

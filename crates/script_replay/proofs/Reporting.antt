@@ -14,11 +14,11 @@ use Rattle.step_model.specs.RunTexts.{Tells}
 use Rattle.ring_core.specs.Value.{CoreValue}
 use Rattle.ring_frames.specs.declared.answer.Answer.{Answer}
 use Rattle.ring_frames.specs.Answers.{IsAnswerOf}
-use Rattle.step_text.specs.declared.asked.Asked.{Asked}
-use Rattle.step_text.specs.Known.{StepTextValue, Knows}
-use Rattle.step_text.specs.Tells.{IsStepOf, MayTell}
-use Rattle.script_replay.specs.declared.reports.Reports.{Reports}
-use Rattle.script_replay.specs.Reports.{AreTold, Reported, KnowsRing, MayReport, IsStepTold, IsReported}
+use Rattle.step_telling.specs.declared.asked.Asked.{Asked}
+use Rattle.step_telling.specs.Known.{StepTextValue, Knows}
+use Rattle.step_telling.specs.Tells.{IsStepOf, MayTell}
+use Rattle.script_replay.specs.Reports.{ReportsValue, AreTold, Reported, KnowsRing, MayReport, IsStepTold}
+use Rattle.script_replay.specs.Reports.{IsReported}
 
 -- ---- the log
 
@@ -96,25 +96,25 @@ module _ (n size line cpu : ℕ) where
   -- ---- both
 
   -- nothing is reported of no exchange
-  pub reported_none : (c : Core) (reports : Reports)
+  pub reported_none : (c : Core) (reports : ReportsValue)
       → KnowsRing reports cpu c
       → Reported n size line cpu c [] c reports reports
   reported_none c reports knows =
-      record { log = sym (append-nil (shown_log reports.log.items)); steps = told_none c reports.steps knows }
+      record { log = sym (append-nil (shown_log reports.log)); steps = told_none c reports.steps knows }
 
   -- some are reported, and then others
-  pub reported_more : (before between after : Core) (xs ys : List Exchange) (old middle new : Reports)
+  pub reported_more : (before between after : Core) (xs ys : List Exchange) (old middle new : ReportsValue)
       → Reported n size line cpu before xs between old middle
       → Reported n size line cpu between ys after middle new
       → Reported n size line cpu before (xs ++ ys) after old new
   reported_more before between after xs ys old middle new first rest = record {
-    log = logged_more line cpu xs ys (shown_log old.log.items) (shown_log middle.log.items) (shown_log new.log.items)
+    log = logged_more line cpu xs ys (shown_log old.log) (shown_log middle.log) (shown_log new.log)
         first.log rest.log;
     steps = told_more before between after xs ys old.steps middle.steps new.steps first.steps rest.steps;
   }
 
   -- and then the ring is known
-  pub knows_after : (before after : Core) (xs : List Exchange) (old new : Reports)
+  pub knows_after : (before after : Core) (xs : List Exchange) (old new : ReportsValue)
       → Reported n size line cpu before xs after old new
       → KnowsRing new cpu after
   knows_after before after xs old new reported = known_after before after xs old.steps new.steps reported.steps
@@ -141,7 +141,7 @@ module _ (line cpu : ℕ) (asked : Asked) (answer : Answer) (ring : CoreValue) (
   }
 
   -- it may be reported, if its ring is known
-  pub may_report : (reports : Reports) → KnowsRing reports cpu before → MayReport cpu asked answer ring reports
+  pub may_report : (reports : ReportsValue) → KnowsRing reports cpu before → MayReport cpu asked answer ring reports
   may_report reports knows = may_tell reports.steps knows
 
   told_one : (o p : Option StepTextValue)
@@ -162,16 +162,16 @@ module _ (line cpu : ℕ) (asked : Asked) (answer : Answer) (ring : CoreValue) (
       }
 
 -- what is logged of the answer, and what is told of the step, is the report
-pub step_reported : (line cpu : ℕ) (asked : Asked) (answer : Answer) (ring : CoreValue) (old new : Reports)
+pub step_reported : (line cpu : ℕ) (asked : Asked) (answer : Answer) (ring : CoreValue) (old new : ReportsValue)
     → IsStepTold line cpu asked answer ring old.steps new.steps
     → ((size : ℕ) (reported : model.Answer)
     → IsAnswerOf size answer reported
-    → shown_log new.log.items ≡ shown_log old.log.items ++ logged line cpu reported)
+    → shown_log new.log ≡ shown_log old.log ++ logged line cpu reported)
     → IsReported line cpu asked answer ring old new
 step_reported line cpu asked answer ring old new told says n size start before after event reported knows step =
     record {
       log = says size reported step.reports
-          ∙ ap (λ (l : List LogLine). shown_log old.log.items ++ l) (sym (append-nil (logged line cpu reported)));
+          ∙ ap (λ (l : List LogLine). shown_log old.log ++ l) (sym (append-nil (logged line cpu reported)));
       steps =
           told_one line cpu asked answer ring n size start before after event reported step old.steps new.steps knows
           told;

@@ -21,7 +21,7 @@ use Rattle.collector.specs.declared.added.Added.{Added}
 use Rattle.collector.specs.declared.added.Added.TheVariants.{New, Known}
 use Rattle.step_model.specs.RunTexts.{gain_text, gains_of, delivery_step_text, tells_page, tells_none, TellsRing}
 use Rattle.step_model.specs.RunTexts.{TellsLine, TellsAll, trace_line, new_rings_text}
-use Rattle.step_text.specs.Known.{StepTextValue, Knows}
+use Rattle.step_telling.specs.Known.{StepTextValue, Knows}
 use Rattle.script_replay.specs.RingCommands.{IsOfRing, cpu_of}
 use Rattle.script_replay.specs.Collected.{delivery_of}
 use Rattle.script_replay.specs.Reports.{AreTold, IsTextTold}
@@ -146,8 +146,8 @@ module _ (script : Script) (lines : List (ℕ × Command)) (line cpu : ℕ) (com
       (sym (get_set_here w.lanes cpu runs.next (slice_get_within w.lanes cpu runs.lane runs.lane_is))
       ∙ subst (λ (j : ℕ). slice_get (slice_set w.lanes cpu runs.next) j ≡ Some lane) e set_at) in
       subst (λ (j : ℕ). Knows new j lane.core) (sym e) (subst (λ (l : Lane). Knows new cpu l.core) next_is here))
-      (λ apart. let k = before other lane (sym (get_set_other w.lanes cpu other runs.next apart) ∙ set_at) in
-      record { known = k.known; at = others other apart ∙ k.at; of_core = k.of_core })
+      (λ apart.
+      others other apart ∙ before other lane (sym (get_set_other w.lanes cpu other runs.next apart) ∙ set_at))
 
   pub told_ring : (old new : Option StepTextValue)
       → AreTold script.pages script.size line cpu runs.lane.core runs.exchanges runs.next.core old new
@@ -212,8 +212,8 @@ told_delivery script lines line command w after text (Some old) None tells lanes
 told_delivery script lines line command w after text (Some old) (Some new) tells lanes told so_far =
     so_far_more script lines line command w after text old new so_far tells told.0
     (λ cpu lane at.
-    let k = so_far.knows cpu lane (ap (λ (ls : List Lane). slice_get ls cpu) (sym lanes) ∙ at) in
-    record { known = k.known; at = (λ i. slice_get (told.1 i) cpu) ∙ k.at; of_core = k.of_core })
+    (λ i. slice_get (told.1 i) cpu)
+    ∙ so_far.knows cpu lane (ap (λ (ls : List Lane). slice_get ls cpu) (sym lanes) ∙ at))
 
 pub told_page : (script : Script) (lines : List (ℕ × Command)) (line collector cpu fill : ℕ) (w after : World)
     (old new : Option StepTextValue)

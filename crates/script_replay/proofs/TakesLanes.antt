@@ -33,10 +33,9 @@ use Rattle.ring_frames.specs.Answers.{IsAnswerOf}
 use Rattle.ring_core.specs.Answers.{GivesBack}
 use Rattle.ring_core.specs.Steps.{MakesStep}
 use Rattle.script_replay.specs.Value.{LaneValue}
-use Rattle.step_text.specs.declared.asked.Asked.{Asked}
-use Rattle.step_text.specs.Tells.{IsAsked}
-use Rattle.script_replay.specs.declared.reports.Reports.{Reports}
-use Rattle.script_replay.specs.Reports.{IsReported}
+use Rattle.step_telling.specs.declared.asked.Asked.{Asked}
+use Rattle.step_telling.specs.Tells.{IsAsked}
+use Rattle.script_replay.specs.Reports.{ReportsValue, IsReported}
 use Rattle.script_replay.specs.Lanes.{IsLane, IsLaneOf, MakesExchanges}
 use Rattle.script_replay.specs.Takes.{ReadsOnce, MayKeep, Keeps}
 use Rattle.script_replay.proofs.LaneValues.{moved_lane}
@@ -99,7 +98,7 @@ brings_none n size cpu c event answer after wish (read_step e step) = absurd (su
 brings_none n size cpu c event answer after wish (store_wish_step e a is) = ap (parcels_in cpu) a
 
 pub wishes_of : (line cpu : ℕ) (v : LaneValue) (asked : Asked) (result : Answer) (new : LaneValue)
-    (old reports : Reports)
+    (old reports : ReportsValue)
     → ((c : Core) → IsAsked asked c wishes)
     → MakesStep v.core wishes result new.core
     → new ≡ record v { core = new.core }
@@ -219,7 +218,7 @@ module _ (line cpu n size start : ℕ) (v : LaneValue) (lane : Lane) (is : IsLan
   keeps_reads (Wished fill) reports gives keeps = absurd gives
 
 pub reads_once : (line cpu : ℕ) (v between new : LaneValue) (body : List ℕ) (asked : Asked) (result : Answer)
-    (goes_on : Bool) (old reports : Reports)
+    (goes_on : Bool) (old reports : ReportsValue)
     → ((c : Core) → IsAsked asked c reads)
     → length body ≡ v.core.stack.size
     → MakesStep v.core reads result between.core

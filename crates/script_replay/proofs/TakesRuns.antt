@@ -12,7 +12,7 @@ use Rattle.ring_model.specs.Ranks.{reader_limit}
 use Rattle.world_model.specs.Lanes.{Lane, lane_behind, ReaderRun, HasTakeAnswer}
 use Rattle.world_model.proofs.LineEnds.{reader_runs_short}
 use Rattle.script_replay.specs.Value.{LaneValue}
-use Rattle.script_replay.specs.declared.reports.Reports.{Reports}
+use Rattle.script_replay.specs.Reports.{ReportsValue}
 use Rattle.script_replay.specs.Lanes.{IsReportedLane, MakesExchanges, HasLine}
 use Rattle.script_replay.specs.Takes.{ReadsOnce, ReadsOn, ReadsSteps}
 use Rattle.script_replay.proofs.Reporting.{reported_none, reported_more, knows_after}
@@ -65,7 +65,7 @@ reading_more steps n size goes_on before between after xs ys r once =
 -- ---- of a value
 
 pub read_more : (line cpu steps : ℕ) (goes_on : Bool) (first between new : LaneValue)
-    (old middle reports : Reports)
+    (old middle reports : ReportsValue)
     → MakesExchanges (ReadsSteps steps true) line cpu first old between middle
     → MakesExchanges (ReadsOnce goes_on) line cpu between middle new reports
     → MakesExchanges (ReadsSteps (steps + 1) goes_on) line cpu first old new reports
@@ -83,7 +83,7 @@ read_more line cpu steps goes_on first between new old middle reports so_far onc
     }
 
 -- none is made yet
-pub read_none : (line cpu : ℕ) (v : LaneValue) (reports : Reports)
+pub read_none : (line cpu : ℕ) (v : LaneValue) (reports : ReportsValue)
     → MakesExchanges (ReadsSteps 0 true) line cpu v reports v reports
 read_none line cpu v reports = λ n size start lane is knows. record {
   exchanges = [];
@@ -100,7 +100,7 @@ read_none line cpu v reports = λ n size start lane is knows. record {
 
 -- after them the value is still a lane
 pub lane_of : {run : (n size : ℕ) → Lane → List Exchange → Lane → Type 0} (line cpu : ℕ) (v new : LaneValue)
-    (old reports : Reports)
+    (old reports : ReportsValue)
     → IsReportedLane cpu v old
     → MakesExchanges run line cpu v old new reports
     → IsReportedLane cpu new reports
@@ -115,7 +115,7 @@ lane_of line cpu v new old reports (n, size, start, lane, is, knows) has =
     )
 
 -- all steps are made
-pub all_read : (line cpu steps count : ℕ) (goes_on : Bool) (v new : LaneValue) (old reports : Reports)
+pub all_read : (line cpu steps count : ℕ) (goes_on : Bool) (v new : LaneValue) (old reports : ReportsValue)
     → steps ≡ count
     → MakesExchanges (ReadsSteps steps goes_on) line cpu v old new reports
     → MakesExchanges (ReadsOn count) line cpu v old new reports
@@ -130,7 +130,7 @@ all_read line cpu steps count goes_on v new old reports all has = λ n size star
     }
 
 -- the take is answered
-pub answer_read : (line cpu steps count : ℕ) (v new : LaneValue) (old reports : Reports)
+pub answer_read : (line cpu steps count : ℕ) (v new : LaneValue) (old reports : ReportsValue)
     → steps ≤ count
     → MakesExchanges (ReadsSteps steps false) line cpu v old new reports
     → MakesExchanges (ReadsOn count) line cpu v old new reports
@@ -152,7 +152,7 @@ answered_if [] not = absurd (not (λ e. e))
 answered_if (x ∷ []) not = λ e. not (λ ends. ends e)
 answered_if (x ∷ y ∷ xs) not = answered_if (y ∷ xs) not
 
-pub take_is_answered : (line cpu count : ℕ) (v new : LaneValue) (old reports : Reports)
+pub take_is_answered : (line cpu count : ℕ) (v new : LaneValue) (old reports : ReportsValue)
     → reader_limit MAX_PAGES < count
     → MakesExchanges (ReadsOn count) line cpu v old new reports
     → HasLine (take_page cpu) line cpu v old new reports

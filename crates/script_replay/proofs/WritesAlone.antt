@@ -9,11 +9,10 @@ use Rattle.text_model.specs.Script.{write}
 use Rattle.world_model.specs.Lanes.{Lane, payloads_left, lane_with, lane_behind, event_in, event_on_top, FitFrames}
 use Rattle.world_model.specs.Lanes.{HasPayloads, FrameRun, finishes, WritesFrame, LineRun}
 use Rattle.world_model.specs.World.{parcel_of}
-use Rattle.step_text.specs.Known.{StepTextValue}
+use Rattle.step_telling.specs.Known.{StepTextValue}
 use Rattle.ring_core.specs.AtOnce.{IsWriteAlone}
-use Rattle.script_replay.specs.declared.reports.Reports.{Reports}
 use Rattle.script_replay.specs.Value.{LaneValue}
-use Rattle.script_replay.specs.Reports.{Reported, AreTold}
+use Rattle.script_replay.specs.Reports.{ReportsValue, Reported, AreTold}
 use Rattle.script_replay.specs.Lanes.{IsLane, Happens}
 use Rattle.script_replay.proofs.LaneValues.{moved_lane, taken_stay}
 
@@ -23,8 +22,9 @@ none_fits [] [] none fit = refl
 none_fits [] (payload ∷ payloads) none fit = absurd fit
 none_fits (frame ∷ frames) payloads none fit = absurd (let z : ⊥ = cc in z)
 
-module _ (n size start cpu line moment : ℕ) (payload : List ℕ) (v new : LaneValue) (reports : Reports) (lane : Lane)
-    (is : IsLane n size start cpu v lane) (w : IsWriteAlone n size start lane.core moment payload new.core) where
+module _ (n size start cpu line moment : ℕ) (payload : List ℕ) (v new : LaneValue) (reports : ReportsValue)
+    (lane : Lane) (is : IsLane n size start cpu v lane) (w : IsWriteAlone n size start lane.core moment payload new.core)
+    where
   none_kept : lane.payloads ≡ []
   none_kept = none_fits lane.core.frames lane.payloads w.none is.fit
 

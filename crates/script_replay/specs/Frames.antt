@@ -11,7 +11,7 @@ use Rattle.ring_core.specs.Value.{CoreValue}
 use Rattle.ring_frames.specs.Answers.{IsAnswerOf}
 use Rattle.ring_core.specs.Steps.{IsStep}
 use Rattle.ring_core.specs.AtOnce.{WritesAlone}
-use Rattle.script_replay.specs.declared.reports.Reports.{Reports}
+use Rattle.script_replay.specs.Reports.{ReportsValue}
 use Rattle.script_replay.specs.Value.{LaneValue}
 use Rattle.script_replay.specs.Lanes.{IsLane, MakesExchanges}
 
@@ -86,7 +86,8 @@ Pushes event payload old answer new = (n size start cpu : ℕ) (lane : Lane)
     → IsPushed n size start cpu lane event payload answer new
 
 -- a frame is pushed and finished
-abbrev pub HasWritten : model.Event → List ℕ → (line cpu : ℕ) → LaneValue → Reports → LaneValue → Reports → Type 0
+abbrev pub HasWritten : model.Event → List ℕ → (line cpu : ℕ) → LaneValue → ReportsValue → LaneValue → ReportsValue
+    → Type 0
 HasWritten event payload line cpu old old_reports new reports =
     MakesExchanges (λ n size before exchanges after. WritesFrame n size event payload before exchanges after)
     line cpu old old_reports new reports

@@ -12,7 +12,7 @@ use Rattle.log_text.specs.declared.line.LogLine.{LogLine}
 use Rattle.script_replay.specs.declared.replaying.ReplayState.{ReplayState}
 use Rattle.log_text.specs.LogTypes.{shown_log}
 use Rattle.step_model.specs.RunTexts.{TellsAll, trace_line, new_rings_text}
-use Rattle.step_text.specs.Known.{StepTextValue, Knows}
+use Rattle.step_telling.specs.Known.{StepTextValue, Knows}
 use Rattle.script_replay.specs.LanesByCpu.{lane_at, IsLaneAt}
 use Rattle.script_replay.specs.Collected.{AreCollected}
 
@@ -88,25 +88,26 @@ pub record IsToldSoFar (script : Script) (lines : List (ℕ × Command)) (w : Wo
 
 -- After these lines: the lanes that were made, each at its CPU, the collectors and the log are those of the world
 -- there, and each lane that wasn't made is new.
-pub record IsStateAfter (script : Script) (lines : List (ℕ × Command)) (state : ReplayState) : Type 0 where
+pub record IsStateAfter {T : Type 0} (script : Script) (lines : List (ℕ × Command)) (state : ReplayState T)
+    : Type 0 where
   pub world : World
   pub behind : WorldBehind script lines world
   pub lanes_are : (cpu : ℕ) (lane : Lane)
       → slice_get world.lanes cpu ≡ Some lane
       → IsLaneAt script cpu (lane_at state.lanes.items cpu) lane
   pub collectors_are : AreCollected state.collectors.items world.delivered
-  pub log_is : shown_log state.reports.log.items ≡ world.log
+  pub log_is : shown_log state.reports.log ≡ world.log
   pub steps_are : IfSome state.reports.steps (λ steps. IsToldSoFar script lines world steps)
 
 -- a command of this script may be obeyed after some of its lines
-pub record IsReady (script : Script) (command : Command) (state : ReplayState) : Type 0 where
+pub record IsReady {T : Type 0} (script : Script) (command : Command) (state : ReplayState T) : Type 0 where
   pub limits : IsWithinLimits script
   pub within : IsCommandWithin script.cpus script.collectors command
   pub lines : List (ℕ × Command)
   pub part_way : IsStateAfter script lines state
 
 -- One line more is obeyed, whichever were obeyed before; and a text that is asked for is still told.
-abbrev pub LeadsOn : Script → ℕ × Command → ReplayState → ReplayState → Type 0
+abbrev pub LeadsOn : {T : Type 0} → Script → ℕ × Command → ReplayState T → ReplayState T → Type 0
 LeadsOn script line old new = (lines : List (ℕ × Command))
     → IsStateAfter script lines old
     → IsStateAfter script (lines ++ line ∷ []) new × (IsSome old.reports.steps → IsSome new.reports.steps)

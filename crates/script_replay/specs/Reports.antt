@@ -11,10 +11,14 @@ use Rattle.ring_frames.specs.declared.answer.Answer.{Answer}
 use Rattle.log_text.specs.declared.line.LogLine.{LogLine}
 use Rattle.log_text.specs.LogTypes.{shown_log, shown_log_line}
 use Rattle.step_model.specs.RunTexts.{Tells, gain_text, gains_of}
-use Rattle.step_text.specs.declared.asked.Asked.{Asked}
-use Rattle.step_text.specs.Known.{StepTextValue, Knows, KnowsOthers}
-use Rattle.step_text.specs.Tells.{IsStepOf, MayTell, TellsStep}
-use Rattle.script_replay.specs.declared.reports.Reports.{Reports}
+use Rattle.step_telling.specs.declared.asked.Asked.{Asked}
+use Rattle.step_telling.specs.Known.{StepTextValue, Knows, KnowsOthers}
+use Rattle.step_telling.specs.Tells.{IsStepOf, MayTell, TellsStep}
+
+-- what contracts see of the reports: the log, and what is told of steps, if that is asked for
+pub record ReportsValue : Type 0 where
+  pub log : List LogLine
+  pub steps : Option StepTextValue
 
 -- ---- what is told of exchanges
 
@@ -39,19 +43,19 @@ AreTold n size line cpu before exchanges after (Some old) (Some new) =
 
 -- These exchanges with the ring of a CPU are reported, in the script's line of this number.
 pub record Reported (n size line cpu : ℕ) (before : Core) (exchanges : List Exchange) (after : Core)
-    (old new : Reports)
+    (old new : ReportsValue)
     : Type 0 where
-  pub log : shown_log new.log.items ≡ shown_log old.log.items ++ log_of line cpu exchanges
+  pub log : shown_log new.log ≡ shown_log old.log ++ log_of line cpu exchanges
   pub steps : AreTold n size line cpu before exchanges after old.steps new.steps
 
 -- the ring of this CPU is known to be in this state, if the text is asked for
-abbrev pub KnowsRing : Reports → (cpu : ℕ) → Core → Type 0
+abbrev pub KnowsRing : ReportsValue → (cpu : ℕ) → Core → Type 0
 KnowsRing reports cpu c = IfSome reports.steps (λ steps. Knows steps cpu c)
 
 -- ---- one step
 
 -- the step may be told, if that is asked for
-abbrev pub MayReport : (cpu : ℕ) → Asked → Answer → CoreValue → Reports → Type 0
+abbrev pub MayReport : (cpu : ℕ) → Asked → Answer → CoreValue → ReportsValue → Type 0
 MayReport cpu asked answer ring reports = IfSome reports.steps (λ steps. MayTell cpu asked answer ring steps)
 
 -- it is told, if that is asked for
@@ -63,7 +67,7 @@ IsStepTold line cpu asked answer ring (Some old) None = ⊥
 IsStepTold line cpu asked answer ring (Some old) (Some new) = TellsStep line cpu asked answer ring old new
 
 -- each step that this may be, of a ring that is known, is reported
-abbrev pub IsReported : (line cpu : ℕ) → Asked → Answer → CoreValue → Reports → Reports → Type 0
+abbrev pub IsReported : (line cpu : ℕ) → Asked → Answer → CoreValue → ReportsValue → ReportsValue → Type 0
 IsReported line cpu asked answer ring old new = (n size start : ℕ) (before after : Core) (event : model.Event)
     (reported : model.Answer)
     → KnowsRing old cpu before
@@ -80,11 +84,11 @@ IsTextTold text (Some old) None = ⊥
 IsTextTold text (Some old) (Some new) = (new.text ≡ old.text ++ text) × (new.rings ≡ old.rings)
 
 -- a delivery is reported by its line
-pub record LineIsReported (line : LogLine) (old new : Reports) : Type 0 where
-  pub log : new.log.items ≡ old.log.items ++ line ∷ []
+pub record LineIsReported (line : LogLine) (old new : ReportsValue) : Type 0 where
+  pub log : new.log ≡ old.log ++ line ∷ []
   pub steps : IsTextTold (printed_log_line (shown_log_line line)) old.steps new.steps
 
 -- and what it brings
-pub record GainsAreReported (parcel : Parcel) (old new : Reports) : Type 0 where
+pub record GainsAreReported (parcel : Parcel) (old new : ReportsValue) : Type 0 where
   pub log : new.log ≡ old.log
   pub steps : IsTextTold (flat_map gain_text (gains_of parcel)) old.steps new.steps

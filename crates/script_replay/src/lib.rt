@@ -8,10 +8,11 @@ mod delivery;
 #[tactic(auto, unfolding(ring_core::specs::Steps::IsReachedCore))]
 mod lane;
 mod lanes;
+mod nobody;
 mod replaying;
 mod reports;
 mod world;
 
 pub use log_text::LogLine;
-pub use replaying::{replay, steps_of, world_of};
+pub use replaying::{replay, told_replay, world_of};
 pub use world::World;

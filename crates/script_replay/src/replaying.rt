@@ -1,5 +1,6 @@
 //! The replay of a script over the rings of its CPUs: its lines are obeyed, one after the other.
-ghost use Rattle.std.specs.Prelude.{◌≡◌, [], length, true, All, IsOkUnless, IsSome, IfOk, OnOk};
+ghost use Rattle.std.specs.Prelude.{◌≡◌, [], length, All, IsOkUnless, IsSome, IfSome, IfOk, OnOk};
+ghost use Rattle.std.specs.Prelude.{option_map};
 ghost use Rattle.world_model.specs.World as model_world;
 ghost use Rattle.text_model.specs.Log as model;
 ghost use Rattle.text_model.specs.Script as model_script;
@@ -10,36 +11,37 @@ ghost use Rattle.log_text.specs.LogTypes.{shown_log_line};
 ghost use Rattle.script_replay.specs.RingCommands.{IsOfRing, cpu_of};
 ghost use Rattle.script_replay.specs.Collected.{delivery_of};
 ghost use Rattle.step_model.specs.RunTexts.{IsStepText};
-ghost use Rattle.script_replay.specs.Replay.{IsStateAfter, IsReady, LeadsOn, IsHeadline};
+ghost use Rattle.script_replay.specs.Replay.{IsNewText, IsStateAfter, IsReady, LeadsOn, IsHeadline};
 ghost use Rattle.trace_script.specs.declared.replay_fault.ReplayFault.TheVariants.{NoMemory as no_memory};
 
 use crate::delivery::taken_page;
 use crate::lane::Lane;
 use crate::lanes::make_lane;
+use crate::nobody::Nobody;
 use crate::reports::Reports;
 use crate::world::World;
 use collector::{Added, Collector};
 use deliveries::collect;
 use log_text::LogLine;
 use std::alloc::Global;
-use step_text::StepText;
+use step_telling::Teller;
 use trace_model::{CpuId, FillNo, NoMemory};
 use trace_script::{Command, ReplayFault, Script, ScriptLine};
 
 /// A replay between two lines: the lanes that were made so far, each at its CPU's index; the collectors; the log.
 #[derive(Drop)]
-pub(crate) struct ReplayState<'a> {
+pub(crate) struct ReplayState<'a, T: Teller> {
     lanes: Vec<Option<Box<Lane<'a>>>>,
     collectors: Vec<Collector>,
-    reports: Reports,
+    reports: Reports<T>,
 }
 
 /// Obeys a line of the ring of this CPU, which is the command's.
 #[inline(always)]
-fn obey_ring<'a>(
+fn obey_ring<'a, T: Teller>(
     alloc: Global,
     script: &Script,
-    state: &mut ReplayState<'a>,
+    state: &mut ReplayState<'a, T>,
     line: u64,
     cpu: CpuId,
     command: Command<'a>,
@@ -78,8 +80,8 @@ fn reported_delivery(added: Added, line: u64, collector: usize, cpu: CpuId, fill
 
 /// Delivers a fill of a CPU to a collector, if it was taken.
 #[inline(never)]
-fn deliver(
-    state: &mut ReplayState,
+fn deliver<T: Teller>(
+    state: &mut ReplayState<T>,
     line: u64,
     collector: usize,
     cpu: CpuId,
@@ -110,10 +112,10 @@ fn deliver(
 /// Obeys a line of the script. What it leaves if memory is refused is not used. `obey_ring` and `Lane::obey` are
 /// inlined into each arm, where the kind is known, so that it is matched once.
 #[inline(always)]
-fn obey<'a>(
+fn obey<'a, T: Teller>(
     alloc: Global,
     script: &Script,
-    state: &mut ReplayState<'a>,
+    state: &mut ReplayState<'a, T>,
     line: ScriptLine<'a>,
 ) -> Result<(), NoMemory>
     requires { IsReady script.now (shown_command line.command) state.old }
@@ -149,22 +151,19 @@ fn new_collectors(alloc: Global, count: usize) -> Result<Vec<Collector>, NoMemor
     Ok(collectors)
 }
 
-/// Obeys all lines of the script, and tells their steps if that is asked for.
-fn obey_all<'a>(
+/// Obeys all lines of the script, and tells their steps to this teller, if there is one, which has told what comes
+/// before the first line.
+fn obey_all<'a, T: Teller>(
     alloc: Global,
     script: &'a Script,
-    tells_steps: bool,
-) -> Result<ReplayState<'a>, NoMemory>
+    steps: Option<T>,
+) -> Result<ReplayState<'a, T>, NoMemory>
+    requires { IfSome (option_map T.told steps) (λ told. IsNewText script.now told) }
     ensures limits { OnOk result (IsWithinLimits script.now) }
     ensures part_way { IfOk result (λ state. IsStateAfter script.now script.now.commands state) }
-    ensures told { IfOk result (λ state. tells_steps ≡ true → IsSome state.reports.steps) }
+    ensures told { IfOk result (λ state. IsSome steps → IsSome state.reports.steps) }
 {
     let commands = script.commands();
-    let steps = if tells_steps {
-        Some(StepText::new(alloc, script)?)
-    } else {
-        None
-    };
     let mut state = ReplayState {
         lanes: Vec::new(alloc),
         collectors: new_collectors(alloc, script.collectors())?,
@@ -187,9 +186,10 @@ pub fn world_of(alloc: Global, script: &Script) -> Result<World, NoMemory>
         lanes,
         collectors,
         reports,
-    } = obey_all(alloc, script, false)?;
+    } = obey_all::<Nobody>(alloc, script, None)?;
     drop(lanes);
-    let log = reports.log;
+    let Reports { log, steps } = reports;
+    drop(steps);
     Ok(World { collectors, log })
 }
 
@@ -201,21 +201,23 @@ pub fn replay(alloc: Global, script: &Script) -> Result<World, ReplayFault>
     Ok(world_of(alloc, script)?)
 }
 
-/// The text of the steps of a script's replay: what each one did to its ring, and what each delivery brought.
-pub fn steps_of(alloc: Global, script: &Script) -> Result<Vec<u8>, NoMemory>
-    ensures { IfOk result (λ text. (world : model_world.World) × IsStepText script.now world text.items) }
+/// Replays a script, and tells each step of its lines, and what each delivery brings, to this teller, which has told
+/// what comes before the first line. Gives it back with the text of all.
+pub fn told_replay<T: Teller>(alloc: Global, script: &Script, teller: T) -> Result<T, NoMemory>
+    requires { IsNewText script.now (T.told teller) }
+    ensures { IfOk result (λ told. (world : model_world.World) × IsStepText script.now world (T.told told).text) }
 {
     let ReplayState {
         lanes,
         collectors,
         reports,
-    } = obey_all(alloc, script, true)?;
+    } = obey_all(alloc, script, Some(teller))?;
     drop(lanes);
     drop(collectors);
     let Reports { log, steps } = reports;
     drop(log);
     match steps {
-        Some(steps) => Ok(steps.into_text()),
+        Some(teller) => Ok(teller),
         None => unreachable!(),
     }
 }

@@ -1,26 +1,36 @@
-//! What a replay reports as it goes: its log, and the text of its steps if that is asked for.
+//! What a replay reports as it goes: its log, and its steps if somebody is told of them.
 ghost use Rattle.std.specs.Prelude.{◌≡◌, None, IsFalse, OnOk};
 ghost use Rattle.page_numbers.specs.Parcels.{as_parcel};
 ghost use Rattle.ring_core.specs.Value.{CoreValue};
-ghost use Rattle.step_text.specs.declared.asked.Asked.{Asked as AskedSeen};
+ghost use Rattle.step_telling.specs.declared.asked.Asked.{Asked as AskedSeen};
 ghost use Rattle.script_replay.specs.Reports.{GainsAreReported, IsReported, IsStepTold, LineIsReported, MayReport};
 
 use log_text::{At, LogLine, report, report_any};
 use page_numbers::Parcel;
 use ring_core::{Answer, Core};
-use step_text::{Asked, StepText};
+use std::marker::Model;
+use step_telling::{Asked, Teller};
 use trace_model::NoMemory;
 
 /// What a replay reports. What a call leaves if memory is refused is not used.
 #[derive(Drop)]
-pub(crate) struct Reports {
+pub(crate) struct Reports<T: Teller> {
     /// What the lines met.
     pub(crate) log: Vec<LogLine>,
-    /// The text of their steps, if it is asked for.
-    pub(crate) steps: Option<StepText>,
+    /// Who is told of their steps, if anybody is.
+    pub(crate) steps: Option<T>,
 }
 
-impl Reports {
+impl<T: Teller> Model for Reports<T> {
+    ghost use Rattle.std.specs.Prelude.{option_map};
+    ghost use Rattle.script_replay.specs.Reports.{ReportsValue};
+
+    ghost Value = { ReportsValue };
+
+    ghost view = { λ a. record { log = a.log.items; steps = option_map T.told a.steps } };
+}
+
+impl<T: Teller> Reports<T> {
     /// Tells a step, if that is asked for.
     #[inline(always)]
     fn tell(&mut self, at: At, asked: Asked, answer: &Answer, ring: &Core) -> Result<(), NoMemory>

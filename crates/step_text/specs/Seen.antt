@@ -1,5 +1,5 @@
 -- What is kept of a ring, in the words of the models.
-use Rattle.std.specs.Prelude.{◌≡◌, List, [], ◌∷◌, length, Option, Some, None}
+use Rattle.std.specs.Prelude.{◌≡◌, length, Option, Some, None}
 use Rattle.trace_model.specs.History.{last_moment, reserved_records}
 use Rattle.trace_model.specs.Frames as model
 use Rattle.trace_model.specs.Ring.{Core}
@@ -10,6 +10,7 @@ use Rattle.ring_frames.specs.ReaderPhases.{reader_phase_of}
 use Rattle.ring_frames.specs.declared.reader.TakeState.{TakeState}
 use Rattle.step_model.specs.Seen.{ReaderSeen, CountsSeen, reader_seen, counts_seen}
 use Rattle.step_model.specs.StepCounts.{records_in}
+use Rattle.step_telling.specs.Known.{top_frame}
 use Rattle.step_text.specs.declared.seen.FrameState.{FrameState}
 use Rattle.step_text.specs.declared.seen.FrameState.TheVariants.{Waiting, Reserved, Left}
 use Rattle.step_text.specs.declared.seen.FrameSeen.{FrameSeen}
@@ -40,11 +41,6 @@ counts_in k = record {
 
 abbrev pub reader_in : TakeState → ReaderSeen
 reader_in r = record { phase = reader_phase_of r.phase; hint = r.hint; seen = r.seen; expected = r.expected }
-
--- the frame on top of these
-abbrev pub top_frame : List model.Frame → Option model.Frame
-top_frame [] = None
-top_frame (frame ∷ below) = Some frame
 
 -- the parts are those of a ring in this state
 pub record ArePartsOf (p : Parts) (c : Core) : Type 0 where

@@ -2,7 +2,6 @@
 //! what each delivery brings.
 #![tactic(auto)]
 
-mod asked;
 mod changes;
 mod fates;
 mod new_rings;
@@ -11,5 +10,4 @@ mod seen;
 mod step_line;
 mod teller;
 
-pub use asked::Asked;
 pub use teller::StepText;

@@ -1,6 +1,6 @@
 //! The rings of a script before its first line.
-ghost use Rattle.std.specs.Prelude.{◌≡◌, ◌++◌, ◌∷◌, [], ℕ, ◌%◌, ◌<◌, OnOk, IfOk, All, List, codes, length, flat_map};
-ghost use Rattle.std.specs.Prelude.{map};
+ghost use Rattle.std.specs.Prelude.{◌≡◌, ◌++◌, ◌∷◌, [], ℕ, ◌%◌, ◌<◌, ◌≤◌, OnOk, IfOk, All, List, codes, length};
+ghost use Rattle.std.specs.Prelude.{flat_map, map};
 ghost use Rattle.std.specs.Fmt.{decimal};
 ghost use Rattle.text_model.specs.Text.{line_feed};
 ghost use Rattle.trace_model.specs.Ring.{IsStart};
@@ -40,8 +40,9 @@ pub(crate) fn put_trace_line(out: &mut Vec<u8>, script: &Script) -> Result<(), N
 
 /// What is known of a new ring.
 pub(crate) fn new_ring(alloc: Global, script: &Script) -> Result<Known, NoMemory>
-    ensures { IfOk result (λ known. (c : model.Core) → IsStart script.now.pages script.now.start c
+    ensures known { IfOk result (λ known. (c : model.Core) → IsStart script.now.pages script.now.start c
         → IsKnownOf (known_in known) c) }
+    ensures pages { OnOk result (1 ≤ script.now.pages) }
 {
     let start = script.start().0;
     let ring = Core::new_at(alloc, script.pages(), script.size(), start)?;

@@ -12,9 +12,8 @@ ghost use Rattle.world_model.specs.Lanes.{event_on_top};
 ghost use Rattle.step_text.specs.Seen.{ArePartsOf, frame_in};
 ghost use Rattle.step_text.specs.Known.{IsKnownOf, known_in};
 ghost use Rattle.step_text.specs.Exchanges.{begins_again_in, frame_exchanges_in, is_exchange_in};
-ghost use Rattle.step_text.specs.Tells.{IsAsked};
+ghost use Rattle.step_telling.specs.Tells.{IsAsked};
 
-use crate::asked::Asked;
 use crate::put::put_spaced;
 use crate::seen::{FrameSeen, FrameState, Parts};
 use crate::teller::Known;
@@ -23,6 +22,7 @@ use log_text::{At, put_fault, put_front};
 use nested_writer::Ended;
 use ring_core::Answer;
 use ring_frames::{Phase, ReaderPhase, Role};
+use step_telling::Asked;
 use trace_model::NoMemory;
 
 /// Whether a frame of this phase finds that another one has begun the fill which it noted, and begins again.

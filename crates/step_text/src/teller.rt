@@ -1,15 +1,11 @@
 //! The text of a replay's steps, with what is known of each ring.
-ghost use Rattle.std.specs.Prelude.{◌≡◌, ℕ, ◌++◌, ◌<◌, List, length, flat_map, All, OnOk, IfOk};
-ghost use Rattle.text_model.specs.ScriptLimits.{IsWithinLimits};
-ghost use Rattle.text_model.specs.Printing.{printed_log_line};
+ghost use Rattle.std.specs.Prelude.{◌≡◌, ℕ, ◌++◌, ◌<◌, List, length, All, OnOk, IfOk};
 ghost use Rattle.world_model.specs.Lanes.{Lane, IsNewLane};
-ghost use Rattle.log_text.specs.LogTypes.{shown_log_line};
-ghost use Rattle.page_numbers.specs.Parcels.{as_parcel};
-ghost use Rattle.step_model.specs.RunTexts.{gain_text, gains_of, new_rings_text, trace_line};
-ghost use Rattle.step_text.specs.Known.{StepTextValue, known_in, step_text_of, Knows};
-ghost use Rattle.step_text.specs.Tells.{MayTell, MayTellOf, TellsStep, TellsStepOf};
+ghost use Rattle.step_model.specs.RunTexts.{new_rings_text, trace_line};
+ghost use Rattle.step_telling.specs.Known.{StepTextValue, Knows};
+ghost use Rattle.step_text.specs.Known.{known_in, step_text_of};
+ghost use Rattle.step_text.specs.Tells.{MayTellOf, TellsStepOf};
 
-use crate::asked::Asked;
 use crate::changes::put_changes;
 use crate::fates::{put_fates, put_gains};
 use crate::new_rings::{copies_of, new_ring, put_new_rings, put_trace_line};
@@ -21,6 +17,7 @@ use page_numbers::Parcel;
 use ring_core::{Answer, Core};
 use std::alloc::Global;
 use std::marker::Model;
+use step_telling::{Asked, Teller};
 use trace_model::NoMemory;
 use trace_script::Script;
 
@@ -84,7 +81,6 @@ impl Model for StepText {
 impl StepText {
     /// The text of a script before its first line: what its rings are, each of them new.
     pub fn new(alloc: Global, script: &Script) -> Result<StepText, NoMemory>
-        requires { IsWithinLimits script.now }
         ensures text { IfOk result (λ told. (lanes : List Lane)
             → length lanes ≡ script.now.cpus
             → All (IsNewLane script.now.pages script.now.start) lanes
@@ -102,41 +98,26 @@ impl StepText {
         Ok(StepText { text, rings })
     }
 
-    /// Tells a step of the ring of a CPU: what was asked, what it answered, and the ring after it.
-    pub fn tell(
-        &mut self,
-        at: At,
-        asked: Asked,
-        answer: &Answer,
-        ring: &Core,
-    ) -> Result<(), NoMemory>
-        requires { MayTell at.cpu.0 asked answer.now ring.now self.old }
-        ensures { OnOk result (TellsStep at.line at.cpu.0 asked.entry answer.now ring.now self.old self.new) }
-    {
-        self.rings[at.cpu.0 as usize].tell(&mut self.text, at, asked, answer, ring)
-    }
-
-    /// Tells a delivery by its line of the log.
-    pub fn tell_delivery(&mut self, logged: &LogLine) -> Result<(), NoMemory>
-        ensures text { OnOk result (self.new.text ≡ self.old.text ++ printed_log_line (shown_log_line logged.now)) }
-        ensures rings { OnOk result (self.new.rings ≡ self.old.rings) }
-    {
-        put_log_line(&mut self.text, logged)
-    }
-
-    /// Tells what a delivery brings to a collector that hasn't all of it.
-    pub fn tell_gains(&mut self, parcel: &Parcel) -> Result<(), NoMemory>
-        ensures text { OnOk result (self.new.text
-            ≡ self.old.text ++ flat_map gain_text (gains_of (as_parcel parcel.now))) }
-        ensures rings { OnOk result (self.new.rings ≡ self.old.rings) }
-    {
-        put_gains(&mut self.text, parcel)
-    }
-
     /// The text.
     pub fn into_text(self) -> Vec<u8>
         ensures { result.items ≡ self.text }
     {
         self.text
+    }
+}
+
+impl Teller for StepText {
+    ghost told = { λ text. text };
+
+    fn tell(&mut self, at: At, asked: Asked, answer: &Answer, ring: &Core) -> Result<(), NoMemory> {
+        self.rings[at.cpu.0 as usize].tell(&mut self.text, at, asked, answer, ring)
+    }
+
+    fn tell_delivery(&mut self, logged: &LogLine) -> Result<(), NoMemory> {
+        put_log_line(&mut self.text, logged)
+    }
+
+    fn tell_gains(&mut self, parcel: &Parcel) -> Result<(), NoMemory> {
+        put_gains(&mut self.text, parcel)
     }
 }

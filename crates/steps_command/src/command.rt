@@ -4,9 +4,9 @@ ghost use Rattle.command_io.specs.CommandRun.{IsCommandRun, source_run, sink_run
 ghost use Rattle.command_io.specs.Output.{bytes_of, status_of};
 ghost use Rattle.steps_command.specs.Steps.{IsSteps, StepsGives};
 
+use crate::steps::steps_of;
 use command_io::{Output, Sink, Source, Subcommand, carry_out};
 use replay_command::{fault_line, read_text};
-use script_replay::steps_of;
 use std::alloc::Global;
 use trace_model::NoMemory;
 use trace_script::{Script, ScriptFault};

@@ -3,5 +3,7 @@
 
 mod command;
 pub mod laws;
+mod steps;
 
 pub use command::steps_to;
+pub use steps::steps_of;

@@ -3,6 +3,7 @@ use crate::lane::Lane;
 use crate::reports::Reports;
 use log_text::At;
 use std::alloc::Global;
+use step_telling::Teller;
 use trace_model::NoMemory;
 use trace_script::Command;
 
@@ -14,12 +15,12 @@ impl<'a> Lane<'a> {
 
     /// Does what the line of this number asks, which is no delivery.
     #[inline(always)]
-    pub(crate) fn obey(
+    pub(crate) fn obey<T: Teller>(
         &mut self,
         alloc: Global,
         line: u64,
         command: Command<'a>,
-        reports: &mut Reports,
+        reports: &mut Reports<T>,
     ) -> Result<(), NoMemory>
         requires ring { IsOfRing (shown_command command) }
         requires lane { IsReportedLane (cpu_of (shown_command command)) self.old reports.old }

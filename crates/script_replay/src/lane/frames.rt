@@ -5,11 +5,11 @@ use log_text::At;
 use nested_writer::WriteFault;
 use ring_core::{Answer, Event};
 use ring_frames::write_padded;
-use step_text::Asked;
+use step_telling::{Asked, Teller};
 use trace_model::NoMemory;
 
-/// For what is called where steps are told. What is called elsewhere is a copy of its own, since so large a function is
-/// inlined only if it has one call.
+/// For what is called where steps are told, with the type of who is told. What is called elsewhere is a copy of its
+/// own, since so large a function is inlined only if it has one call.
 pub(crate) enum Told {}
 
 /// For what is called where they aren't.
@@ -26,7 +26,12 @@ impl<'a> Lane<'a> {
 
     /// Lets the frame on top make `count` steps, or fewer if it is gone before.
     #[inline(never)]
-    pub(crate) fn step(&mut self, at: At, count: u64, reports: &mut Reports) -> Result<(), NoMemory>
+    pub(crate) fn step<T: Teller>(
+        &mut self,
+        at: At,
+        count: u64,
+        reports: &mut Reports<T>,
+    ) -> Result<(), NoMemory>
         requires { IsReportedLane at.cpu.0 self.old reports.old }
         ensures { OnOk result (HasLine (step_frame at.cpu.0 count) at.line at.cpu.0
             self.old reports.old self.new reports.new) }
@@ -40,7 +45,11 @@ impl<'a> Lane<'a> {
 
     /// Has the frame on top make steps until it is gone: `MOST_STEPS` is more than any frame makes.
     #[inline(never)]
-    pub(crate) fn finish(&mut self, at: At, reports: &mut Reports) -> Result<(), NoMemory>
+    pub(crate) fn finish<T: Teller>(
+        &mut self,
+        at: At,
+        reports: &mut Reports<T>,
+    ) -> Result<(), NoMemory>
         requires { IsReportedLane at.cpu.0 self.old reports.old }
         ensures { OnOk result (HasLine (finish_frame at.cpu.0) at.line at.cpu.0
             self.old reports.old self.new reports.new) }
@@ -51,7 +60,12 @@ impl<'a> Lane<'a> {
     /// Has the frame on top make `count` steps, or fewer if it is gone before. Whether they are told is asked once, so
     /// that steps which aren't told take no more for it.
     #[inline(always)]
-    fn follow(&mut self, at: At, count: u64, reports: &mut Reports) -> Result<(), NoMemory>
+    fn follow<T: Teller>(
+        &mut self,
+        at: At,
+        count: u64,
+        reports: &mut Reports<T>,
+    ) -> Result<(), NoMemory>
         requires lane { IsReportedLane at.cpu.0 self.old reports.old }
         requires stands { self.old.core.stack.frames ≢ [] }
         ensures { OnOk result (MakesExchanges (FollowsFrame count) at.line at.cpu.0
@@ -65,7 +79,12 @@ impl<'a> Lane<'a> {
 
     /// `follow`, if steps aren't told. If the frame is gone, fewer payloads are kept.
     #[inline(always)]
-    fn follow_untold(&mut self, at: At, count: u64, reports: &mut Reports) -> Result<(), NoMemory>
+    fn follow_untold<T: Teller>(
+        &mut self,
+        at: At,
+        count: u64,
+        reports: &mut Reports<T>,
+    ) -> Result<(), NoMemory>
         requires lane { IsReportedLane at.cpu.0 self.old reports.old }
         requires stands { self.old.core.stack.frames ≢ [] }
         requires untold { reports.old.steps ≡ None }
@@ -76,7 +95,7 @@ impl<'a> Lane<'a> {
         let _payload = self.payloads[depth - 1];
         let mut steps = 0;
         while steps < count && self.payloads.len() == depth {
-            let answer = self.step_once::<Untold>();
+            let answer = self.step_once::<(Untold, T)>();
             reports.log(at, answer)?;
             steps += 1;
         }
@@ -86,7 +105,12 @@ impl<'a> Lane<'a> {
     /// `follow`, also if steps are told.
     #[cold]
     #[inline(never)]
-    fn follow_told(&mut self, at: At, count: u64, reports: &mut Reports) -> Result<(), NoMemory>
+    fn follow_told<T: Teller>(
+        &mut self,
+        at: At,
+        count: u64,
+        reports: &mut Reports<T>,
+    ) -> Result<(), NoMemory>
         requires lane { IsReportedLane at.cpu.0 self.old reports.old }
         requires stands { self.old.core.stack.frames ≢ [] }
         ensures { OnOk result (MakesExchanges (FollowsFrame count) at.line at.cpu.0
@@ -96,7 +120,7 @@ impl<'a> Lane<'a> {
         let payload = self.payloads[depth - 1];
         let mut steps = 0;
         while steps < count && self.payloads.len() == depth {
-            let answer = self.step_once::<Told>();
+            let answer = self.step_once::<(Told, T)>();
             reports.report(at, Asked::Top(payload), answer, &self.core)?;
             steps += 1;
         }

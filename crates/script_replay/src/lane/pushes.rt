@@ -5,43 +5,43 @@ use crate::reports::Reports;
 use log_text::At;
 use nested_writer::Wrote;
 use ring_core::{Answer, Event};
-use step_text::Asked;
+use step_telling::{Asked, Teller};
 use trace_model::NoMemory;
 
 impl<'a> Lane<'a> {
     ghost use Rattle.std.specs.Prelude.{◌≡◌, ℕ, None, IfOk, OnOk};
     ghost use Rattle.trace_model.specs.Ring as model;
     ghost use Rattle.text_model.specs.Script.{begin_frame, write, close};
-    ghost use Rattle.step_text.specs.Tells.{IsAsked};
+    ghost use Rattle.step_telling.specs.Tells.{IsAsked};
     ghost use Rattle.script_replay.specs.Lanes.{IsLaneOf, IsReportedLane, HasLine};
     ghost use Rattle.script_replay.specs.Frames.{IsPushOf, push_event, Pushes, HasWritten, HasWrittenAlone};
 
     /// Pushes a record frame of this moment and payload.
     #[inline(never)]
-    pub(crate) fn begin(
+    pub(crate) fn begin<T: Teller>(
         &mut self,
         at: At,
         moment: u64,
         payload: &'a [u8],
-        reports: &mut Reports,
+        reports: &mut Reports<T>,
     ) -> Result<(), NoMemory>
         requires { IsReportedLane at.cpu.0 self.old reports.old }
         ensures { OnOk result (HasLine (begin_frame at.cpu.0 moment payload.now) at.line at.cpu.0
             self.old reports.old self.new reports.new) }
     {
         let len = payload.len();
-        let answer = self.push::<Told>(Event::Push { moment, len }, payload)?;
+        let answer = self.push::<(Told, T)>(Event::Push { moment, len }, payload)?;
         reports.report(at, Asked::Push, answer, &self.core)
     }
 
     /// Pushes a record frame of this moment and payload, and lets it make steps until it is gone.
     #[inline(never)]
-    pub(crate) fn write(
+    pub(crate) fn write<T: Teller>(
         &mut self,
         at: At,
         moment: u64,
         payload: &'a [u8],
-        reports: &mut Reports,
+        reports: &mut Reports<T>,
     ) -> Result<(), NoMemory>
         requires { IsReportedLane at.cpu.0 self.old reports.old }
         ensures { OnOk result (HasLine (write at.cpu.0 moment payload.now) at.line at.cpu.0
@@ -56,7 +56,12 @@ impl<'a> Lane<'a> {
     /// Writes a record of this moment and payload in one call, if its frame would be alone and nothing is to be told of
     /// its steps: nothing is logged of them.
     #[inline(always)]
-    fn write_alone(&mut self, moment: u64, payload: &'a [u8], reports: &Reports) -> Wrote
+    fn write_alone<T: Teller>(
+        &mut self,
+        moment: u64,
+        payload: &'a [u8],
+        reports: &Reports<T>,
+    ) -> Wrote
         requires { (cpu : ℕ) × IsLaneOf cpu self.old }
         ensures wrote { result ≡ Wrote.Record → HasWrittenAlone moment payload.now self.old self.new }
         ensures untold { result ≡ Wrote.Record → reports.now.steps ≡ None }
@@ -70,12 +75,12 @@ impl<'a> Lane<'a> {
 
     /// The same, step by step.
     #[inline(never)]
-    fn write_by_steps(
+    fn write_by_steps<T: Teller>(
         &mut self,
         at: At,
         moment: u64,
         payload: &'a [u8],
-        reports: &mut Reports,
+        reports: &mut Reports<T>,
     ) -> Result<(), NoMemory>
         requires { IsReportedLane at.cpu.0 self.old reports.old }
         ensures { OnOk result (HasLine (write at.cpu.0 moment payload.now) at.line at.cpu.0
@@ -93,7 +98,11 @@ impl<'a> Lane<'a> {
 
     /// Pushes a close frame, and lets it make steps until it is gone.
     #[inline(never)]
-    pub(crate) fn close(&mut self, at: At, reports: &mut Reports) -> Result<(), NoMemory>
+    pub(crate) fn close<T: Teller>(
+        &mut self,
+        at: At,
+        reports: &mut Reports<T>,
+    ) -> Result<(), NoMemory>
         requires { IsReportedLane at.cpu.0 self.old reports.old }
         ensures { OnOk result (HasLine (close at.cpu.0) at.line at.cpu.0
             self.old reports.old self.new reports.new) }
@@ -104,13 +113,13 @@ impl<'a> Lane<'a> {
     /// Pushes a frame with this payload, and lets it make steps until it is gone. Whether that is told is asked once,
     /// as in `follow`.
     #[inline(always)]
-    fn push_and_finish(
+    fn push_and_finish<T: Teller>(
         &mut self,
         at: At,
         asked: Asked,
         event: Event,
         payload: &'a [u8],
-        reports: &mut Reports,
+        reports: &mut Reports<T>,
     ) -> Result<(), NoMemory>
         requires lane { IsReportedLane at.cpu.0 self.old reports.old }
         requires push { IsPushOf event payload.now }
@@ -121,7 +130,7 @@ impl<'a> Lane<'a> {
         if reports.tells() {
             return self.write_told(at, asked, event, payload, reports);
         }
-        let answer = self.push::<Untold>(event, payload)?;
+        let answer = self.push::<(Untold, T)>(event, payload)?;
         match answer {
             Answer::Pushed => {
                 reports.log(at, Answer::Pushed)?;
@@ -134,13 +143,13 @@ impl<'a> Lane<'a> {
     /// The same, also if that is told.
     #[cold]
     #[inline(never)]
-    fn write_told(
+    fn write_told<T: Teller>(
         &mut self,
         at: At,
         asked: Asked,
         event: Event,
         payload: &'a [u8],
-        reports: &mut Reports,
+        reports: &mut Reports<T>,
     ) -> Result<(), NoMemory>
         requires lane { IsReportedLane at.cpu.0 self.old reports.old }
         requires push { IsPushOf event payload.now }
@@ -148,7 +157,7 @@ impl<'a> Lane<'a> {
         ensures { OnOk result (HasWritten (push_event event) payload.now at.line at.cpu.0
             self.old reports.old self.new reports.new) }
     {
-        let answer = self.push::<Told>(event, payload)?;
+        let answer = self.push::<(Told, T)>(event, payload)?;
         match answer {
             Answer::Pushed => {
                 reports.report(at, asked, Answer::Pushed, &self.core)?;

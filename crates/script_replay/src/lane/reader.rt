@@ -7,7 +7,7 @@ use page_image::{Body, Page};
 use page_numbers::Parcel;
 use ring_core::{Answer, Event};
 use std::alloc::Global;
-use step_text::Asked;
+use step_telling::{Asked, Teller};
 use trace_model::{CpuId, NoMemory};
 
 impl<'a> Lane<'a> {
@@ -19,12 +19,12 @@ impl<'a> Lane<'a> {
     ghost use Rattle.script_replay.specs.Takes.{ReadsOnce, Keeps, KeepsPage, MayKeep};
 
     /// Lets the reader make `count` steps, or fewer if its take ends before.
-    pub(crate) fn step_reader(
+    pub(crate) fn step_reader<T: Teller>(
         &mut self,
         alloc: Global,
         at: At,
         count: u64,
-        reports: &mut Reports,
+        reports: &mut Reports<T>,
     ) -> Result<(), NoMemory>
         requires { IsReportedLane at.cpu.0 self.old reports.old }
         ensures { OnOk result (HasLine (step_reader at.cpu.0 count) at.line at.cpu.0
@@ -40,11 +40,11 @@ impl<'a> Lane<'a> {
     }
 
     /// Has the reader make steps until it answers: `MOST_STEPS` is more than any take makes.
-    pub(crate) fn take(
+    pub(crate) fn take<T: Teller>(
         &mut self,
         alloc: Global,
         at: At,
-        reports: &mut Reports,
+        reports: &mut Reports<T>,
     ) -> Result<(), NoMemory>
         requires { IsReportedLane at.cpu.0 self.old reports.old }
         ensures { OnOk result (HasLine (take_page at.cpu.0) at.line at.cpu.0
@@ -54,7 +54,11 @@ impl<'a> Lane<'a> {
     }
 
     /// Lets the reader wish for the tail page.
-    pub(crate) fn wish(&mut self, at: At, reports: &mut Reports) -> Result<(), NoMemory>
+    pub(crate) fn wish<T: Teller>(
+        &mut self,
+        at: At,
+        reports: &mut Reports<T>,
+    ) -> Result<(), NoMemory>
         requires { IsReportedLane at.cpu.0 self.old reports.old }
         ensures { OnOk result (HasLine (wish at.cpu.0) at.line at.cpu.0
             self.old reports.old self.new reports.new) }
@@ -64,7 +68,12 @@ impl<'a> Lane<'a> {
     }
 
     /// One step of the reader: the answer says whether its take continues.
-    fn read_once(&mut self, alloc: Global, at: At, reports: &mut Reports) -> Result<bool, NoMemory>
+    fn read_once<T: Teller>(
+        &mut self,
+        alloc: Global,
+        at: At,
+        reports: &mut Reports<T>,
+    ) -> Result<bool, NoMemory>
         requires { IsReportedLane at.cpu.0 self.old reports.old }
         ensures { IfOk result (λ goes_on. MakesExchanges (ReadsOnce goes_on) at.line at.cpu.0
             self.old reports.old self.new reports.new) }

@@ -11,7 +11,7 @@ use Rattle.script_replay.proofs.LinesObeyed.{is_reported_lane, ring_leads}
 use Rattle.script_replay.proofs.replaying.obey_ring.Goals as goal
 
 pub obey-requires-clause-lane : goal.obey-requires-clause-lane
-obey-requires-clause-lane c =
+obey-requires-clause-lane g c =
     let script = c.args.script.now in
     let ready = c.requires.ready in
     let cpu = c.args.cpu.0 in
@@ -28,7 +28,7 @@ obey-requires-clause-lane c =
     c.in-Some.lane.value low from))
 
 pub returns : goal.returns
-returns c =
+returns g c =
     let script = c.args.script.now in
     let ready = c.requires.ready in
     let cpu = c.args.cpu.0 in

@@ -5,12 +5,13 @@ use Rattle.trace_model.specs.HistoryLaws.{committed_count}
 use Rattle.trace_model.specs.Ring.{IsStart}
 use Rattle.link_marks.specs.ModelLinks.{link_of}
 use Rattle.ring_model.proofs.partition.OneNewRing.{new_ring_is_one}
-use Rattle.step_text.specs.Seen.{ArePartsOf, reader_in, top_frame}
+use Rattle.step_telling.specs.Known.{top_frame}
+use Rattle.step_text.specs.Seen.{ArePartsOf, reader_in}
 use Rattle.step_text.specs.Known.{IsKnownOf}
 use Rattle.step_text.proofs.new_rings.new_ring.Goals as goal
 
-pub returns : goal.returns
-returns c other is_same =
+pub returns-clause-known : goal.returns-clause-known
+returns-clause-known c other is_same =
     let (new, is_new, core) = c.in_ok-ring.ensures.fresh in
     let v = core.shows in
     let some_pages = core.reached.may_start.some_pages in

@@ -1,7 +1,7 @@
 use Rattle.std.proofs.Common.{length, refl, sym, subst}
 use Rattle.std.proofs.lemmas.Result.{on_ok_weaker}
 use Rattle.trace_model.specs.Steps.{pushes}
-use Rattle.step_text.specs.declared.asked.Asked.TheVariants.{Push}
+use Rattle.step_telling.specs.declared.asked.Asked.TheVariants.{Push}
 use Rattle.script_replay.specs.Value.{LaneValue}
 use Rattle.script_replay.specs.Reports.{MayReport, IsReported}
 use Rattle.script_replay.proofs.Reporting.{may_report}
@@ -9,7 +9,7 @@ use Rattle.script_replay.proofs.PushedLanes.{begun, pushed_step}
 use Rattle.script_replay.proofs.lane.Lane.begin.Goals as goal
 
 pub report-requires : goal.report-requires
-report-requires c =
+report-requires g c =
     let (n, size, start, lane, is, knows) = c.requires in
     let p = c.in_ok-answer.ensures n size start c.args.at.cpu.0 lane is in
     subst (λ (v : LaneValue). MayReport c.args.at.cpu.0 Push c.in_ok-answer.answer v.core c.args.reports.now)
@@ -22,7 +22,7 @@ report-requires c =
     c.args.reports.now knows)
 
 pub returns : goal.returns
-returns c =
+returns g c =
     on_ok_weaker c.report.result
     (λ reported n size start lane is knows.
     begun n size start c.args.at.cpu.0 c.args.at.line c.args.moment c.args.self.now lane Push c.args.payload.now

@@ -1,5 +1,5 @@
 use Rattle.std.proofs.Common.{inl, inr, sym, ◌∙◌, subst, arith}
-use Rattle.step_text.specs.declared.asked.Asked.TheVariants.{Top}
+use Rattle.step_telling.specs.declared.asked.Asked.TheVariants.{Top}
 use Rattle.script_replay.specs.Value.{LaneValue}
 use Rattle.script_replay.specs.Reports.{MayReport, IsReported}
 use Rattle.script_replay.proofs.LaneValues.{depth_is, kept_many}
@@ -8,7 +8,7 @@ use Rattle.script_replay.proofs.FrameRuns.{part_way_none, part_way_turn, top_ste
 use Rattle.script_replay.proofs.lane.Lane.follow_told.Goals as goal
 
 pub loop-steps-init : goal.loop-steps-init
-loop-steps-init c = record {
+loop-steps-init g c = record {
   few = omega arith;
   part_way = λ n size start lane is knows.
       part_way_none n size start c.args.at.cpu.0 c.args.at.line c.len-depth.result c.args.self.now lane
@@ -19,13 +19,13 @@ loop-steps-init c = record {
 
 -- the lane is one in the loop too
 pub step_once-answer-requires : goal.step_once-answer-requires
-step_once-answer-requires c =
+step_once-answer-requires g c =
     let (n, size, start, lane, is, knows) = c.requires.lane in
     let h = c.loop-steps.invariant.part_way n size start lane is knows in
     (c.args.at.cpu.0, (n, size, start, h.after, h.is_lane))
 
 pub report-requires : goal.report-requires
-report-requires c =
+report-requires g c =
     let (n, size, start, lane, is, knows) = c.requires.lane in
     let h = c.loop-steps.invariant.part_way n size start lane is knows in
     let s = c.step_once-answer.ensures n size start c.args.at.cpu.0 h.after h.is_lane in
@@ -50,7 +50,7 @@ report-requires c =
     c.loop-steps.reports h.reported))
 
 pub loop-steps-preserved : goal.loop-steps-preserved
-loop-steps-preserved c =
+loop-steps-preserved g c =
     let (n, size, start, lane, is, knows) = c.requires.lane in
     let h = c.loop-steps.invariant.part_way n size start lane is knows in
     let many = kept_many n size start c.args.at.cpu.0 c.loop-steps.self h.after c.self-in-loop-steps.inside c.len.result
@@ -77,7 +77,7 @@ loop-steps-preserved c =
     }
 
 pub returns-else-len-depth : goal.returns-else-len-depth
-returns-else-len-depth c = λ n size start lane is knows.
+returns-else-len-depth g c = λ n size start lane is knows.
     let h = c.loop-steps.invariant.part_way n size start lane is knows in
     let many = kept_many n size start c.args.at.cpu.0 c.loop-steps.self h.after c.self-in-loop-steps.inside c.len.result
     h.is_lane c.self-in-loop-steps.view_is (c.len.ensures ∙ c.self-in-loop-steps.inside.payloads.ok.0) in
@@ -90,7 +90,7 @@ returns-else-len-depth c = λ n size start lane is knows.
     (inr (λ same. c.if-len-depth.false (many ∙ same)))
 
 pub returns-after-loop-steps : goal.returns-after-loop-steps
-returns-after-loop-steps c = λ n size start lane is knows.
+returns-after-loop-steps g c = λ n size start lane is knows.
     followed n size start c.args.at.cpu.0 c.args.at.line c.len-depth.result c.loop-steps.steps c.args.count lane
     c.loop-steps.self c.args.reports.now c.loop-steps.reports
     (c.loop-steps.invariant.part_way n size start lane is knows)

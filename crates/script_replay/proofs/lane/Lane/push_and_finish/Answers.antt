@@ -9,7 +9,7 @@ use Rattle.script_replay.proofs.PushedLanes.{push_reported, written, not_written
 use Rattle.script_replay.proofs.lane.Lane.push_and_finish.Goals as goal
 
 pub finish-requires : goal.finish-requires
-finish-requires c =
+finish-requires g c =
     let (n, size, start, lane, is, knows) = c.requires.lane in
     let p = c.in_ok-answer.ensures n size start c.args.at.cpu.0 lane is in
     let reported = push_reported n size start c.args.at.cpu.0 c.args.at.line c.args.self.now lane c.args.asked
@@ -27,7 +27,7 @@ finish-requires c =
     )
 
 pub returns-in_ok-log-in-Pushed : goal.returns-in_ok-log-in-Pushed
-returns-in_ok-log-in-Pushed c =
+returns-in_ok-log-in-Pushed g c =
     on_ok_weaker c.finish.result
     (λ has n size start lane is knows.
     let p = c.in_ok-answer.ensures n size start c.args.at.cpu.0 lane is in
@@ -45,7 +45,7 @@ returns-in_ok-log-in-Pushed c =
     c.finish.ensures
 
 pub returns-in_default : goal.returns-in_default
-returns-in_default c =
+returns-in_default g c =
     on_ok_weaker c.log-in_default.result
     (λ told n size start lane is knows.
     let p = c.in_ok-answer.ensures n size start c.args.at.cpu.0 lane is in

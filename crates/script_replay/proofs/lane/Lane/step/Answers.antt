@@ -10,7 +10,7 @@ use Rattle.script_replay.proofs.FrameRuns.{stepped_on, lacks_step}
 use Rattle.script_replay.proofs.lane.Lane.step.Goals as goal
 
 pub returns-then-depth-eq0 : goal.returns-then-depth-eq0
-returns-then-depth-eq0 c =
+returns-then-depth-eq0 g c =
     let none : length c.args.self.now.core.stack.frames
     ≡ 0 = ap (λ (v : LaneValue). length v.core.stack.frames) (sym c.self.view_is) ∙ sym c.depth.ensures
     ∙ c.if-depth-eq0.true in
@@ -23,7 +23,7 @@ returns-then-depth-eq0 c =
     c.report.ensures
 
 pub returns : goal.returns
-returns c =
+returns g c =
     let some : c.args.self.now.core.stack.frames ≢ [] =
     λ none. c.if-depth-eq0.false
     (c.depth.ensures ∙ ap (λ (v : LaneValue). length v.core.stack.frames) c.self.view_is

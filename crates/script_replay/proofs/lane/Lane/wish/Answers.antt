@@ -2,14 +2,14 @@ use Rattle.std.proofs.Common.{refl, ap, subst}
 use Rattle.std.proofs.lemmas.Result.{IfOk-weaker}
 use Rattle.trace_model.specs.Steps.{wishes}
 use Rattle.ring_core.specs.Steps.{MakesStep}
-use Rattle.step_text.specs.declared.asked.Asked.TheVariants.{Wish}
+use Rattle.step_telling.specs.declared.asked.Asked.TheVariants.{Wish}
 use Rattle.script_replay.specs.Value.{LaneValue}
 use Rattle.script_replay.proofs.Reporting.{may_report}
 use Rattle.script_replay.proofs.TakesLanes.{wishes_of}
 use Rattle.script_replay.proofs.lane.Lane.wish.Goals as goal
 
 pub report-requires : goal.report-requires
-report-requires c =
+report-requires g c =
     let (n, size, start, lane, is, knows) = c.requires in
     let makes = subst (λ (w : LaneValue). MakesStep w.core wishes c.step-answer.result c.step-answer.new.self)
     c.self.view_is c.step-answer.ensures.obeys.step in
@@ -26,7 +26,7 @@ report-requires c =
     c.args.reports.now knows
 
 pub returns : goal.returns
-returns c = IfOk-weaker c.report.result _ _
+returns g c = IfOk-weaker c.report.result _ _
     (λ _ reported. wishes_of c.args.at.line c.args.at.cpu.0 c.args.self.now Wish c.step-answer.result _
     c.args.reports.now c.report.new.self
     (λ core. refl)

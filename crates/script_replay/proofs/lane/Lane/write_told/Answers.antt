@@ -11,7 +11,7 @@ use Rattle.script_replay.proofs.PushedLanes.{pushed_step, push_reported, written
 use Rattle.script_replay.proofs.lane.Lane.write_told.Goals as goal
 
 pub report-requires : goal.report-requires
-report-requires c =
+report-requires g c =
     let (n, size, start, lane, is, knows) = c.requires.lane in
     let p = c.in_ok-answer.ensures n size start c.args.at.cpu.0 lane is in
     subst (λ (a : Answer). MayReport c.args.at.cpu.0 c.args.asked a c.self.inside.core c.args.reports.now)
@@ -25,7 +25,7 @@ report-requires c =
     c.args.reports.now knows))
 
 pub report-requires-in_default : goal.report-requires-in_default
-report-requires-in_default c =
+report-requires-in_default g c =
     let (n, size, start, lane, is, knows) = c.requires.lane in
     let p = c.in_ok-answer.ensures n size start c.args.at.cpu.0 lane is in
     subst (λ (v : LaneValue). MayReport c.args.at.cpu.0 c.args.asked c.in_ok-answer.answer v.core c.args.reports.now)
@@ -37,7 +37,7 @@ report-requires-in_default c =
     c.args.reports.now knows)
 
 pub finish-requires : goal.finish-requires
-finish-requires c =
+finish-requires g c =
     let (n, size, start, lane, is, knows) = c.requires.lane in
     let p = c.in_ok-answer.ensures n size start c.args.at.cpu.0 lane is in
     let reported = push_reported n size start c.args.at.cpu.0 c.args.at.line c.args.self.now lane c.args.asked
@@ -57,7 +57,7 @@ finish-requires c =
     )
 
 pub returns-in_ok-report-in-Pushed : goal.returns-in_ok-report-in-Pushed
-returns-in_ok-report-in-Pushed c =
+returns-in_ok-report-in-Pushed g c =
     on_ok_weaker c.finish.result
     (λ has n size start lane is knows.
     let p = c.in_ok-answer.ensures n size start c.args.at.cpu.0 lane is in
@@ -77,7 +77,7 @@ returns-in_ok-report-in-Pushed c =
     c.finish.ensures
 
 pub returns-in_default : goal.returns-in_default
-returns-in_default c =
+returns-in_default g c =
     on_ok_weaker c.report-in_default.result
     (λ told n size start lane is knows.
     let p = c.in_ok-answer.ensures n size start c.args.at.cpu.0 lane is in

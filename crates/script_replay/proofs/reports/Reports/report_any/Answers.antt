@@ -1,16 +1,25 @@
-use Rattle.std.proofs.Common.{◌++◌, ◌∙◌}
+use Rattle.std.proofs.Common.{List, ◌++◌, ◌∙◌, sym, ap, subst}
+use Rattle.std.specs.Prelude.{option_map}
 use Rattle.std.proofs.lemmas.Result.{on_ok_weaker}
 use Rattle.world_model.specs.Log.{logged}
+use Rattle.log_text.specs.declared.line.LogLine.{LogLine}
 use Rattle.log_text.specs.LogTypes.{shown_log}
+use Rattle.script_replay.specs.Reports.{ReportsValue, IsStepTold}
 use Rattle.script_replay.proofs.Reporting.{step_reported}
 use Rattle.script_replay.proofs.reports.Reports.report_any.Goals as goal
 
 pub returns : goal.returns
-returns c =
+returns g c =
+    let line = c.args.at.line in
+    let cpu = c.args.at.cpu.0 in
+    let old = c.args.self.now in
+    let told = subst (λ (v : ReportsValue).
+    IsStepTold line cpu c.args.asked c.args.answer.now c.args.ring.now old.steps v.steps)
+    (sym c.self.view_is) c.in_ok-tell.ensures.steps in
+    let same = (λ i. (c.self.view_is i).log) ∙ c.in_ok-tell.ensures.log in
     on_ok_weaker c.report_any.result
-    (λ says. step_reported c.args.at.line c.args.at.cpu.0 c.args.asked c.args.answer.now c.args.ring.now c.args.self.now
-    record { log = c.report_any.new.log; steps = c.tell.new.self.steps }
-    c.in_ok-tell.ensures.steps
+    (λ says. step_reported line cpu c.args.asked c.args.answer.now c.args.ring.now old
+    record { log = c.report_any.new.log.items; steps = option_map g.T.Teller.told c.self.inside.steps } told
     (λ size reported means. says size reported means
-    ∙ (λ i. shown_log (c.in_ok-tell.ensures.log i).items ++ logged c.args.at.line c.args.at.cpu.0 reported)))
+    ∙ ap (λ (l : List LogLine). shown_log l ++ logged line cpu reported) same))
     c.report_any.ensures
