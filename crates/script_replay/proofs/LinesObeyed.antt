@@ -39,7 +39,7 @@ use Rattle.deliveries.specs.Deliveries.{AreRising, Adds}
 use Rattle.script_replay.specs.Collected.{HasParcel, delivery_of, IsCollected, AreCollected}
 use Rattle.text_model.specs.Printing.{printed_log_line}
 use Rattle.step_model.specs.RunTexts.{delivery_step_text}
-use Rattle.script_replay.specs.Reports.{IsTextTold}
+use Rattle.step_telling.specs.Tells.{IsTextTold}
 use Rattle.script_replay.specs.Replay.{IsNewText, IsStateAfter, IsReady, LeadsOn}
 use Rattle.script_replay.proofs.StepsTold.{told_first, known_lane, told_ring, still_told, told_page, told_none}
 use Rattle.script_replay.proofs.Placed.{from_is_lane, first_world, new_at, obeys_ring, place_rises, found_taken}

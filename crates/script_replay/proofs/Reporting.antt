@@ -16,8 +16,8 @@ use Rattle.ring_frames.specs.declared.answer.Answer.{Answer}
 use Rattle.ring_frames.specs.Answers.{IsAnswerOf}
 use Rattle.step_telling.specs.declared.asked.Asked.{Asked}
 use Rattle.step_telling.specs.Known.{StepTextValue, Knows}
-use Rattle.step_telling.specs.Tells.{IsStepOf, MayTell}
-use Rattle.script_replay.specs.Reports.{ReportsValue, AreTold, Reported, KnowsRing, MayReport, IsStepTold}
+use Rattle.step_telling.specs.Tells.{IsStepOf, IsStepTold, MayTell}
+use Rattle.script_replay.specs.Reports.{ReportsValue, AreTold, Reported, KnowsRing, MayReport}
 use Rattle.script_replay.specs.Reports.{IsReported}
 
 -- ---- the log

@@ -24,7 +24,8 @@ use Rattle.step_model.specs.RunTexts.{TellsLine, TellsAll, trace_line, new_rings
 use Rattle.step_telling.specs.Known.{StepTextValue, Knows}
 use Rattle.script_replay.specs.RingCommands.{IsOfRing, cpu_of}
 use Rattle.script_replay.specs.Collected.{delivery_of}
-use Rattle.script_replay.specs.Reports.{AreTold, IsTextTold}
+use Rattle.step_telling.specs.Tells.{IsTextTold}
+use Rattle.script_replay.specs.Reports.{AreTold}
 use Rattle.script_replay.specs.Replay.{IsNewText, IsToldSoFar}
 
 -- ---- one line more

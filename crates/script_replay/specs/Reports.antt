@@ -13,7 +13,7 @@ use Rattle.log_text.specs.LogTypes.{shown_log, shown_log_line}
 use Rattle.step_model.specs.RunTexts.{Tells, gain_text, gains_of}
 use Rattle.step_telling.specs.declared.asked.Asked.{Asked}
 use Rattle.step_telling.specs.Known.{StepTextValue, Knows, KnowsOthers}
-use Rattle.step_telling.specs.Tells.{IsStepOf, MayTell, TellsStep}
+use Rattle.step_telling.specs.Tells.{IsStepOf, MayTell, IsTextTold}
 
 -- what contracts see of the reports: the log, and what is told of steps, if that is asked for
 pub record ReportsValue : Type 0 where
@@ -58,14 +58,6 @@ KnowsRing reports cpu c = IfSome reports.steps (λ steps. Knows steps cpu c)
 abbrev pub MayReport : (cpu : ℕ) → Asked → Answer → CoreValue → ReportsValue → Type 0
 MayReport cpu asked answer ring reports = IfSome reports.steps (λ steps. MayTell cpu asked answer ring steps)
 
--- it is told, if that is asked for
-abbrev pub IsStepTold : (line cpu : ℕ) → Asked → Answer → CoreValue → Option StepTextValue → Option StepTextValue
-    → Type 0
-IsStepTold line cpu asked answer ring None None = Unit {0}
-IsStepTold line cpu asked answer ring None (Some new) = ⊥
-IsStepTold line cpu asked answer ring (Some old) None = ⊥
-IsStepTold line cpu asked answer ring (Some old) (Some new) = TellsStep line cpu asked answer ring old new
-
 -- each step that this may be, of a ring that is known, is reported
 abbrev pub IsReported : (line cpu : ℕ) → Asked → Answer → CoreValue → ReportsValue → ReportsValue → Type 0
 IsReported line cpu asked answer ring old new = (n size start : ℕ) (before after : Core) (event : model.Event)
@@ -75,13 +67,6 @@ IsReported line cpu asked answer ring old new = (n size start : ℕ) (before aft
     → Reported n size line cpu before (record { event = event; answer = reported } ∷ []) after old new
 
 -- ---- deliveries
-
--- this text is appended, if the text is asked for, and the same is known of the rings
-abbrev pub IsTextTold : List ℕ → Option StepTextValue → Option StepTextValue → Type 0
-IsTextTold text None None = Unit {0}
-IsTextTold text None (Some new) = ⊥
-IsTextTold text (Some old) None = ⊥
-IsTextTold text (Some old) (Some new) = (new.text ≡ old.text ++ text) × (new.rings ≡ old.rings)
 
 -- a delivery is reported by its line
 pub record LineIsReported (line : LogLine) (old new : ReportsValue) : Type 0 where

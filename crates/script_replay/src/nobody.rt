@@ -5,15 +5,21 @@ use ring_core::{Answer, Core};
 use step_telling::{Asked, Teller};
 use trace_model::NoMemory;
 
-/// For a replay whose steps are told to nobody: there is no value of it.
+/// For a replay whose steps are told to nobody.
 #[derive(Drop)]
-pub(crate) enum Nobody {}
+pub(crate) struct Nobody;
 
 impl Teller for Nobody {
-    ghost use Rattle.std.specs.Prelude.{[]};
+    ghost use Rattle.std.specs.Prelude.{None};
 
-    ghost told = { λ _. record { text = []; rings = [] } };
+    ghost told = { λ _. None };
 
+    #[inline(always)]
+    fn tells(&self) -> bool {
+        false
+    }
+
+    #[inline(always)]
     fn tell(
         &mut self,
         _at: At,
@@ -21,14 +27,16 @@ impl Teller for Nobody {
         _answer: &Answer,
         _ring: &Core,
     ) -> Result<(), NoMemory> {
-        match *self {}
+        Ok(())
     }
 
+    #[inline(always)]
     fn tell_delivery(&mut self, _logged: &LogLine) -> Result<(), NoMemory> {
-        match *self {}
+        Ok(())
     }
 
+    #[inline(always)]
     fn tell_gains(&mut self, _parcel: &Parcel) -> Result<(), NoMemory> {
-        match *self {}
+        Ok(())
     }
 }

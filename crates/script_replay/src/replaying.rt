@@ -1,6 +1,5 @@
 //! The replay of a script over the rings of its CPUs: its lines are obeyed, one after the other.
 ghost use Rattle.std.specs.Prelude.{◌≡◌, [], length, All, IsOkUnless, IsSome, IfSome, IfOk, OnOk};
-ghost use Rattle.std.specs.Prelude.{option_map};
 ghost use Rattle.world_model.specs.World as model_world;
 ghost use Rattle.text_model.specs.Log as model;
 ghost use Rattle.text_model.specs.Script as model_script;
@@ -151,17 +150,17 @@ fn new_collectors(alloc: Global, count: usize) -> Result<Vec<Collector>, NoMemor
     Ok(collectors)
 }
 
-/// Obeys all lines of the script, and tells their steps to this teller, if there is one, which has told what comes
-/// before the first line.
+/// Obeys all lines of the script, and tells their steps to this teller, which has told what comes before the first
+/// line.
 fn obey_all<'a, T: Teller>(
     alloc: Global,
     script: &'a Script,
-    steps: Option<T>,
+    steps: T,
 ) -> Result<ReplayState<'a, T>, NoMemory>
-    requires { IfSome (option_map T.told steps) (λ told. IsNewText script.now told) }
+    requires { IfSome (T.told steps) (λ told. IsNewText script.now told) }
     ensures limits { OnOk result (IsWithinLimits script.now) }
     ensures part_way { IfOk result (λ state. IsStateAfter script.now script.now.commands state) }
-    ensures told { IfOk result (λ state. IsSome steps → IsSome state.reports.steps) }
+    ensures told { IfOk result (λ state. IsSome (T.told steps) → IsSome state.reports.steps) }
 {
     let commands = script.commands();
     let mut state = ReplayState {
@@ -186,7 +185,7 @@ pub fn world_of(alloc: Global, script: &Script) -> Result<World, NoMemory>
         lanes,
         collectors,
         reports,
-    } = obey_all::<Nobody>(alloc, script, None)?;
+    } = obey_all(alloc, script, Nobody)?;
     drop(lanes);
     let Reports { log, steps } = reports;
     drop(steps);
@@ -202,22 +201,21 @@ pub fn replay(alloc: Global, script: &Script) -> Result<World, ReplayFault>
 }
 
 /// Replays a script, and tells each step of its lines, and what each delivery brings, to this teller, which has told
-/// what comes before the first line. Gives it back with the text of all.
+/// what comes before the first line. Gives it back with the text of all, if it makes one.
 pub fn told_replay<T: Teller>(alloc: Global, script: &Script, teller: T) -> Result<T, NoMemory>
-    requires { IsNewText script.now (T.told teller) }
-    ensures { IfOk result (λ told. (world : model_world.World) × IsStepText script.now world (T.told told).text) }
+    requires { IfSome (T.told teller) (λ told. IsNewText script.now told) }
+    ensures told { IfOk result (λ told. IfSome (T.told told) (λ steps. (world : model_world.World)
+        × IsStepText script.now world steps.text)) }
+    ensures tells { IfOk result (λ told. IsSome (T.told teller) → IsSome (T.told told)) }
 {
     let ReplayState {
         lanes,
         collectors,
         reports,
-    } = obey_all(alloc, script, Some(teller))?;
+    } = obey_all(alloc, script, teller)?;
     drop(lanes);
     drop(collectors);
     let Reports { log, steps } = reports;
     drop(log);
-    match steps {
-        Some(teller) => Ok(teller),
-        None => unreachable!(),
-    }
+    Ok(steps)
 }

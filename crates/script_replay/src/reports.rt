@@ -2,8 +2,9 @@
 ghost use Rattle.std.specs.Prelude.{◌≡◌, None, IsFalse, OnOk};
 ghost use Rattle.page_numbers.specs.Parcels.{as_parcel};
 ghost use Rattle.ring_core.specs.Value.{CoreValue};
+ghost use Rattle.step_telling.specs.Tells.{IsStepTold};
 ghost use Rattle.step_telling.specs.declared.asked.Asked.{Asked as AskedSeen};
-ghost use Rattle.script_replay.specs.Reports.{GainsAreReported, IsReported, IsStepTold, LineIsReported, MayReport};
+ghost use Rattle.script_replay.specs.Reports.{GainsAreReported, IsReported, LineIsReported, MayReport};
 
 use log_text::{At, LogLine, report, report_any};
 use page_numbers::Parcel;
@@ -17,17 +18,16 @@ use trace_model::NoMemory;
 pub(crate) struct Reports<T: Teller> {
     /// What the lines met.
     pub(crate) log: Vec<LogLine>,
-    /// Who is told of their steps, if anybody is.
-    pub(crate) steps: Option<T>,
+    /// Who is told of their steps.
+    pub(crate) steps: T,
 }
 
 impl<T: Teller> Model for Reports<T> {
-    ghost use Rattle.std.specs.Prelude.{option_map};
     ghost use Rattle.script_replay.specs.Reports.{ReportsValue};
 
     ghost Value = { ReportsValue };
 
-    ghost view = { λ a. record { log = a.log.items; steps = option_map T.told a.steps } };
+    ghost view = { λ a. record { log = a.log.items; steps = T.told a.steps } };
 }
 
 impl<T: Teller> Reports<T> {
@@ -39,10 +39,7 @@ impl<T: Teller> Reports<T> {
         ensures steps { OnOk result (IsStepTold at.line at.cpu.0 asked.entry answer.now ring.now
             self.old.steps self.new.steps) }
     {
-        match &mut self.steps {
-            Some(steps) => steps.tell(at, asked, answer, ring),
-            None => Ok(()),
-        }
+        self.steps.tell(at, asked, answer, ring)
     }
 
     /// Reports a step of a ring: what was asked, what it answered, and the ring after it.
@@ -82,7 +79,7 @@ impl<T: Teller> Reports<T> {
     pub(crate) fn tells(&self) -> bool
         ensures { IsFalse result → self.now.steps ≡ None }
     {
-        self.steps.is_some()
+        self.steps.tells()
     }
 
     /// Reports an answer where no step is told: nothing is reported of most answers to a writer. The answer is moved,
@@ -109,7 +106,7 @@ impl<T: Teller> Reports<T> {
         requires { MayReport at.cpu.0 asked answer ring.now self.old }
         ensures { OnOk result (IsReported at.line at.cpu.0 asked.entry answer ring.now self.old self.new) }
     {
-        if self.steps.is_some() {
+        if self.tells() {
             return self.report_told(at, asked, answer, ring);
         }
         report(at, answer, &mut self.log)
@@ -120,9 +117,7 @@ impl<T: Teller> Reports<T> {
     pub(crate) fn report_delivery(&mut self, logged: LogLine) -> Result<(), NoMemory>
         ensures { OnOk result (LineIsReported logged self.old self.new) }
     {
-        if let Some(steps) = &mut self.steps {
-            steps.tell_delivery(&logged)?;
-        }
+        self.steps.tell_delivery(&logged)?;
         self.log.push(logged)?;
         Ok(())
     }
@@ -132,9 +127,6 @@ impl<T: Teller> Reports<T> {
     pub(crate) fn report_gains(&mut self, parcel: &Parcel) -> Result<(), NoMemory>
         ensures { OnOk result (GainsAreReported (as_parcel parcel.now) self.old self.new) }
     {
-        if let Some(steps) = &mut self.steps {
-            steps.tell_gains(parcel)?;
-        }
-        Ok(())
+        self.steps.tell_gains(parcel)
     }
 }

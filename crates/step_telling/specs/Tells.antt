@@ -1,5 +1,5 @@
 -- What a teller is told of a step.
-use Rattle.std.specs.Prelude.{◌≡◌, ℕ, [], ◌∷◌, ◌++◌}
+use Rattle.std.specs.Prelude.{◌≡◌, ℕ, List, [], ◌∷◌, ◌++◌, Option, Some, None}
 use Rattle.trace_model.specs.Ring.{Core}
 use Rattle.trace_model.specs.Steps as model
 use Rattle.trace_model.specs.Steps.{pushes, pushes_close, reads, wishes, Step}
@@ -60,3 +60,20 @@ pub record MayTell (cpu : ℕ) (asked : Asked) (answer : Answer) (ring : CoreVal
   pub reported : model.Answer
   pub knows : Knows old cpu before
   pub step : IsStepOf n size start before after event reported asked answer ring
+
+-- ---- by who may make no text
+
+-- the step is told, if there is a text
+abbrev pub IsStepTold : (line cpu : ℕ) → Asked → Answer → CoreValue → Option StepTextValue → Option StepTextValue
+    → Type 0
+IsStepTold line cpu asked answer ring None None = Unit {0}
+IsStepTold line cpu asked answer ring None (Some new) = ⊥
+IsStepTold line cpu asked answer ring (Some old) None = ⊥
+IsStepTold line cpu asked answer ring (Some old) (Some new) = TellsStep line cpu asked answer ring old new
+
+-- this text is appended, if there is one, and the same is known of the rings
+abbrev pub IsTextTold : List ℕ → Option StepTextValue → Option StepTextValue → Type 0
+IsTextTold text None None = Unit {0}
+IsTextTold text None (Some new) = ⊥
+IsTextTold text (Some old) None = ⊥
+IsTextTold text (Some old) (Some new) = (new.text ≡ old.text ++ text) × (new.rings ≡ old.rings)

@@ -107,7 +107,13 @@ impl StepText {
 }
 
 impl Teller for StepText {
-    ghost told = { λ text. text };
+    ghost use Rattle.std.specs.Prelude.{Some};
+
+    ghost told = { λ text. Some text };
+
+    fn tells(&self) -> bool {
+        true
+    }
 
     fn tell(&mut self, at: At, asked: Asked, answer: &Answer, ring: &Core) -> Result<(), NoMemory> {
         self.rings[at.cpu.0 as usize].tell(&mut self.text, at, asked, answer, ring)

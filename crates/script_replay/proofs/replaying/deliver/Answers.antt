@@ -3,7 +3,7 @@ use Rattle.std.proofs.lemmas.Result.{on_ok_weaker}
 use Rattle.text_model.specs.Log.{LogLine}
 use Rattle.text_model.specs.Printing.{printed_log_line}
 use Rattle.log_text.specs.LogTypes.{shown_log}
-use Rattle.script_replay.specs.Reports.{IsTextTold}
+use Rattle.step_telling.specs.Tells.{IsTextTold}
 use Rattle.script_replay.proofs.StepsTold.{still_text, known_told, new_told}
 use Rattle.std.proofs.lemmas.Option.{slice_get_read}
 use Rattle.page_numbers.specs.Parcels.{as_parcel}

@@ -1,16 +1,10 @@
-use Rattle.std.proofs.Common.{rules, ℕ, Option, Some, None, ◌≤◌, List, length, ap, ◌∙◌, subst, arith}
+use Rattle.std.proofs.Common.{ℕ, ◌≤◌, List, length, ap, ◌∙◌, subst, arith}
 use Rattle.std.proofs.lemmas.List.{take_all}
 use Rattle.text_model.specs.Script.{Command}
 use Rattle.trace_script.specs.ScriptTypes.{shown_line}
 use Rattle.script_replay.specs.Replay.{IsStateAfter}
 use Rattle.script_replay.proofs.LinesObeyed.{first_part_way, may_obey, one_more}
-use Rattle.std.specs.Prelude.{option_map, IsSome}
 use Rattle.script_replay.proofs.replaying.obey_all.Goals as goal
-
--- a teller that is there is told
-some_told : {A B : Type 0} (f : A → B) (steps : Option A) → IsSome steps → IsSome (option_map f steps)
-some_told f None some = some
-some_told f (Some s) some = search rules
 
 pub loop-index-init : goal.loop-index-init
 loop-index-init g c =
@@ -19,12 +13,12 @@ loop-index-init g c =
           record {
             lanes = c.new.result;
             collectors = c.in_ok-new_collectors.field-0;
-            reports = record { log = c.new-2.result.items; steps = option_map g.T.Teller.told c.args.steps };
+            reports = record { log = c.new-2.result.items; steps = g.T.Teller.told c.args.steps };
           }
           c.commands-commands.ensures.limits c.new.ensures.items
           (c.in_ok-new_collectors.ensures.count ∙ c.collectors.ensures.collectors) c.in_ok-new_collectors.ensures.new
           c.new-2.ensures.items c.requires;
-      told = some_told g.T.Teller.told c.args.steps;
+      told = λ some. some;
     }
 
 pub obey-requires : goal.obey-requires

@@ -1,10 +1,10 @@
 use Rattle.std.proofs.Common.{List, ◌++◌, ◌∙◌, sym, ap, subst}
-use Rattle.std.specs.Prelude.{option_map}
 use Rattle.std.proofs.lemmas.Result.{on_ok_weaker}
 use Rattle.world_model.specs.Log.{logged}
 use Rattle.log_text.specs.declared.line.LogLine.{LogLine}
 use Rattle.log_text.specs.LogTypes.{shown_log}
-use Rattle.script_replay.specs.Reports.{ReportsValue, IsStepTold}
+use Rattle.step_telling.specs.Tells.{IsStepTold}
+use Rattle.script_replay.specs.Reports.{ReportsValue}
 use Rattle.script_replay.proofs.Reporting.{step_reported}
 use Rattle.script_replay.proofs.reports.Reports.report_any.Goals as goal
 
@@ -19,7 +19,7 @@ returns g c =
     let same = (λ i. (c.self.view_is i).log) ∙ c.in_ok-tell.ensures.log in
     on_ok_weaker c.report_any.result
     (λ says. step_reported line cpu c.args.asked c.args.answer.now c.args.ring.now old
-    record { log = c.report_any.new.log.items; steps = option_map g.T.Teller.told c.self.inside.steps } told
+    record { log = c.report_any.new.log.items; steps = g.T.Teller.told c.self.inside.steps } told
     (λ size reported means. says size reported means
     ∙ ap (λ (l : List LogLine). shown_log l ++ logged line cpu reported) same))
     c.report_any.ensures
