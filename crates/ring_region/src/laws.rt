@@ -16,8 +16,8 @@ ghost use Rattle.ring_region.specs.Slots.{Slot, commit_in, IsSlotOf};
 ghost use Rattle.ring_region.specs.Regions.{Recovered, IsRegion, last_end};
 ghost use Rattle.ring_region.specs.Agreement.{AreTaken, AreLeft};
 
-/// The numbers of a region's layout have the values that are stated here, in bytes; contracts name them, so that one that
-/// is changed is refused here.
+/// The numbers of a region's layout have the values that are stated here, in bytes; contracts name them, so that one
+/// that is changed is refused here.
 pub fn constants_are()
     ensures start { START ≡ 128 }
     ensures head { HEAD ≡ 48 }

@@ -13,8 +13,8 @@ use page_numbers::Parcel;
 use ring_core::{Answer, Core};
 use trace_model::NoMemory;
 
-/// Who is told of a replay's steps, and makes their text, or doesn't: a step's text is what isn't known of its ring yet.
-/// What a call leaves if memory is refused is not used.
+/// Who is told of a replay's steps, and makes their text, or doesn't: a step's text is what isn't known of its ring
+/// yet. What a call leaves if memory is refused is not used.
 pub trait Teller: Drop {
     /// What it has told so far, and knows of the ring of each CPU, if it makes a text.
     ghost told: { Self → Option StepTextValue };
