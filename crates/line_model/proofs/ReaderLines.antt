@@ -6,7 +6,7 @@ use Rattle.trace_model.specs.Frames.{Frame}
 use Rattle.trace_model.specs.Ring.{ReaderPhase, loading_head, loading_done, storing_spare_link, swapping, TakenFill}
 use Rattle.trace_model.specs.Ring.{Core, IsMoved}
 use Rattle.trace_model.specs.ReaderSteps.{with_wish}
-use Rattle.trace_model.specs.Steps.{steps, ends, reads, wishes, Answer, reading, empty}
+use Rattle.trace_model.specs.Steps.{reads, wishes, Answer, reading, empty}
 use Rattle.trace_model.specs.Steps.{moving, page_taken, Step, Exchange}
 use Rattle.trace_model.proofs.steps.StepCases.{StepCases, ReadStep, loads_header, loads_update, loads_owed}
 use Rattle.trace_model.proofs.steps.StepCases.{loads_passed, finds_none, finds_closed, swaps, swap_fails, push_step}

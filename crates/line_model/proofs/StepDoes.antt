@@ -1,10 +1,10 @@
 -- What the frame on top does in one step, beside an account: what is to be shown, and of which steps.
-use Rattle.std.proofs.Common.{◌≡◌, ◌≢◌, ℕ, suc, ◌+◌, ◌-◌, ◌≤◌, ◌⊎◌, Bool, true, false, List, [], ◌∷◌, length, drop}
+use Rattle.std.proofs.Common.{◌≡◌, ◌≢◌, ℕ, suc, ◌+◌, ◌-◌, ◌≤◌, Bool, true, false, List, [], ◌∷◌, length, drop}
 use Rattle.std.proofs.Common.{Option, Some, None, refl, ap, ⊎_elim, arith}
 use Rattle.std.specs.Prelude.{if◌then◌else◌, ◌==◌}
 use Rattle.trace_model.specs.History.{push, push_close, open_fill, reserve, leave, wished}
 use Rattle.trace_model.specs.Window.{RingEvent, acts, closes, takes, loses, history_events_of}
-use Rattle.trace_model.specs.Frames.{waiting, left, idle, releasing, wishing, noted_fill, owned_update, Frame}
+use Rattle.trace_model.specs.Frames.{waiting, idle, releasing, wishing, noted_fill, owned_update, Frame}
 use Rattle.trace_model.specs.Ring.{Core}
 use Rattle.trace_model.specs.Steps.{Event, Answer, Step, closing_phase}
 use Rattle.text_model.specs.Script.{Script}

@@ -1,6 +1,6 @@
 -- One step of the frame on top, beside an account, by what it does: it goes on, it leaves, or it looks again, since
 -- another frame has begun the fill that it noted.
-use Rattle.std.proofs.Common.{◌≡◌, ◌≢◌, ℕ, ◌+◌, ◌-◌, ◌≤◌, ◌⊎◌, Bool, true, false, List, [], ◌∷◌, ◌++◌, length, Some}
+use Rattle.std.proofs.Common.{◌≡◌, ◌≢◌, ℕ, ◌≤◌, ◌⊎◌, Bool, true, false, List, [], ◌∷◌, ◌++◌, length, Some}
 use Rattle.std.proofs.Common.{None, refl, sym, ap, ◌∙◌, subst, inl, inr, arith}
 use Rattle.trace_model.specs.History.{leave}
 use Rattle.trace_model.specs.Window.{Window, RingEvent, acts, history_events_of}

@@ -1,5 +1,5 @@
 -- One step of the frame on top, beside an account: which events it makes, each its own and due, and what it leaves.
-use Rattle.std.proofs.Common.{◌≡◌, ℕ, ◌+◌, ◌-◌, ◌<◌, ◌⊎◌, true, false, List, [], ◌∷◌, ◌++◌, Option, Some, None, refl}
+use Rattle.std.proofs.Common.{◌≡◌, ℕ, ◌+◌, ◌<◌, ◌⊎◌, true, false, List, [], ◌∷◌, ◌++◌, Option, Some, None, refl}
 use Rattle.std.proofs.Common.{sym, ap, ◌∙◌, subst, inl, inr, arith, append-nil}
 use Rattle.trace_model.specs.Words.{padded}
 use Rattle.trace_model.specs.History.{push, push_close, open_fill, reserve, leave, wished, PushedFrame}
@@ -29,7 +29,7 @@ use Rattle.line_model.proofs.DueRuns.{situation_of}
 use Rattle.line_model.proofs.StepDoes.{line, TopStep, Made}
 use Rattle.line_model.proofs.TopStays.{kept, sit, needed, can_have, due_one, events_are, no_event, stays_with}
 use Rattle.line_model.proofs.TopStays.{goes_with}
-use Rattle.line_model.proofs.TopMoves.{not_left, there, later, stand_in, goes, on, leaves_with, late}
+use Rattle.line_model.proofs.TopMoves.{not_left, there, later, stand_in, on, leaves_with, late}
 use Rattle.line_model.proofs.TopBegins.{begins, idle_does}
 
 module _ (t : TopStep) where

@@ -1,4 +1,4 @@
-use Rattle.std.proofs.Common.{◌≡◌, ◌+◌, ◌-◌, ◌/◌, ℕ, length, refl, sym, subst, arith}
+use Rattle.std.proofs.Common.{◌≡◌, ◌+◌, ◌/◌, ℕ, length, refl, sym, subst, arith}
 use Rattle.trace_model.specs.Words.{padded, slot_len, first_word}
 use Rattle.trace_model.proofs.words.Lengths.{length-padded}
 use Rattle.record_words.specs.Puts.{Puts}
