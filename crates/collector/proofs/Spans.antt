@@ -208,6 +208,19 @@ both_laid old ready mid new low first end parcel up on same a b = record {
 
 -- ---- a parcel laid where nothing is stated
 
+-- nothing is stated of a free number
+pub none_where_free : (ranges : Ranges) (low end : ℕ) → IsFree ranges low end → (n : ℕ) (content : Content)
+    → low ≤ n → n < end → HasContent ranges n content → ⊥
+none_where_free ranges low end free n content from below t = ⊎_elim
+    (λ (before : t.first < low).
+    let le = free.cut t.first t.span t.at before in
+    let over : n < t.span.end = t.below in omega arith)
+    (λ (ge : low ≤ t.first).
+    let up_to : t.first ≤ n = t.from in
+    let none = free.none t.first ge (omega arith) in
+    let at = t.at in cc)
+    (cases_lt t.first low)
+
 -- the same ranges state the same
 pub keys_report_same : (old new : Ranges) → ((q : ℕ) → get nat_cmp new.spans q ≡ get nat_cmp old.spans q)
     → ReportSame old new

@@ -124,6 +124,18 @@ impl Ranges {
         }
     }
 
+    /// Whether all ranges begin before a number and reach no further, which is seen without a search. Pages that come in
+    /// order are behind all others.
+    fn end_before(&self, number: u64) -> bool
+        requires { AreApart self.now }
+        ensures { IsTrue result → (end : ℕ) → IsFree self.now number end }
+    {
+        match last(&self.spans) {
+            Some((first, span)) => first < number && span.end <= number,
+            None => true,
+        }
+    }
+
     /// What is known of a number and of those after it.
     pub(crate) fn stretch(&self, number: u64) -> Stretch
         requires { AreApart self.now }
@@ -135,6 +147,12 @@ impl Ranges {
         ensures unreported_here { IfNone result.content ((content : Content) → HasContent self.now number content → ⊥) }
         ensures goes_on { number < u64.MAX → number < result.end }
     {
+        if self.end_before(number) {
+            return Stretch {
+                end: u64::MAX,
+                content: None,
+            };
+        }
         match last_up_to(&self.spans, number) {
             Some((_, span)) if number < span.end => Stretch {
                 end: span.end,
@@ -230,6 +248,9 @@ impl Ranges {
         requires { AreApart self.now }
         ensures { IsTrue result → IsFree self.now low end }
     {
+        if self.end_before(low) {
+            return true;
+        }
         if let Some((first, span)) = last_up_to(&self.spans, low) {
             if first == low || low < span.end {
                 return false;
