@@ -44,6 +44,7 @@ impl WriterStack {
     }
 
     /// The frame on top, which has one below it, leaves.
+    #[cold]
     #[inline(never)]
     fn pop(&mut self)
         ensures after { (top : Frame) (next : Frame) (below : List Frame) → IsTop self.old top (next ∷ below)
@@ -51,7 +52,7 @@ impl WriterStack {
         ensures kept { SamePages self.old self.new }
     {
         if let Some(next) = self.below.pop_front() {
-            self.top.put(next);
+            self.top.put_back(next);
         }
     }
 

@@ -52,11 +52,15 @@ impl WriterStack {
         requires stack { IsReachedStack self.old }
         ensures { EndsTop self.old result self.new }
     {
-        if self.top.holds_record() && self.below.is_empty() {
+        if !self.top.holds_record() {
+            return self.end_any();
+        }
+        if self.below.is_empty() {
             self.leave();
             return Ok(Ended::Full);
         }
-        self.end_any()
+        self.leave();
+        Ok(Ended::Pending)
     }
 
     /// Whether the tail holds a record, so that it can be closed for the reader: then a page may be added once for the

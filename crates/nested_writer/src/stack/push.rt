@@ -77,7 +77,7 @@ impl WriterStack {
         Ok(())
     }
 
-    /// `begin`, whatever is on the stack.
+    /// `begin`, whatever is on the stack and whatever it is for.
     #[cold]
     #[inline(never)]
     fn begin_any(&mut self, moment: u64, len: usize) -> Result<(), WriteFault>
@@ -88,13 +88,34 @@ impl WriterStack {
         Ok(())
     }
 
+    /// `begin`, if a frame is on the stack, which the new one covers.
+    #[cold]
+    #[inline(never)]
+    fn begin_above(&mut self, moment: u64, len: usize) -> Result<(), WriteFault>
+        ensures { Begins moment len self.old result self.new }
+    {
+        if self.below.len() + 1 >= MAX_FRAMES {
+            return self.begin_any(moment, len);
+        }
+        // Fewer than 1 byte, or more than `plain_len`.
+        if len.wrapping_sub(1) >= self.plain_len {
+            return self.begin_any(moment, len);
+        }
+        if moment >= MOMENT_LIMIT {
+            return self.begin_any(moment, len);
+        }
+        cover(&self.top, &mut self.below);
+        self.top.wait(moment, len);
+        Ok(())
+    }
+
     /// Pushes a frame for a record of this moment and of a payload of `len` bytes.
     #[inline(always)]
     pub fn begin(&mut self, moment: u64, len: usize) -> Result<(), WriteFault>
         ensures { Begins moment len self.old result self.new }
     {
         if !self.top.is_none() {
-            return self.begin_any(moment, len);
+            return self.begin_above(moment, len);
         }
         // Fewer than 1 byte, or more than `plain_len`.
         if len.wrapping_sub(1) >= self.plain_len {

@@ -203,6 +203,19 @@ impl Top {
         }
     }
 
+    /// The frame is this one from now on, as in `put`: with fewer tests if its record is reserved.
+    #[inline(always)]
+    pub(crate) fn put_back(&mut self, frame: Frame)
+        ensures { self.new ≡ Some frame }
+    {
+        match (frame.purpose, frame.progress) {
+            (Purpose::Record { moment, len }, Progress::Reserved(slot)) => self.hold_any(
+                moment, len, slot,
+            ),
+            _ => self.put(frame),
+        }
+    }
+
     /// It is a record frame that tried nothing yet, for a payload of 1 to `SHORT_LIMIT` bytes.
     #[inline(always)]
     pub(crate) fn wait(&mut self, moment: u64, len: usize)

@@ -1,25 +1,31 @@
-use Rattle.std.proofs.Common.{ℕ, ◌≡◌, ◌∷◌, List, Option, refl, sym, ap, ◌∙◌, subst}
+use Rattle.std.proofs.Common.{rules, ℕ, ◌≡◌, ◌∷◌, List, Option, Some, refl, sym, ap, ◌∙◌, subst}
 use Rattle.std.specs.Prelude.{◌==◌}
 use Rattle.nested_writer.specs.declared.frame.Frame.{Frame}
 use Rattle.nested_writer.specs.declared.frame.Purpose.TheVariants.{Record}
 use Rattle.nested_writer.specs.declared.frame.Progress.TheVariants.{Reserved}
-use Rattle.nested_writer.specs.declared.stack.leave.Ended.TheVariants.{Full}
+use Rattle.nested_writer.specs.declared.stack.leave.Ended.TheVariants.{Pending, Full}
 use Rattle.nested_writer.specs.Stack.{Stack}
 use Rattle.nested_writer.specs.Inside.{frames_from}
 use Rattle.nested_writer.specs.IsStack.{IsStack}
-use Rattle.nested_writer.proofs.Keeping.{none_left}
+use Rattle.nested_writer.proofs.Keeping.{some_below, none_left}
 use Rattle.nested_writer.proofs.Ending.{ended}
 use Rattle.nested_writer.proofs.Promises.{ends_top}
 use Rattle.nested_writer.proofs.stack.WriterStack.end.Goals as goal
 
+-- the frame on top, whose record is reserved, and those below it
+on_top : (s : Stack) (top : Option Frame) (below : List Frame) (frame : Frame)
+    → s.frames ≡ frames_from top below
+    → top ≡ Some frame
+    → s.frames ≡ frame ∷ below
+on_top s top below frame is some = is ∙ ap (λ (t : Option Frame). frames_from t below) some
+
 pub returns-then-is_empty : goal.returns-then-is_empty
 returns-then-is_empty c =
     let s : Stack = c.args.self.now in
-    let (moment, len, slot, on_top) = c.if-holds_record.ensures refl in
+    let (moment, len, slot, some) = c.holds_record.ensures (search rules) in
     let top : Frame = record { purpose = Record moment len; progress = Reserved slot } in
     let below : List Frame = c.self.inside.below.items in
-    let frames : s.frames ≡ top ∷ below =
-    ap (λ (x : Stack). x.frames) (sym c.self.view_is) ∙ ap (λ (t : Option Frame). frames_from t below) on_top in
+    let frames = on_top s c.self.inside.top below top (ap (λ (x : Stack). x.frames) (sym c.self.view_is)) some in
     let is = c.leave.ensures.after top below frames in
     ends_top s c.leave.new.self top below Full frames tt
     (λ page there start h k.
@@ -29,3 +35,20 @@ returns-then-is_empty c =
     (λ full.
     none_left below c.is_empty.result (c.is_empty.ensures ∙ ap (λ (n : ℕ). n == 0) c.self.inside.below.ok.0)
     c.if-is_empty.true)
+
+pub returns : goal.returns
+returns c =
+    let s : Stack = c.args.self.now in
+    let (moment, len, slot, some) = c.holds_record.ensures (search rules) in
+    let top : Frame = record { purpose = Record moment len; progress = Reserved slot } in
+    let below : List Frame = c.self.inside.below.items in
+    let frames = on_top s c.self.inside.top below top (ap (λ (x : Stack). x.frames) (sym c.self.view_is)) some in
+    let is = c.leave-2.ensures.after top below frames in
+    ends_top s c.leave-2.new.self top below Pending frames tt
+    (λ page there start h k.
+    subst (IsStack start _) (sym is) (ended start h s top below slot page frames refl there k)) is
+    c.requires.stack
+    (λ pending.
+    some_below below c.is_empty.result (c.is_empty.ensures ∙ ap (λ (n : ℕ). n == 0) c.self.inside.below.ok.0)
+    c.if-is_empty.false)
+    (λ full. absurd (let no = full in cc))
