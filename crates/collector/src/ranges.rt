@@ -124,8 +124,8 @@ impl Ranges {
         }
     }
 
-    /// Whether all ranges begin before a number and reach no further, which is seen without a search. Pages that come in
-    /// order are behind all others.
+    /// Whether all ranges begin before a number and reach no further, as those of pages that come in order do. The last
+    /// range says so, without a search.
     fn end_before(&self, number: u64) -> bool
         requires { AreApart self.now }
         ensures { IsTrue result → (end : ℕ) → IsFree self.now number end }
