@@ -79,7 +79,8 @@ fn end_of_stated(data: &[u8], at: usize) -> Result<usize, WordFault>
     ensures fault { IfErr result (λ f. IsFaultAt «data».now at f) }
 {
     let len = number_behind(data, at)? as usize;
-    if len < LEAST_LENGTH || !len.is_multiple_of(4) {
+    let whole = len.is_multiple_of(4);
+    if len < LEAST_LENGTH || !whole {
         return Err(WordFault::BadLength(at));
     }
     if data.len() - at - 4 < len {

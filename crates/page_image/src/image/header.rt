@@ -130,7 +130,8 @@ pub(crate) fn read_header(bytes: &[u8]) -> Result<Header, ImageFault>
     }
     let time = number_at(bytes, 0);
     let commit = commit_in(number_at(bytes, NUMBER));
-    if bytes.len() > MAX_IMAGE || bytes.len() - HEADER < commit.size {
+    let too_long = bytes.len() > MAX_IMAGE;
+    if too_long || bytes.len() - HEADER < commit.size {
         return Err(ImageFault::BadSize);
     }
     Ok(Header { time, commit })
