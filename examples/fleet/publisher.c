@@ -1,6 +1,6 @@
 // A host of the fleet on NATS JetStream: it takes the pages of its rings, packs them, and publishes each until the bus
 // has acknowledged it. It has so many on the way at most: if the bus is slow or away, it takes no page meanwhile, and
-// the rings overwrite their oldest pages and count what is lost. docs/FLEET.md tells how to compile it.
+// the rings overwrite their oldest pages and count what is lost. README.md here tells how to compile it.
 //
 //     publisher [--servers nats://HOST:PORT,..] [--copies N] [--host N] [--incarnation N] [--cpus N] [--pages N]
 //         [--size BYTES] [--rate EVENTS_A_SECOND] [--seconds N] [--window N] [--patience SECONDS] [--ledger FILE]
