@@ -36,7 +36,7 @@ use Rattle.nested_writer.specs.declared.frame.Progress.TheVariants.{Waiting, Res
 use Rattle.nested_writer.specs.declared.frame.Frame.{Frame}
 use Rattle.trace_model.specs.Frames.{pushed_onto, pushed_of}
 use Rattle.nested_writer.specs.Stack.{Stack, tail_fill, next_number, kind_of, state_of, model_frames}
-use Rattle.nested_writer.specs.Calls.{after_leave}
+use Rattle.nested_writer.specs.Calls.{frames_after_leave, after_leave}
 use Rattle.nested_writer.specs.AtOnce.{MayStand, with_left}
 use Rattle.nested_writer.specs.IsStack.{is_tail, IsStack}
 use Rattle.trace_model.specs.Packing.{opens_of, is_wished}
@@ -228,8 +228,8 @@ goes_again start h s f top_is gone k = record {
 -- ---- the stack
 
 module _ (start : ℕ) (h : List HistoryEvent) (s : Stack) (moment : ℕ) (payload : List ℕ) (tail' : Contents)
-    (place : Place) (none : s.frames ≡ []) (fits : encoded_len (length payload) 0 true ≤ s.size)
-    (early : moment < MOMENT_LIMIT) (low : length tail'.bytes ≤ s.size)
+    (place : Place) (fits : encoded_len (length payload) 0 true ≤ s.size) (early : moment < MOMENT_LIMIT)
+    (low : length tail'.bytes ≤ s.size)
     (p : IsPutLast s.tail tail' s.last_moment (max moment s.last_moment) (length payload) (padded payload) place)
     (k : IsStack start h s) where
   abbrev raised : ℕ
@@ -243,9 +243,6 @@ module _ (start : ℕ) (h : List HistoryEvent) (s : Stack) (moment : ℕ) (paylo
 
   abbrev holds : Frame
   holds = record { purpose = ForRecord moment (length payload); progress = Reserved slot }
-
-  abbrev has_left : Frame
-  has_left = record { purpose = ForRecord moment (length payload); progress = Left None }
 
   abbrev page : Contents
   page = zeroed s.tail tail' s.last_moment raised (length payload) (padded payload) place k.holds.tail_is.page_reads p
@@ -286,39 +283,40 @@ module _ (start : ℕ) (h : List HistoryEvent) (s : Stack) (moment : ℕ) (paylo
       (written start ((h ++ push moment (length payload) ∷ []) ++ reserve ∷ []) allotted slot (padded payload) refl
       (length-padded payload ∙ sym p.put.len_is) is_allotted)
 
+  -- the frame leaves: one with a frame below it is popped, the bottom one stays
   is_left : IsStack start (((h ++ push moment (length payload) ∷ []) ++ reserve ∷ []) ++ leave (Some payload) ∷ [])
-      (record s { tail = tail'; frames = has_left ∷ []; last_moment = raised })
+      (after_leave filled holds s.frames)
   is_left =
       let before : List HistoryEvent = (h ++ push moment (length payload) ∷ []) ++ reserve ∷ [] in
-      let frames : filled.frames ≡ holds ∷ [] = ap (λ (fs : List Frame). holds ∷ fs) none in
       let there : bytes_at place.start place.len tail'.bytes ≡ padded payload =
       part_at s.tail tail' s.last_moment raised (length payload) (padded payload) place k.holds.tail_is.page_reads
       p in
-      left_alike start before (after_leave filled holds []) moment (length payload) (next_number s) [] payload
-      (padded payload) (sym (padded_twice payload))
-      (is_filled.stack_is ∙ ap (λ (fs : List Frame). pushed_of (model_frames fs)) frames) refl
-      (subst (λ (b : List ℕ). IsStack start (before ++ leave (Some b) ∷ []) (after_leave filled holds [])) there
-      (ended start before filled holds [] slot tail' frames refl (is_tail refl refl) is_filled))
+      left_alike start before (after_leave filled holds s.frames) moment (length payload) (next_number s)
+      (pushed_of (model_frames s.frames)) payload (padded payload) (sym (padded_twice payload)) is_filled.stack_is refl
+      (subst (λ (b : List ℕ). IsStack start (before ++ leave (Some b) ∷ []) (after_leave filled holds s.frames)) there
+      (ended start before filled holds s.frames slot tail' refl refl (is_tail refl refl) is_filled))
 
-  is_written : IsStack start (h ++ push moment (length payload) ∷ reserve ∷ leave (Some payload) ∷ [])
-      (record s {
-        tail = tail';
-        frames = record { purpose = ForRecord moment (length payload); progress = Left None } ∷ [];
-        last_moment = max moment s.last_moment;
-      })
+  abbrev events : List HistoryEvent
+  events = push moment (length payload) ∷ reserve ∷ leave (Some payload) ∷ []
+
+  abbrev with_frames : List Frame → Stack
+  with_frames frames = record s { tail = tail'; frames = frames; last_moment = raised }
+
+  is_written : IsStack start (h ++ events) (with_frames (frames_after_leave holds s.frames))
   is_written =
-      subst (λ (g : List HistoryEvent).
-      IsStack start g (record s { tail = tail'; frames = has_left ∷ []; last_moment = raised }))
+      subst (λ (g : List HistoryEvent). IsStack start g (with_frames (frames_after_leave holds s.frames)))
       (append_assoc (h ++ push moment (length payload) ∷ []) (reserve ∷ []) (leave (Some payload) ∷ [])
       ∙ append_assoc h (push moment (length payload) ∷ []) (reserve ∷ leave (Some payload) ∷ [])) is_left
 
-  -- and its frame may be taken off again
+  -- a bottom frame may be taken off again
+  with_those : (frames : List Frame) → IsStack start (h ++ events) (with_frames (frames_after_leave holds frames))
+      → IsStack start (h ++ events) (with_frames frames)
+  with_those [] left =
+      goes_again start (h ++ events) (with_frames (frames_after_leave holds [])) (record holds { progress = Left None })
+      refl refl left
+  with_those (next ∷ below) left = left
+
+  -- so the frames are those of before
   pub written_at_once : IsStack start (h ++ push moment (length payload) ∷ reserve ∷ leave (Some payload) ∷ [])
       (record s { tail = tail'; last_moment = max moment s.last_moment })
-  written_at_once =
-      let events : List HistoryEvent = push moment (length payload) ∷ reserve ∷ leave (Some payload) ∷ [] in
-      let after : Stack = record s { tail = tail'; frames = has_left ∷ []; last_moment = raised } in
-      subst
-      (λ (fs : List Frame).
-      IsStack start (h ++ events) (record s { tail = tail'; frames = fs; last_moment = raised })) (sym none)
-      (goes_again start (h ++ events) after has_left refl refl is_written)
+  written_at_once = with_those s.frames is_written

@@ -27,7 +27,7 @@ use Rattle.nested_writer.specs.Next.{below_top, IsPushedOn, IsPlaced, IsReadyFor
 use Rattle.nested_writer.specs.Next.{IsRefusedTo, IsEndedTo}
 use Rattle.nested_writer.specs.Allotted.{HasEvents, IsAllotted}
 use Rattle.nested_writer.specs.Answered.{IsAllotAnswer}
-use Rattle.nested_writer.specs.AtOnce.{FitsAtOnce, with_left}
+use Rattle.nested_writer.specs.AtOnce.{FitsAtOnce, FitsAbove, with_left}
 use Rattle.nested_writer.specs.IsStack.{IsStack, IsReachedStack}
 
 -- `begin`: the frame for a record of this moment, of a payload of len bytes, is on top; or the first of the faults
@@ -89,6 +89,19 @@ pub record EndsTop (old : Stack) (result : Result Ended WriteFault) (new : Stack
 -- nothing changes.
 pub record WritesWhatFits (moment : ℕ) (payload : List ℕ) (old : Stack) (result : Wrote) (new : Stack) : Type 0 where
   pub wrote : result ≡ at_once.Record ↔ FitsAtOnce old moment (length payload)
+  pub records : result ≡ at_once.Record
+      → records_of_page new.tail
+      ≡ records_of_page old.tail ++ record { moment = max moment old.last_moment; bytes = padded payload } ∷ []
+  pub stack : result ≡ at_once.Record
+      → HasEvents old (push moment (length payload) ∷ reserve ∷ leave (Some payload) ∷ []) new
+  pub stays : IsReachedStack new
+  pub nothing : result ≡ at_once.Nothing → new ≡ old
+  pub kept : SameFills old new
+
+-- `write_above`: the record is written if it fits above the frames on the stack, its moment raised to the last one's;
+-- else nothing changes.
+pub record WritesAbove (moment : ℕ) (payload : List ℕ) (old : Stack) (result : Wrote) (new : Stack) : Type 0 where
+  pub wrote : result ≡ at_once.Record ↔ FitsAbove old moment (length payload)
   pub records : result ≡ at_once.Record
       → records_of_page new.tail
       ≡ records_of_page old.tail ++ record { moment = max moment old.last_moment; bytes = padded payload } ∷ []

@@ -1,4 +1,5 @@
 //! The writer's stack: its open pages and its frames.
+mod above;
 pub mod allot;
 pub mod leave;
 pub mod lend;

@@ -59,6 +59,39 @@ two_parts n c d e first second = record {
       ∙ first.holds f low high;
 }
 
+-- ---- three of them, one after the other
+
+module _ (n size start : ℕ) (v : CoreValue) (frames : FramesValue) (c pushed reserved after : Core)
+    (push reserve end : model.Event) (one two three : model.Answer) (core : IsCore n size start v c)
+    (push_own : IsPrivate c push) (pushes : model.Step n size c push one pushed)
+    (reserve_own : IsPrivate pushed reserve) (reserves : model.Step n size pushed reserve two reserved)
+    (end_own : IsPrivate reserved end) (ends : model.Step n size reserved end three after)
+    (are : AreFrames n size start frames after) where
+  pushed_reached : IsReached n size start pushed
+  pushed_reached = reached_further n size start c push one pushed core.reached pushes
+
+  reserved_reached : IsReached n size start reserved
+  reserved_reached = reached_further n size start pushed reserve two reserved pushed_reached reserves
+
+  changed : OnlyWritersChanged n c after
+  changed =
+      two_parts n c reserved after
+      (two_parts n c pushed reserved (one_step n size start c push one pushed core.reached push_own pushes)
+      (one_step n size start pushed reserve two reserved pushed_reached reserve_own reserves))
+      (one_step n size start reserved end three after reserved_reached end_own ends)
+
+  -- the ring with the frames of the last state
+  pub is_core_after : IsCore n size start (with_frames v frames) after
+  is_core_after = record {
+    reached = reached_further n size start reserved end three after reserved_reached ends;
+    shows = subst (HasStateOf n size start (with_frames v frames)) (sym changed.is)
+        (shows_reframed n size start v c frames after.frames after.history after.held core.shows
+        (subst (AreFrames n size start frames) changed.is are)
+        (λ f low high.
+        subst (λ (d : Core). contents_of d (page_at n c.order f) ≡ contents_of c (page_at n c.order f)) changed.is
+        (changed.holds f low high)));
+  }
+
 -- ---- the record
 
 module _ (v : CoreValue) (new : FramesValue) (moment : ℕ) (payload : List ℕ) (unasked : v.wish ≤ v.stack.done)
@@ -82,33 +115,10 @@ module _ (v : CoreValue) (new : FramesValue) (moment : ℕ) (payload : List ℕ)
     abbrev h : IsWriteAtOnce n size start c moment payload (next_number v.stack) frames
     h = wrote n size start c core.reached core.shows.frames
 
-    pushed_reached : IsReached n size start h.pushed
-    pushed_reached = reached_further n size start c _ _ h.pushed core.reached h.push
-
-    reserved_reached : IsReached n size start h.reserved
-    reserved_reached = reached_further n size start h.pushed _ _ h.reserved pushed_reached h.reserve
-
-    ended_reached : IsReached n size start h.after
-    ended_reached = reached_further n size start h.reserved _ _ h.after reserved_reached h.end
-
-    changed : OnlyWritersChanged n c h.after
-    changed =
-        two_parts n c h.reserved h.after
-        (two_parts n c h.pushed h.reserved
-        (one_step n size start c _ _ h.pushed core.reached h.push_private h.push)
-        (one_step n size start h.pushed _ _ h.reserved pushed_reached h.reserve_private h.reserve))
-        (one_step n size start h.reserved _ _ h.after reserved_reached h.end_private h.end)
-
     mid_core : IsCore n size start mid h.after
-    mid_core = record {
-      reached = ended_reached;
-      shows = subst (HasStateOf n size start mid) (sym changed.is)
-          (shows_reframed n size start v c frames h.after.frames h.after.history h.after.held core.shows
-          (subst (AreFrames n size start frames) changed.is h.are)
-          (λ f low high.
-          subst (λ (d : Core). contents_of d (page_at n c.order f) ≡ contents_of c (page_at n c.order f)) changed.is
-          (changed.holds f low high)));
-    }
+    mid_core =
+        is_core_after n size start v frames c h.pushed h.reserved h.after _ _ _ _ _ _ core h.push_private h.push
+        h.reserve_private h.reserve h.end_private h.end h.are
 
     gone : IsStep n size start h.after model.steps Gone (with_frames v new)
     gone = looked_for_wish mid Gone new

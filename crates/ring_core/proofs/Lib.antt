@@ -12,3 +12,4 @@ pub mod NewCores
 pub mod Runs
 pub mod Lent
 pub mod AtOnce
+pub mod Above

@@ -9,3 +9,4 @@ pub mod Runs
 pub mod NewRing
 pub mod Lending
 pub mod AtOnce
+pub mod Above

@@ -1,29 +1,20 @@
 -- A record that is written at once, as three private steps: its frame is pushed, reserves and ends.
 use Rattle.std.specs.Prelude.{Bool, if◌then◌else◌}
 use Rattle.std.proofs.Common.{◌≡◌, ℕ, ◌+◌, ◌<◌, List, [], ◌∷◌, ◌++◌, length, Some, None, refl, sym, ap, ◌∙◌, subst}
-use Rattle.std.proofs.Common.{eq-eqb, arith, append_assoc}
+use Rattle.std.proofs.Common.{eq-eqb, arith}
 use Rattle.trace_model.specs.declared.limits.TheConstants.{MAX_FRAMES}
-use Rattle.trace_model.specs.Words.{slot_len, padded}
-use Rattle.trace_model.specs.History.{HistoryEvent, push, reserve, leave, record_frame, writer_after, reserved_records}
-use Rattle.trace_model.specs.Packing.{tail_of, FitsBehind}
-use Rattle.trace_model.specs.Frames.{for_record, waiting, reserved, left, idle, pushed_of, Frame as ModelFrame}
+use Rattle.trace_model.specs.History.{push, reserve, leave}
+use Rattle.trace_model.specs.Frames.{for_record, left, Frame as ModelFrame}
 use Rattle.trace_model.specs.Ring.{Core}
 use Rattle.trace_model.specs.Steps as model
-use Rattle.trace_model.proofs.steps.StepCases as cases
-use Rattle.trace_model.proofs.words.Lengths.{length-padded, slot_len-slot_len}
-use Rattle.trace_model.proofs.histories.NextEvent.{reserved_stack}
-use Rattle.trace_model.proofs.steps.StepIs.{step_by}
 use Rattle.nested_writer.specs.declared.frame.Purpose.TheVariants.{Record}
 use Rattle.nested_writer.specs.declared.frame.Progress.TheVariants.{Left}
 use Rattle.nested_writer.specs.declared.frame.Frame.{Frame}
-use Rattle.nested_writer.specs.Stack.{Stack, opened, next_number, model_frames}
-use Rattle.nested_writer.specs.Calls.{with_frame}
-use Rattle.nested_writer.specs.IsStack.{IsStack}
-use Rattle.nested_writer.specs.AtOnce.{FitsAtOnce, with_written, with_left, with_record}
+use Rattle.nested_writer.specs.Stack.{Stack, opened, next_number}
+use Rattle.nested_writer.specs.AtOnce.{FitsAtOnce, FitsInTail, with_written, with_left, with_record}
 use Rattle.nested_writer.specs.Allotted.{HasEvents}
-use Rattle.nested_writer.proofs.Pushing.{pushed_record}
-use Rattle.nested_writer.proofs.Answering.{number_counts, record_fits}
-use Rattle.nested_writer.proofs.AtOnce.{padded_twice, left_alike, fits_page, stands_again}
+use Rattle.nested_writer.proofs.Answering.{number_counts}
+use Rattle.nested_writer.proofs.AtOnce.{stands_again}
 use Rattle.ring_frames.specs.declared.phase.Phase.{Phase}
 use Rattle.ring_frames.specs.declared.phase.Phase.TheVariants.{Releasing, Wishing}
 use Rattle.ring_frames.specs.Phases.{closing_phase}
@@ -32,9 +23,9 @@ use Rattle.ring_frames.specs.AreFrames.{frames_in_phases, AreBelow, AreNotedAlik
 use Rattle.ring_frames.specs.Steps.{IsFrames}
 use Rattle.ring_frames.specs.AtOnce.{with_left_frame, IsWriteAtOnce, WritesAtOnce, IsWrittenAlone}
 use Rattle.ring_frames.proofs.Privately.{kept_of, top_is_private}
-use Rattle.ring_frames.proofs.Pushed.{new_frame, has_room}
 use Rattle.ring_frames.proofs.Left.{closing_is, left_notes, closing_value}
 use Rattle.ring_frames.proofs.Reshown.{reshown}
+use Rattle.ring_frames.proofs.InTail as tail
 
 module _ (n size start : ℕ) (v : FramesValue) (c : Core) (k : AreFrames n size start v c) (moment : ℕ)
     (payload : List ℕ) (fits : FitsAtOnce v.stack moment (length payload)) (stack : Stack)
@@ -48,85 +39,23 @@ module _ (n size start : ℕ) (v : FramesValue) (c : Core) (k : AreFrames n size
   none_below : v.below ≡ []
   none_below = subst (λ (fs : List Frame). AreBelow fs v.below) none k.below_are
 
-  -- ---- the states on the way
+  bare : c.frames ≡ []
+  bare = k.frames_are ∙ ap (λ (fs : List Frame). frames_in_phases fs (v.phase ∷ v.below)) none
 
-  -- its frame as it is pushed, and once it has reserved
-  abbrev waits : ModelFrame
-  waits = record { kind = for_record moment len; state = waiting; phase = idle }
+  few : length v.stack.frames < MAX_FRAMES
+  few = subst (λ (fs : List Frame). length fs < MAX_FRAMES) (sym none) (omega arith)
 
-  abbrev holds : ℕ → ModelFrame
-  holds number = record { kind = for_record moment len; state = reserved number; phase = idle }
+  own : FitsInTail v.stack moment len
+  own = ((fits.1, fits.2), fits.3)
 
   abbrev pushed : Core
-  pushed = model.with_history_event (model.with_frame c (for_record moment len)) (push moment len)
-
-  abbrev number : ℕ
-  number = length (reserved_records pushed.history)
+  pushed = tail.pushed n size start v c k moment payload few own [] bare
 
   abbrev with_its_record : Core
-  with_its_record =
-      model.in_reserved (model.with_reservation pushed (model.new_reservation pushed moment len)) waits [] number
+  with_its_record = tail.with_its_record n size start v c k moment payload few own [] bare
 
   abbrev after : Core
-  after = model.after_leave with_its_record (holds number) [] (Some (padded payload))
-
-  -- ---- the steps
-
-  push_is : model.Step n size c (model.pushes moment len) model.pushed pushed
-  push_is =
-      let few : length v.stack.frames < MAX_FRAMES =
-      subst (λ (fs : List Frame). length fs < MAX_FRAMES) (sym none) (omega arith) in
-      step_by (cases.push_step moment len refl (has_room n size start v c k few)
-      (subst (λ (s : ℕ). model.IsTooLong s len → ⊥) k.size_is fits.1) fits.2 refl refl)
-
-  pushed_frames : pushed.frames ≡ waits ∷ []
-  pushed_frames =
-      ap (λ (fs : List ModelFrame). waits ∷ fs)
-      (k.frames_are ∙ ap (λ (fs : List Frame). frames_in_phases fs (v.phase ∷ v.below)) none)
-
-  abbrev pushed_stack : Stack
-  pushed_stack = with_frame v.stack (new_frame (Record moment len))
-
-  is_pushed : IsStack start pushed.history pushed_stack
-  is_pushed = pushed_record start c.history v.stack moment len (fits_page v.stack.size len fits.1) fits.2 k.stack_is
-
-  numbered : next_number v.stack ≡ number
-  numbered = number_counts start pushed.history pushed_stack is_pushed
-
-  reserve_is : model.Step n size pushed model.steps (model.reserved_as (next_number v.stack)) with_its_record
-  reserve_is =
-      let room = fits.3 in
-      let tail = record_fits start pushed.history pushed_stack is_pushed moment len (λ past. omega arith) in
-      step_by (cases.frame_step waits [] refl pushed_frames
-      (cases.reserves moment len (model.new_reservation pushed moment len) refl refl
-      (subst (λ (s : ℕ). FitsBehind s (tail_of pushed.history) (model.new_reservation pushed moment len)) k.size_is
-      tail) (ap model.reserved_as numbered) refl))
-
-  same_slot : slot_len (length (padded payload)) ≡ slot_len len
-  same_slot = ap slot_len (length-padded payload) ∙ slot_len-slot_len len
-
-  end_is : model.Step n size with_its_record (model.ends (padded payload)) model.full after
-  end_is =
-      step_by
-      (cases.end_step (padded payload) (holds number) [] number moment len refl refl refl refl same_slot refl refl)
-
-  -- ---- the frames after them
-
-  reserved_alone : (writer_after (pushed.history ++ reserve ∷ [])).stack ≡ record_frame moment len (Some number) ∷ []
-  reserved_alone =
-      reserved_stack pushed.history moment len []
-      (is_pushed.stack_is
-      ∙ ap (λ (fs : List Frame). pushed_of (model_frames (new_frame (Record moment len) ∷ fs))) none)
-
-  kept : HasEvents v.stack (push moment len ∷ reserve ∷ leave (Some payload) ∷ []) stack
-      → IsStack start after.history stack
-  kept has_events =
-      let turns =
-      append_assoc pushed.history (reserve ∷ []) (leave (Some payload) ∷ [])
-      ∙ append_assoc c.history (push moment len ∷ []) (reserve ∷ leave (Some payload) ∷ []) in
-      left_alike start (pushed.history ++ reserve ∷ []) stack moment len number [] (padded payload) payload
-      (padded_twice payload) reserved_alone same_slot
-      (subst (λ (h : List HistoryEvent). IsStack start h stack) (sym turns) (has_events start c.history k.stack_is))
+  after = tail.after n size start v c k moment payload few own [] bare
 
   abbrev has_left : Frame
   has_left = record { purpose = Record moment len; progress = Left None }
@@ -142,7 +71,7 @@ module _ (n size start : ℕ) (v : FramesValue) (c : Core) (k : AreFrames n size
         size_is = ap (λ (s : Stack). s.size) is;
         done_is = ap (λ (s : Stack). s.done) is;
         opened_is = ap opened is;
-        stack_is = kept has_events;
+        stack_is = tail.kept n size start v c k moment payload few own [] bare stack has_events;
         frames_are =
             (λ i. let f : ModelFrame =
             record { kind = for_record moment len; state = left; phase = sym (closing_is stack c done begun) i } in
@@ -159,14 +88,16 @@ module _ (n size start : ℕ) (v : FramesValue) (c : Core) (k : AreFrames n size
     pushed = pushed;
     reserved = with_its_record;
     after = after;
-    push = push_is;
+    push = tail.push_is n size start v c k moment payload few own [] bare;
     push_private = tt;
-    waits = pushed_frames;
+    waits = tail.pushed_frames n size start v c k moment payload few own [] bare;
     next = number_counts start c.history v.stack k.stack_is;
-    reserve = reserve_is;
-    reserve_private = top_is_private pushed waits [] pushed_frames tt;
-    has_slot = ap (λ (k : ℕ). holds k ∷ []) (sym numbered);
-    end = end_is;
+    reserve = tail.reserve_is n size start v c k moment payload few own [] bare;
+    reserve_private =
+        top_is_private pushed (tail.waits n size start v c k moment payload few own [] bare) []
+        (tail.pushed_frames n size start v c k moment payload few own [] bare) tt;
+    has_slot = tail.has_slot n size start v c k moment payload few own [] bare;
+    end = tail.end_is n size start v c k moment payload few own [] bare;
     end_private = tt;
     are = shown has_events;
   }

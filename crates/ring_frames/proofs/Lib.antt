@@ -24,7 +24,9 @@ pub mod Beginning
 pub mod Releasing
 pub mod Wishing
 pub mod NewFrames
+pub mod InTail
 pub mod AtOnce
+pub mod Above
 pub mod Staying
 pub mod Lent
 pub mod Others

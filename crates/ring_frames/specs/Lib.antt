@@ -8,6 +8,7 @@ pub mod Phases
 pub mod ReaderPhases
 pub mod Steps
 pub mod AtOnce
+pub mod Above
 pub mod Fills
 pub mod Lending
 pub mod FirstPages

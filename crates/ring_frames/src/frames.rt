@@ -49,6 +49,7 @@ impl Frames {
     ghost use Rattle.nested_writer.specs.IsStack.{IsStack};
     ghost use Rattle.nested_writer.specs.Unclosed.{AreUnclosed};
     ghost use Rattle.ring_frames.specs.declared.phase.Role.TheVariants.{Helper};
+    ghost use Rattle.ring_frames.specs.declared.phase.Phase.TheVariants.{Idle, Wishing};
     ghost use Rattle.ring_frames.specs.Value.{role_of};
     ghost use Rattle.ring_frames.specs.Steps.{AreNew, AreSomeFrames};
 
@@ -167,5 +168,22 @@ impl Frames {
         ensures { result ≡ self.now.phase }
     {
         self.phase.get()
+    }
+
+    /// Whether the frame on top has noted nothing and is to reserve its record; or has reserved it. If there is none it
+    /// says nothing.
+    #[inline(always)]
+    pub fn is_idle(&self) -> bool
+        ensures { IsTrue result ↔ self.now.phase ≡ Idle }
+    {
+        self.phase.is_idle()
+    }
+
+    /// Whether the frame on top is to look for the reader's wish. If there is none it says nothing.
+    #[inline(always)]
+    pub fn is_wishing(&self) -> bool
+        ensures { IsTrue result ↔ self.now.phase ≡ Wishing }
+    {
+        self.phase.is_wishing()
     }
 }

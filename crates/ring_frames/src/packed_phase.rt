@@ -45,7 +45,7 @@ impl Model for PackedPhase {
 }
 
 impl PackedPhase {
-    ghost use Rattle.std.specs.Prelude.{◌≡◌};
+    ghost use Rattle.std.specs.Prelude.{◌≡◌, ◌↔◌, IsTrue};
     ghost use Rattle.ring_frames.specs.declared.phase.Phase.TheVariants.{Idle, Releasing, Wishing};
 
     /// The phase `Idle`.
@@ -88,6 +88,22 @@ impl PackedPhase {
             Tag::Releasing => Phase::Releasing,
             Tag::Wishing => Phase::Wishing,
         }
+    }
+
+    /// Whether the phase is `Idle`: one test, where `get` moves all fields.
+    #[inline(always)]
+    pub(crate) fn is_idle(&self) -> bool
+        ensures { IsTrue result ↔ self.now ≡ Idle }
+    {
+        matches!(self.tag, Tag::Idle)
+    }
+
+    /// Whether the phase is `Wishing`.
+    #[inline(always)]
+    pub(crate) fn is_wishing(&self) -> bool
+        ensures { IsTrue result ↔ self.now ≡ Wishing }
+    {
+        matches!(self.tag, Tag::Wishing)
     }
 
     /// The phase becomes `Idle`.

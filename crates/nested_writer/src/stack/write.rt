@@ -15,21 +15,48 @@ pub enum Wrote {
 
 impl WriterStack {
     ghost use Rattle.std.specs.Prelude.{◌≡◌, ◌≢◌, ◌↔◌, ℕ, max, [], ◌∷◌, ◌++◌, List, Some, length, IsTrue, true, false};
+    ghost use Rattle.std.specs.Prelude.{IsSome, IfSome};
     ghost use Rattle.page_image.specs.Contents.{is_blank, records_of_page};
     ghost use Rattle.trace_model.specs.History.{HistoryEvent, push, reserve, leave, wished};
     ghost use Rattle.trace_model.specs.Packing.{tail_of};
     ghost use Rattle.trace_model.specs.Words.{padded};
     ghost use Rattle.nested_writer.specs.Allotted.{HasEvents};
     ghost use Rattle.nested_writer.specs.AtOnce.{MayStand, FitsAtOnce, with_written, with_left, with_record};
-    ghost use Rattle.nested_writer.specs.AtOnce.{IsShortAlone};
+    ghost use Rattle.nested_writer.specs.AtOnce.{FitsInTail, IsShortAlone};
     ghost use Rattle.nested_writer.specs.Promises.{WritesWhatFits, StandsAgain};
     ghost use Rattle.nested_writer.specs.Stack.{opened};
     ghost use Rattle.nested_writer.specs.Calls.{HasRecordRoom, with_bottom, IsAtBottom, MayAddPage};
     ghost use Rattle.nested_writer.specs.Kept.{SamePages};
     ghost use Rattle.nested_writer.specs.IsStack.{IsStack, IsReachedStack};
 
-    /// Writes a record that fits in the tail, and commits it. `raised` is the later of its moment and of the last one.
-    /// If `holds_record` is true, the tail holds a record; if it is false, the tail holds one or none.
+    /// Writes a record that fits in the tail, above whatever frames there are, and doesn't commit it. `raised` is the
+    /// later of its moment and of the last one. If `holds_record` is true, the tail holds a record; if it is false, the
+    /// tail holds one or none.
+    #[inline(always)]
+    pub(crate) fn put_raised(
+        &mut self,
+        holds_record: bool,
+        moment: u64,
+        raised: u64,
+        payload: &[u8],
+    )
+        requires stack { IsReachedStack self.old }
+        requires behind { holds_record ≡ true → is_blank self.old.tail.bytes ≡ false }
+        requires fits { FitsInTail self.old moment (length payload.now) }
+        requires raised { raised ≡ max moment self.old.last_moment }
+        ensures written { self.new ≡ with_written self.old moment payload.now }
+        ensures records { records_of_page self.new.tail
+            ≡ records_of_page self.old.tail ++ record { moment = raised; bytes = padded payload.now } ∷ [] }
+        ensures stack { HasEvents self.old (push moment (length payload.now) ∷ reserve ∷ leave (Some payload.now) ∷ [])
+            self.new }
+        ensures stays { IsReachedStack self.new }
+    {
+        let prev = self.last_moment;
+        self.last_moment = raised;
+        self.tail.put_payload(holds_record, prev, raised, payload);
+    }
+
+    /// `put_raised`, on the empty stack: the record is committed.
     #[inline(always)]
     fn write_raised(&mut self, holds_record: bool, moment: u64, raised: u64, payload: &[u8])
         requires stack { IsReachedStack self.old }
@@ -43,10 +70,27 @@ impl WriterStack {
             self.new }
         ensures stays { IsReachedStack self.new }
     {
-        let prev = self.last_moment;
-        self.last_moment = raised;
-        self.tail.put_payload(holds_record, prev, raised, payload);
+        self.put_raised(holds_record, moment, raised, payload);
         self.tail.store_commit();
+    }
+
+    /// If a record of this moment and of a payload of `len` bytes may be written and has room in the tail: its moment,
+    /// raised to the last record's.
+    #[inline(always)]
+    pub(crate) fn raised_in_tail(&self, moment: u64, len: usize) -> Option<u64>
+        requires stack { IsReachedStack self.now }
+        ensures fits { IsSome result ↔ FitsInTail self.now moment len }
+        ensures raised { IfSome result (λ raised. raised ≡ max moment self.now.last_moment) }
+    {
+        if len > self.size || size_of(len, 0, true) > self.size || moment >= MOMENT_LIMIT {
+            return None;
+        }
+        let raised = moment.max(self.last_moment);
+        let end = self.tail.end();
+        if self.size < end + size_of(len, raised - self.last_moment, end == 0) {
+            return None;
+        }
+        Some(raised)
     }
 
     /// `write_alone`, for a record that may have room in the tail.
@@ -57,19 +101,12 @@ impl WriterStack {
         ensures written { result ≡ Wrote.Record → self.new ≡ with_written self.old moment payload.now }
         ensures frames { self.new.frames ≡ self.old.frames }
     {
-        let len = payload.len();
-        if !self.is_empty()
-            || len > self.size
-            || size_of(len, 0, true) > self.size
-            || moment >= MOMENT_LIMIT
-        {
+        if !self.is_empty() {
             return Wrote::Nothing;
         }
-        let raised = moment.max(self.last_moment);
-        let end = self.tail.end();
-        if self.size < end + size_of(len, raised - self.last_moment, end == 0) {
+        let Some(raised) = self.raised_in_tail(moment, payload.len()) else {
             return Wrote::Nothing;
-        }
+        };
         self.write_raised(false, moment, raised, payload);
         Wrote::Record
     }

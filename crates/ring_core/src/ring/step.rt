@@ -6,7 +6,8 @@ use ring_frames::Phase;
 
 impl Core {
     ghost use Rattle.trace_model.specs.Steps as model;
-    ghost use Rattle.std.specs.Prelude.{◌≡◌};
+    ghost use Rattle.std.specs.Prelude.{◌≡◌, ◌≢◌, []};
+    ghost use Rattle.ring_frames.specs.declared.phase.Phase.TheVariants.{Idle, Wishing};
     ghost use Rattle.ring_frames.specs.Answers.{KeepsPayloads, ZerosSlot};
     ghost use Rattle.ring_core.specs.Answers.{HasWholePage};
     ghost use Rattle.ring_core.specs.Steps.{MakesStep, MakesEvent, IsReachedCore, HasItsSize};
@@ -42,7 +43,8 @@ impl Core {
         }
     }
 
-    /// One step of the frame on top, in its phase.
+    /// One step of the frame on top. Most are of a frame that reserves its record, or looks for the reader's wish, so
+    /// these phases are tested first.
     #[inline(always)]
     fn step_top(&mut self) -> Answer
         requires ring { IsReachedCore self.old }
@@ -50,11 +52,30 @@ impl Core {
         ensures payloads { KeepsPayloads self.old.stack self.new.stack }
         ensures zeros { ZerosSlot self.old.stack result self.new.stack }
     {
-        if self.frames.top().is_none() {
+        if self.frames.is_empty() {
             return Answer::Refused(WriteFault::NoFrame);
         }
+        if self.frames.is_idle() {
+            return self.reserve();
+        }
+        if self.frames.is_wishing() {
+            return self.load_wish().answer();
+        }
+        self.step_in_phase()
+    }
+
+    /// One step of the frame on top, which moves the head, begins a fill or closes one.
+    #[inline(never)]
+    fn step_in_phase(&mut self) -> Answer
+        requires ring { IsReachedCore self.old }
+        requires top { self.old.stack.frames ≢ [] }
+        requires reserved { self.old.phase ≢ Idle }
+        requires closed { self.old.phase ≢ Wishing }
+        ensures makes { MakesStep self.old model.steps result self.new }
+        ensures payloads { KeepsPayloads self.old.stack self.new.stack }
+        ensures zeros { ZerosSlot self.old.stack result self.new.stack }
+    {
         match self.frames.phase() {
-            Phase::Idle => self.reserve(),
             Phase::Looking { noted } => self.load_link(noted).answer(),
             Phase::Claiming { noted, page } => self.claim_head(noted, page).answer(),
             Phase::LookingNext { role, noted, page } => self.load_next(role, noted, page).answer(),
@@ -67,7 +88,7 @@ impl Core {
             Phase::Clearing { noted, page } => self.clear_update(noted, page).answer(),
             Phase::Opening { noted, page } => self.open_fill(noted, page).answer(),
             Phase::Releasing => self.release_fill().answer(),
-            Phase::Wishing => self.load_wish().answer(),
+            Phase::Idle | Phase::Wishing => unreachable!(),
         }
     }
 }

@@ -6,7 +6,10 @@ use ring_frames::WriteKind;
 impl Core {
     ghost use Rattle.std.specs.Prelude.{◌≡◌, ◌↔◌, length};
     ghost use Rattle.ring_frames.specs.declared.frames.write.WriteKind.TheVariants.{Any};
+    ghost use Rattle.nested_writer.specs.AtOnce.{FitsAbove};
+    ghost use Rattle.ring_frames.specs.Answers.{KeepsPayloads};
     ghost use Rattle.ring_core.specs.AtOnce.{MayWriteAlone, WritesAlone};
+    ghost use Rattle.ring_core.specs.Above.{WritesAbove};
     ghost use Rattle.ring_core.specs.Steps.{IsReachedCore};
 
     /// Writes a record of this moment and payload in one call, as its frame's four steps would, if no frame is on the
@@ -26,6 +29,21 @@ impl Core {
             Wrote::Record => Wrote::Record,
             Wrote::Nothing => self.write_rarely(moment, payload),
         }
+    }
+
+    /// Writes a record of this moment and payload in one call, as its frame's three steps would, if a frame is on the
+    /// stack, a push would not be refused, and the record fits in the tail. The frames are those of before, and what
+    /// they reserved is as it was. In all other cases it answers `Nothing`, and nothing changes. A frame above others
+    /// doesn't look for the reader's wish, so nor does this.
+    #[inline(always)]
+    pub fn write_above(&mut self, moment: u64, payload: &[u8]) -> Wrote
+        requires ring { IsReachedCore self.old }
+        ensures may { result ≡ Wrote.Record ↔ FitsAbove self.old.stack moment (length payload.now) }
+        ensures wrote { result ≡ Wrote.Record → WritesAbove self.old moment payload.now self.new }
+        ensures nothing { result ≡ Wrote.Nothing → self.new ≡ self.old }
+        ensures payloads { KeepsPayloads self.old.stack self.new.stack }
+    {
+        self.frames.write_above(moment, payload)
     }
 
     /// `write`, for a record that isn't short. It is called rarely, so it isn't in line.

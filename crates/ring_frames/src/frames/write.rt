@@ -14,7 +14,7 @@ pub enum WriteKind {
 
 impl Frames {
     ghost use Rattle.std.specs.Prelude.{◌≡◌, ◌≤◌, ◌↔◌, ℕ, [], length, false};
-    ghost use Rattle.nested_writer.specs.AtOnce.{FitsAtOnce, IsShortAlone};
+    ghost use Rattle.nested_writer.specs.AtOnce.{FitsAtOnce, FitsAbove, IsShortAlone};
     ghost use Rattle.nested_writer.specs.Calls.{HasRecordRoom};
     ghost use Rattle.ring_frames.specs.declared.frames.write.WriteKind.TheVariants.{Any, Short};
     ghost use Rattle.ring_frames.specs.declared.phase.Phase.TheVariants.{Wishing};
@@ -23,6 +23,7 @@ impl Frames {
     ghost use Rattle.ring_frames.specs.Phases.{closing_phase, as_answer};
     ghost use Rattle.ring_frames.specs.Steps.{IsFrames};
     ghost use Rattle.ring_frames.specs.Fills.{LooksForWish};
+    ghost use Rattle.ring_frames.specs.Above.{with_record_above, WritesAboveAtOnce};
     ghost use Rattle.ring_frames.specs.AtOnce.{with_left_frame, WritesAtOnce, IsWrittenAlone};
 
     /// Writes a record of this moment and payload in one call, if no frame is on the stack, the record fits in the
@@ -50,6 +51,21 @@ impl Frames {
             WriteKind::Any => self.stack.write_any(moment, payload),
             WriteKind::Short => self.stack.write_if_short(moment, payload),
         }
+    }
+
+    /// Writes a record of this moment and payload in one call, if a frame is on the stack, `push` would not refuse one
+    /// more, and the record fits in the tail: what `push`, `reserve`, the payload's copy into what `top_mut` lends, and
+    /// `end` do. The frames are those of before, each in its phase. In all other cases nothing changes.
+    #[inline(always)]
+    pub fn write_above(&mut self, moment: u64, payload: &[u8]) -> Wrote
+        requires frames { IsFrames self.old }
+        ensures fits { result ≡ Wrote.Record ↔ FitsAbove self.old.stack moment (length payload.now) }
+        ensures wrote { result ≡ Wrote.Record → WritesAboveAtOnce self.old moment payload.now self.new }
+        ensures above { result ≡ Wrote.Record → self.new ≡ with_record_above self.old moment payload.now }
+        ensures nothing { result ≡ Wrote.Nothing → self.new ≡ self.old }
+        ensures payloads { KeepsPayloads self.old.stack self.new.stack }
+    {
+        self.stack.write_above(moment, payload)
     }
 
     /// Whether the reader's wish may be for the tail, if no other fill is open. If it isn't, a frame that has left and
