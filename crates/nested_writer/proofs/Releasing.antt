@@ -22,7 +22,7 @@ use Rattle.page_image.specs.Contents.{Contents, records_of_page}
 use Rattle.nested_writer.specs.declared.frame.Frame.{Frame}
 use Rattle.nested_writer.specs.Stack.{Stack, tail_fill, kind_of, state_of, model_frames}
 use Rattle.nested_writer.specs.declared.stack.WriterStack.TheInside.{Inside}
-use Rattle.nested_writer.specs.Inside.{stack_of, frames_from}
+use Rattle.nested_writer.specs.Inside.{stack_of, frames_from, top_frame}
 use Rattle.nested_writer.specs.Calls.{IsAtBottom}
 use Rattle.nested_writer.specs.IsStack.{IsPageOf, IsStack}
 use Rattle.nested_writer.specs.Released.{IsWrittenPage, AreCommitted}
@@ -182,10 +182,11 @@ no_top None below e = refl
 no_top (Some f) below e = cc
 
 -- it is the only open page
-pub only_tail : (w : Inside) (s : Stack) → stack_of w ≡ s → (w.top ≡ None → w.older.pages ≡ []) → s.frames ≡ []
+pub only_tail : (w : Inside) (s : Stack) → stack_of w ≡ s → (top_frame w ≡ None → w.older.pages ≡ []) → s.frames ≡ []
     → s.older ≡ []
 only_tail w s is rest none =
-    ap (λ (x : Stack). x.older) (sym is) ∙ rest (no_top w.top w.below.items (ap (λ (x : Stack). x.frames) is ∙ none))
+    ap (λ (x : Stack). x.older) (sym is)
+    ∙ rest (no_top (top_frame w) w.below.items (ap (λ (x : Stack). x.frames) is ∙ none))
 
 pub all_left : (start : ℕ) (h : List HistoryEvent) (s : Stack) → s.frames ≡ [] → IsStack start h s
     → (writer_after h).stack ≡ []

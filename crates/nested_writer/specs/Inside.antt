@@ -7,11 +7,16 @@ use Rattle.record_words.specs.declared.format.TheConstants.{SHORT_LIMIT}
 use Rattle.nested_writer.specs.declared.frame.Frame.{Frame}
 use Rattle.nested_writer.specs.declared.stack.WriterStack.TheInside.{Inside}
 use Rattle.nested_writer.specs.Stack.{Stack}
+use Rattle.nested_writer.specs.TopFrame.{frame_in}
 
 -- the frames, the top first
 abbrev pub frames_from : Option Frame → List Frame → List Frame
 frames_from None below = below
 frames_from (Some top) below = top ∷ below
+
+-- the frame on top
+abbrev pub top_frame : Inside → Option Frame
+top_frame w = frame_in w.top (w.done + length w.older.pages)
 
 abbrev pub stack_of : Inside → Stack
 stack_of w = record {
@@ -20,7 +25,7 @@ stack_of w = record {
   done = w.done;
   older = w.older.pages;
   tail = w.tail.page;
-  frames = frames_from w.top w.below.items;
+  frames = frames_from (top_frame w) w.below.items;
   last_moment = w.last_moment;
 }
 
@@ -35,9 +40,9 @@ pub record IsWriterStack (w : Inside) : Type 0 where
   pub room : w.pages ≡ w.older.room
   pub open_pages : length w.older.pages < w.pages
   pub frames_room : MAX_FRAMES ≡ deque_capacity w.below
-  pub frames : length (frames_from w.top w.below.items) ≤ MAX_FRAMES
-  pub top_first : w.top ≡ None → w.below.items ≡ []
-  pub at_rest : w.top ≡ None → w.older.pages ≡ []
+  pub frames : length (frames_from (top_frame w) w.below.items) ≤ MAX_FRAMES
+  pub top_first : top_frame w ≡ None → w.below.items ≡ []
+  pub at_rest : top_frame w ≡ None → w.older.pages ≡ []
   pub fills : w.done + length w.older.pages + 1 + w.pages ≤ LINK_FILLS
   pub plain_short : w.plain_len ≤ SHORT_LIMIT
   pub plain_room : w.plain_len + 12 ≤ w.size

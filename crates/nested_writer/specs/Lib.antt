@@ -9,6 +9,7 @@ pub mod Allotted
 pub mod Answered
 pub mod Ends
 pub mod Lending
+pub mod TopFrame
 pub mod OnTop
 pub mod AtOnce
 pub mod PlainTop

@@ -51,8 +51,9 @@ impl WriterStack {
             → self.new ≡ record self.old { frames = next ∷ below } }
         ensures kept { SamePages self.old self.new }
     {
+        let fill = self.tail_fill();
         if let Some(next) = self.below.pop_front() {
-            self.top.put_back(next);
+            self.top.put_back(next, fill);
         }
     }
 
@@ -240,7 +241,7 @@ impl WriterStack {
         requires stack { IsReachedStack self.old }
         ensures { Allots self.old result self.new }
     {
-        let Some(top) = self.top.get() else {
+        let Some(top) = self.top.get(self.tail_fill()) else {
             return Err(WriteFault::NoFrame);
         };
         let noted = match top.progress {

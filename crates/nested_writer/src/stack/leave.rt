@@ -30,7 +30,7 @@ impl WriterStack {
         requires stack { IsReachedStack self.old }
         ensures { EndsTop self.old result self.new }
     {
-        let Some(top) = self.top.get() else {
+        let Some(top) = self.top.get(self.tail_fill()) else {
             return Err(WriteFault::NoFrame);
         };
         match top.progress {
@@ -83,7 +83,7 @@ impl WriterStack {
             return false;
         }
         let opened = self.opened();
-        if let Some(bottom) = self.top.get() {
+        if let Some(bottom) = self.top.get(self.tail_fill()) {
             self.top.put(Frame {
                 progress: Progress::Left(Some(opened)),
                 ..bottom

@@ -40,7 +40,7 @@ impl WriterStack {
         ensures found { (slot : Slot) → IsTopSlot self.now.frames slot → result ≡ Ok slot }
         ensures held { (place : Place) → top_place self.now.frames ≡ Some place → IsOk result }
     {
-        match self.top.slot() {
+        match self.top.slot(self.tail_fill()) {
             Some(slot) => Ok(slot),
             None => Err(self.lends_none()),
         }
@@ -81,6 +81,10 @@ impl WriterStack {
             → length part ≡ length (lent_bytes payload.now)
             → IsReachedStack (with_top self.old (with_bytes payload.now part))) }
     {
+        if let Some(place) = self.top.place_in_tail() {
+            self.tail.lend(place);
+            return Ok(&mut self.tail);
+        }
         let slot = self.top_slot()?;
         if slot.fill == self.tail.fill_number().0 {
             self.tail.lend(slot.place);

@@ -7,7 +7,7 @@ impl WriterStack {
     ghost use Rattle.trace_model.specs.History.{HistoryEvent};
     ghost use Rattle.trace_model.specs.declared.limits.TheConstants.{MIN_PAGES, MAX_PAGES, MIN_SIZE, MAX_SIZE};
     ghost use Rattle.trace_model.specs.declared.limits.TheConstants.{MAX_FRAMES, LINK_FILLS};
-    ghost use Rattle.nested_writer.specs.Stack.{opened};
+    ghost use Rattle.nested_writer.specs.Stack.{tail_fill, opened};
     ghost use Rattle.nested_writer.specs.Calls.{top_of, tops_close, IsAtBottom, MayAddPage};
     ghost use Rattle.nested_writer.specs.Unclosed.{AreUnclosed};
     ghost use Rattle.nested_writer.specs.IsStack.{IsStack, IsReachedStack};
@@ -50,6 +50,14 @@ impl WriterStack {
         self.done + self.older.len() as u64 + 1
     }
 
+    /// The number of the tail's fill.
+    #[inline(always)]
+    pub(crate) fn tail_fill(&self) -> u64
+        ensures { result ≡ tail_fill self.now }
+    {
+        self.done + self.older.len() as u64
+    }
+
     /// How many records are reserved and in no closed fill.
     pub fn unclosed(&self) -> u64
         requires stack { IsReachedStack self.now }
@@ -88,7 +96,7 @@ impl WriterStack {
     pub fn top(&self) -> Option<Frame>
         ensures { result ≡ top_of self.now.frames }
     {
-        self.top.get()
+        self.top.get(self.tail_fill())
     }
 
     /// Whether the frame on top is a close.
@@ -104,7 +112,7 @@ impl WriterStack {
     pub fn is_at_bottom(&self) -> bool
         ensures { IsTrue result ↔ IsAtBottom self.now.frames }
     {
-        match self.top.get() {
+        match self.top.get(self.tail_fill()) {
             Some(top) => self.below.is_empty() && matches!(top.progress, Progress::Left(_)),
             None => false,
         }
@@ -116,7 +124,7 @@ impl WriterStack {
     pub fn awaits_page(&self) -> bool
         ensures { IsTrue result ↔ MayAddPage self.now self.now.frames }
     {
-        let Some(top) = self.top.get() else {
+        let Some(top) = self.top.get(self.tail_fill()) else {
             return false;
         };
         match top.progress {

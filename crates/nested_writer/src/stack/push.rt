@@ -1,6 +1,7 @@
 //! Frames that are pushed.
 ghost use Rattle.std.specs.Prelude.{◌≡◌, ◌<◌, length};
 ghost use Rattle.std.specs.VecDeque.{deque_capacity};
+ghost use Rattle.nested_writer.specs.TopFrame.{frame_in};
 ghost use Rattle.nested_writer.specs.Inside.{frames_from};
 
 use crate::fault::WriteFault;
@@ -11,14 +12,14 @@ use record_words::size_of;
 use std::collections::VecDeque;
 use trace_model::{MAX_FRAMES, MOMENT_LIMIT};
 
-/// Puts the frame on top, if there is one, before those below it.
+/// Puts the frame on top, if there is one, before those below it; the tail is this fill.
 #[inline(never)]
-fn cover(top: &Top, below: &mut VecDeque<Frame>)
+fn cover(top: &Top, fill: u64, below: &mut VecDeque<Frame>)
     requires { length below.old.items < deque_capacity below.old }
-    ensures items { below.new.items ≡ frames_from top.now below.old.items }
+    ensures items { below.new.items ≡ frames_from (frame_in top.now fill) below.old.items }
     ensures room { deque_capacity below.new ≡ deque_capacity below.old }
 {
-    if let Some(frame) = top.get() {
+    if let Some(frame) = top.get(fill) {
         below.push_front_reserved(frame);
     }
 }
@@ -43,8 +44,9 @@ impl WriterStack {
         requires { length self.old.frames < MAX_FRAMES }
         ensures { self.new ≡ with_frame self.old (record { purpose = purpose; progress = Waiting None }) }
     {
+        let fill = self.tail_fill();
         if !self.top.is_none() {
-            cover(&self.top, &mut self.below);
+            cover(&self.top, fill, &mut self.below);
         }
         self.top.put(Frame {
             purpose,
@@ -104,7 +106,8 @@ impl WriterStack {
         if moment >= MOMENT_LIMIT {
             return self.begin_any(moment, len);
         }
-        cover(&self.top, &mut self.below);
+        let fill = self.tail_fill();
+        cover(&self.top, fill, &mut self.below);
         self.top.wait(moment, len);
         Ok(())
     }

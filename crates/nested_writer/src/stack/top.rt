@@ -1,9 +1,10 @@
 //! The frame on top, kept so that the calls of a record move few words and test one.
-ghost use Rattle.std.specs.Prelude.{◌≡◌, ◌≤◌, ℕ, Option, Some, None, IfSome, IsTrue, ◌↔◌, ◌⊎◌, option_to_list};
+ghost use Rattle.std.specs.Prelude.{◌≡◌, ◌≤◌, ℕ, Some, None, IfSome, IsTrue, ◌↔◌, ◌⊎◌, option_to_list};
 ghost use Rattle.record_words.specs.declared.format.TheConstants.{SHORT_LIMIT};
+ghost use Rattle.record_words.specs.declared.put.Place.{Place};
 ghost use Rattle.nested_writer.specs.Calls.{tops_close, IsTopSlot, LacksSlot};
+ghost use Rattle.nested_writer.specs.TopFrame.{whole, in_tail, frame_in};
 ghost use Rattle.nested_writer.specs.declared.frame.Frame.{Frame};
-ghost use Rattle.nested_writer.specs.declared.frame.Slot.{Slot};
 ghost use Rattle.nested_writer.specs.declared.frame.Purpose.TheVariants.{Record};
 ghost use Rattle.nested_writer.specs.declared.frame.Progress.TheVariants.{Waiting, Reserved, Left};
 
@@ -20,8 +21,10 @@ enum Tag {
     Waits,
     /// Any other record frame whose record isn't reserved yet: what it was pushed with, and what it noted.
     Tries,
-    /// A record frame whose record is reserved: what it was pushed with, and the slot.
+    /// A record frame whose record is in the tail: what it was pushed with, and the slot but its fill.
     Holds,
+    /// Any other record frame whose record is reserved: what it was pushed with, and the slot.
+    HoldsOlder,
     /// A close frame that has a slot, as no frame of a ring ever has: the slot.
     HoldsClose,
     /// A record frame that left and noted nothing: what it was pushed with.
@@ -30,7 +33,8 @@ enum Tag {
     Other,
 }
 
-/// The frame on top, if there is one.
+/// The frame on top, if there is one. Of a record in the tail it keeps all but the fill's number, which a caller who
+/// needs it passes in.
 #[derive(Drop)]
 pub(crate) struct Top {
     tag: Tag,
@@ -38,18 +42,18 @@ pub(crate) struct Top {
     pushed: Pushed,
     /// The number of begun fills that a frame noted which tries.
     noted: Option<u64>,
-    /// The slot of a frame whose record is reserved.
+    /// The slot of a frame whose record is reserved; if that is in the tail, with any fill.
     slot: Slot,
     /// The frame that no other field holds.
     other: Frame,
 }
 
 impl Model for Top {
-    ghost use Rattle.std.specs.Prelude.{Option};
-    ghost use Rattle.nested_writer.specs.declared.frame.Frame.{Frame};
-    ghost use Rattle.nested_writer.specs.OnTop.{frame_on_top, IsKeptForm};
+    ghost use Rattle.nested_writer.specs.TopFrame.{TopFrame};
 
-    ghost Value = { Option Frame };
+    ghost Value = { TopFrame };
+
+    ghost use Rattle.nested_writer.specs.OnTop.{frame_on_top, IsKeptForm};
 
     ghost view = { frame_on_top };
 
@@ -59,7 +63,7 @@ impl Model for Top {
 impl Top {
     /// No frame.
     pub(crate) fn none() -> Top
-        ensures { result ≡ None }
+        ensures { result ≡ whole None }
     {
         Top {
             tag: Tag::Empty,
@@ -80,7 +84,7 @@ impl Top {
     /// Whether the stack is empty.
     #[inline(always)]
     pub(crate) fn is_none(&self) -> bool
-        ensures { IsTrue result ↔ self.now ≡ None }
+        ensures { (fill : ℕ) → IsTrue result ↔ frame_in self.now fill ≡ None }
     {
         matches!(self.tag, Tag::Empty)
     }
@@ -88,7 +92,7 @@ impl Top {
     /// Whether it is a close frame.
     #[inline(always)]
     pub(crate) fn is_close(&self) -> bool
-        ensures { result ≡ tops_close (option_to_list self.now) }
+        ensures { (fill : ℕ) → result ≡ tops_close (option_to_list (frame_in self.now fill)) }
     {
         match self.tag {
             Tag::Other => matches!(self.other.purpose, Purpose::Close),
@@ -97,10 +101,10 @@ impl Top {
         }
     }
 
-    /// The frame.
+    /// The frame, if the tail is this fill.
     #[inline(always)]
-    pub(crate) fn get(&self) -> Option<Frame>
-        ensures { result ≡ self.now }
+    pub(crate) fn get(&self, fill: u64) -> Option<Frame>
+        ensures { result ≡ frame_in self.now fill }
     {
         let purpose = Purpose::Record {
             moment: self.pushed.moment,
@@ -117,6 +121,10 @@ impl Top {
                 progress: Progress::Waiting(self.noted),
             }),
             Tag::Holds => Some(Frame {
+                purpose,
+                progress: Progress::Reserved(Slot { fill, ..self.slot }),
+            }),
+            Tag::HoldsOlder => Some(Frame {
                 purpose,
                 progress: Progress::Reserved(self.slot),
             }),
@@ -137,7 +145,7 @@ impl Top {
     #[inline(always)]
     pub(crate) fn waiting(&self) -> Option<Pushed>
         ensures frame { IfSome result (λ pushed. self.now
-            ≡ Some (record { purpose = Record pushed.moment pushed.len; progress = Waiting None })) }
+            ≡ whole (Some (record { purpose = Record pushed.moment pushed.len; progress = Waiting None }))) }
         ensures some { IfSome result (λ pushed. 1 ≤ pushed.len) }
         ensures short { IfSome result (λ pushed. pushed.len ≤ SHORT_LIMIT) }
     {
@@ -148,23 +156,37 @@ impl Top {
         }
     }
 
-    /// The slot, if a record is reserved.
+    /// The slot, if a record is reserved, and if the tail is this fill.
     #[inline(always)]
-    pub(crate) fn slot(&self) -> Option<Slot>
-        ensures some { IfSome result (λ slot. IsTopSlot (option_to_list self.now) slot) }
-        ensures none { result ≡ None ↔ (self.now ≡ None) ⊎ LacksSlot (option_to_list self.now) }
+    pub(crate) fn slot(&self, fill: u64) -> Option<Slot>
+        ensures some { IfSome result (λ slot. IsTopSlot (option_to_list (frame_in self.now fill)) slot) }
+        ensures none { result ≡ None
+            ↔ (frame_in self.now fill ≡ None) ⊎ LacksSlot (option_to_list (frame_in self.now fill)) }
     {
-        if matches!(self.tag, Tag::Holds | Tag::HoldsClose) {
-            return Some(self.slot);
+        match self.tag {
+            Tag::Holds => Some(Slot { fill, ..self.slot }),
+            Tag::HoldsOlder | Tag::HoldsClose => Some(self.slot),
+            _ => None,
+        }
+    }
+
+    /// The place of the record in the tail; `None` says that it isn't known to be there.
+    #[inline(always)]
+    pub(crate) fn place_in_tail(&self) -> Option<Place>
+        ensures { IfSome result (λ place. (moment : ℕ) × (len : ℕ) × (number : ℕ)
+            × (self.now ≡ in_tail moment len number place)) }
+    {
+        if matches!(self.tag, Tag::Holds) {
+            return Some(self.slot.place);
         }
         None
     }
 
-    /// Whether it is a record frame whose record is reserved; `false` may be answered even then.
+    /// Whether it is a record frame whose record is in the tail; `false` may be answered even then.
     #[inline(always)]
     pub(crate) fn holds_record(&self) -> bool
-        ensures { IsTrue result → (moment : ℕ) × (len : ℕ) × (slot : Slot) × (self.now
-            ≡ Some (record { purpose = Record moment len; progress = Reserved slot })) }
+        ensures { IsTrue result → (moment : ℕ) × (len : ℕ) × (number : ℕ) × (place : Place)
+            × (self.now ≡ in_tail moment len number place) }
     {
         matches!(self.tag, Tag::Holds)
     }
@@ -172,14 +194,14 @@ impl Top {
     /// The stack is empty from now on.
     #[inline(always)]
     pub(crate) fn clear(&mut self)
-        ensures { self.new ≡ None }
+        ensures { self.new ≡ whole None }
     {
         self.tag = Tag::Empty;
     }
 
     /// The frame is this one from now on.
     pub(crate) fn put(&mut self, frame: Frame)
-        ensures { self.new ≡ Some frame }
+        ensures { self.new ≡ whole (Some frame) }
     {
         match (frame.purpose, frame.progress) {
             (Purpose::Record { moment, len }, Progress::Waiting(None))
@@ -189,9 +211,11 @@ impl Top {
                 self.pushed = Pushed { moment, len };
                 self.noted = noted;
             }
-            (Purpose::Record { moment, len }, Progress::Reserved(slot)) => self.hold_any(
-                moment, len, slot,
-            ),
+            (Purpose::Record { moment, len }, Progress::Reserved(slot)) => {
+                self.tag = Tag::HoldsOlder;
+                self.pushed = Pushed { moment, len };
+                self.slot = slot;
+            }
             (Purpose::Close, Progress::Reserved(slot)) => {
                 self.tag = Tag::HoldsClose;
                 self.slot = slot;
@@ -203,15 +227,15 @@ impl Top {
         }
     }
 
-    /// The frame is this one from now on, as in `put`: with fewer tests if its record is reserved.
+    /// The frame is this one from now on, and the tail is this fill: with fewer tests if its record is there.
     #[inline(always)]
-    pub(crate) fn put_back(&mut self, frame: Frame)
-        ensures { self.new ≡ Some frame }
+    pub(crate) fn put_back(&mut self, frame: Frame, fill: u64)
+        ensures { frame_in self.new fill ≡ Some frame }
     {
         match (frame.purpose, frame.progress) {
-            (Purpose::Record { moment, len }, Progress::Reserved(slot)) => self.hold_any(
-                moment, len, slot,
-            ),
+            (Purpose::Record { moment, len }, Progress::Reserved(slot)) if slot.fill == fill => {
+                self.hold_any(moment, len, slot)
+            }
             _ => self.put(frame),
         }
     }
@@ -221,22 +245,24 @@ impl Top {
     pub(crate) fn wait(&mut self, moment: u64, len: usize)
         requires some { 1 ≤ len }
         requires short { len ≤ SHORT_LIMIT }
-        ensures { self.new ≡ Some (record { purpose = Record moment len; progress = Waiting None }) }
+        ensures { self.new ≡ whole (Some (record { purpose = Record moment len; progress = Waiting None })) }
     {
         self.tag = Tag::Waits;
         self.pushed = Pushed { moment, len };
     }
 
-    /// The record frame, which tried nothing yet, has this slot.
+    /// The record frame, which tried nothing yet, has this slot, in the tail.
     #[inline(always)]
     pub(crate) fn hold(&mut self, slot: Slot)
         requires { (moment : ℕ) × (len : ℕ) × (self.old
-            ≡ Some (record { purpose = Record moment len; progress = Waiting None })) }
-        ensures { (frame : Frame) → self.old ≡ Some frame
-            → self.new ≡ Some (record frame { progress = Reserved slot }) }
+            ≡ whole (Some (record { purpose = Record moment len; progress = Waiting None }))) }
+        ensures { (moment len : ℕ)
+            → self.old ≡ whole (Some (record { purpose = Record moment len; progress = Waiting None }))
+            → self.new ≡ in_tail moment len slot.number slot.place }
     {
         self.tag = Tag::Holds;
-        self.slot = slot;
+        self.slot.number = slot.number;
+        self.slot.place = slot.place;
     }
 
     /// What the frame was pushed with, and what it noted, if it is a record frame whose record isn't reserved yet;
@@ -244,7 +270,7 @@ impl Top {
     #[inline(always)]
     pub(crate) fn trying(&self) -> Option<(Pushed, Option<u64>)>
         ensures { IfSome result (λ tries. self.now
-            ≡ Some (record { purpose = Record tries.0.moment tries.0.len; progress = Waiting tries.1 })) }
+            ≡ whole (Some (record { purpose = Record tries.0.moment tries.0.len; progress = Waiting tries.1 }))) }
     {
         match self.tag {
             Tag::Waits => Some((self.pushed, None)),
@@ -256,8 +282,8 @@ impl Top {
     /// The frame noted that `opened` fills were begun.
     #[inline(always)]
     pub(crate) fn note(&mut self, opened: u64)
-        ensures { (frame : Frame) → self.old ≡ Some frame
-            → self.new ≡ Some (record frame { progress = Waiting (Some opened) }) }
+        ensures { (frame : Frame) (fill : ℕ) → frame_in self.old fill ≡ Some frame
+            → self.new ≡ whole (Some (record frame { progress = Waiting (Some opened) })) }
     {
         if matches!(self.tag, Tag::Waits | Tag::Tries) {
             self.tag = Tag::Tries;
@@ -267,20 +293,21 @@ impl Top {
         }
     }
 
-    /// It is a record frame that has this slot.
+    /// It is a record frame that has this slot, in the tail.
     #[inline(always)]
     pub(crate) fn hold_any(&mut self, moment: u64, len: usize, slot: Slot)
-        ensures { self.new ≡ Some (record { purpose = Record moment len; progress = Reserved slot }) }
+        ensures { self.new ≡ in_tail moment len slot.number slot.place }
     {
         self.tag = Tag::Holds;
         self.pushed = Pushed { moment, len };
-        self.slot = slot;
+        self.slot.number = slot.number;
+        self.slot.place = slot.place;
     }
 
     /// It is a record frame that left.
     #[inline(always)]
     pub(crate) fn leave(&mut self, moment: u64, len: usize)
-        ensures { self.new ≡ Some (record { purpose = Record moment len; progress = Left None }) }
+        ensures { self.new ≡ whole (Some (record { purpose = Record moment len; progress = Left None })) }
     {
         self.tag = Tag::Stays;
         self.pushed = Pushed { moment, len };
@@ -288,10 +315,11 @@ impl Top {
 
     /// The frame has this progress from now on.
     pub(crate) fn go_on(&mut self, progress: Progress)
-        ensures { (frame : Frame) → self.old ≡ Some frame
-            → self.new ≡ Some (record frame { progress = progress }) }
+        ensures { (frame : Frame) (fill : ℕ) → frame_in self.old fill ≡ Some frame
+            → self.new ≡ whole (Some (record frame { progress = progress })) }
     {
-        if let Some(frame) = self.get() {
+        // The fill is in no frame's purpose, which is all that stays.
+        if let Some(frame) = self.get(0) {
             self.put(Frame { progress, ..frame });
         }
     }
@@ -299,8 +327,8 @@ impl Top {
     /// The frame left.
     #[inline(always)]
     pub(crate) fn leave_on(&mut self)
-        ensures { (frame : Frame) → self.old ≡ Some frame
-            → self.new ≡ Some (record frame { progress = Left None }) }
+        ensures { (frame : Frame) (fill : ℕ) → frame_in self.old fill ≡ Some frame
+            → self.new ≡ whole (Some (record frame { progress = Left None })) }
     {
         if matches!(self.tag, Tag::Holds) {
             self.tag = Tag::Stays;

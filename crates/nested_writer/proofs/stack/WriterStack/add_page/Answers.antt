@@ -1,13 +1,15 @@
-use Rattle.std.proofs.Common.{◌≡◌, ◌+◌, ℕ, ◌∷◌, [], length, sym, ap, ◌∙◌, subst, arith}
+use Rattle.std.proofs.Common.{◌≡◌, ◌+◌, ℕ, ◌∷◌, ◌++◌, [], length, Option, sym, ap, ◌∙◌, subst, arith}
 use Rattle.trace_model.specs.History.{open_fill}
-use Rattle.nested_writer.specs.Stack.{Stack, opened, next_number, blank_page}
-use Rattle.nested_writer.specs.Inside.{stack_of}
-use Rattle.nested_writer.specs.Calls.{MayAddPage}
+use Rattle.nested_writer.specs.Stack.{Stack, tail_fill, opened, next_number, blank_page}
+use Rattle.nested_writer.specs.declared.frame.Frame.{Frame}
+use Rattle.nested_writer.specs.Inside.{stack_of, frames_from}
+use Rattle.nested_writer.specs.Calls.{with_tail, MayAddPage}
 use Rattle.nested_writer.specs.IsStack.{IsStack, IsReachedStack}
 use Rattle.nested_writer.proofs.Bounds.{stands_fits}
 use Rattle.nested_writer.proofs.Answering.{number_counts}
 use Rattle.nested_writer.proofs.Opening.{page_may_be_added}
 use Rattle.nested_writer.proofs.Staying.{has_events_stays}
+use Rattle.nested_writer.proofs.Tops.{has_no_slot}
 use Rattle.nested_writer.proofs.stack.WriterStack.add_page.Goals as goal
 
 pub overflow_add-first : goal.overflow_add-first
@@ -31,7 +33,12 @@ returns-clause-stack c = λ start history old.
     let blank : c.fresh-page.result ≡ blank_page s.size (next_number s) (opened s) =
     c.fresh-page.ensures.blank ∙ (λ i. blank_page (size i) (first i) (fill i)) in
     let added = page_may_be_added start history s c.fresh-page.result needs blank c.fresh-page.ensures.page k in
-    rw (c.push.ensures, c.replace-tail.ensures.value, c.replace-tail.ensures.after, c.of.ensures) added
+    rw (c.push.ensures, c.replace-tail.ensures.value, c.replace-tail.ensures.after, c.of.ensures)
+    (subst
+    (λ (top : Option Frame).
+    IsStack start (history ++ open_fill ∷ [])
+    (record (with_tail s c.fresh-page.result) { frames = frames_from top c.self.inside.below.items }))
+    (has_no_slot s c.self.inside.top (tail_fill s) _ c.self.inside.below.items needs) added)
 
 pub returns-clause-numbered : goal.returns-clause-numbered
 returns-clause-numbered c = λ start history k. number_counts start history c.args.self.now k

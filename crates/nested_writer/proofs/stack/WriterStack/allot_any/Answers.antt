@@ -1,12 +1,13 @@
-use Rattle.std.proofs.Common.{rules, ◌≡◌, ◌∷◌, Option, Ok, refl, sym, ap, ◌∙◌}
+use Rattle.std.proofs.Common.{rules, ◌≡◌, ◌∷◌, Ok, refl, ap}
 use Rattle.nested_writer.specs.declared.stack.allot.Allot.TheVariants.{Fits}
 use Rattle.nested_writer.specs.declared.frame.Frame.{Frame}
 use Rattle.nested_writer.specs.declared.frame.Purpose.TheVariants.{Record}
 use Rattle.nested_writer.specs.declared.frame.Progress.TheVariants.{Waiting}
-use Rattle.nested_writer.specs.Stack.{Stack}
-use Rattle.nested_writer.specs.Inside.{frames_from}
+use Rattle.nested_writer.specs.Stack.{Stack, tail_fill}
+use Rattle.nested_writer.specs.TopFrame.{TopFrame, frame_in}
 use Rattle.nested_writer.specs.Allotted.{IsAllotted}
 use Rattle.nested_writer.proofs.Answering.{fits_answer}
+use Rattle.nested_writer.proofs.Tops.{on_top}
 use Rattle.nested_writer.proofs.Promises.{allots_place, allots_page}
 use Rattle.nested_writer.proofs.stack.WriterStack.allot_any.Goals as goal
 
@@ -22,8 +23,8 @@ returns c =
     let top : Frame =
     record { purpose = Record c.in-Some.pushed.moment c.in-Some.pushed.len; progress = Waiting c.in-Some.noted } in
     let frames : s.frames ≡ top ∷ c.self.inside.below.items =
-    ap (λ (x : Stack). x.frames) (sym c.self.view_is)
-    ∙ ap (λ (t : Option Frame). frames_from t c.self.inside.below.items) c.in-Some.ensures in
+    on_top c.self.inside s (tail_fill s) top c.self.view_is refl
+    (ap (λ (t : TopFrame). frame_in t (tail_fill s)) c.in-Some.ensures) in
     let after : IsAllotted s s.frames (Ok (Fits place)) c.reserve_any.new.self = search rules in
     allots_place s c.reserve_any.new.self place (search rules) (search rules) (search rules) after
     (λ start history k.

@@ -1,15 +1,14 @@
 use Rattle.std.proofs.Common.{rules, ◌≡◌, ◌∷◌, ℕ, Option, Ok, refl, sym, ap, ◌∙◌}
 use Rattle.std.specs.Prelude.{unwrap_or}
 use Rattle.nested_writer.specs.declared.stack.allot.Allot.TheVariants.{Fits}
-use Rattle.nested_writer.specs.declared.frame.Frame.{Frame}
 use Rattle.nested_writer.specs.declared.frame.Progress.TheVariants.{Through}
 use Rattle.nested_writer.specs.Stack.{Stack, opened}
-use Rattle.nested_writer.specs.Inside.{frames_from}
 use Rattle.nested_writer.specs.Calls.{with_progress}
 use Rattle.nested_writer.specs.Allotted.{IsAllotted}
 use Rattle.nested_writer.specs.IsStack.{IsReachedStack}
 use Rattle.nested_writer.proofs.Allotting.{waited_through, stayed_through}
 use Rattle.nested_writer.proofs.Answering.{fits_answer, close_answer, through_closes}
+use Rattle.nested_writer.proofs.Tops.{on_top}
 use Rattle.nested_writer.proofs.Promises.{allots_place, allots_page}
 use Rattle.nested_writer.proofs.stack.WriterStack.allot_other.Goals as goal
 use Rattle.nested_writer.proofs.stack.WriterStack.allot_other.Goals.{in-Waiting, in-Through}
@@ -29,8 +28,8 @@ returns-in-Record c =
     (λ start history k.
     let s : Stack = c.args.self.now in
     let frames : s.frames ≡ c.in-Some.top ∷ c.self.inside.below.items =
-    ap (λ (x : Stack). x.frames) (sym c.self.view_is)
-    ∙ ap (λ (t : Option Frame). frames_from t c.self.inside.below.items) (sym c.get.ensures ∙ c.in-Some.is) in
+    on_top c.self.inside s c.tail_fill.result c.in-Some.top c.self.view_is c.tail_fill.ensures
+    (sym c.get.ensures ∙ c.in-Some.is) in
     elim c.match-top.branch [
       | in-Waiting w ↦ fits_answer start history s k c.in-Some.top c.self.inside.below.items frames w.in-Waiting.noted
           c.reserve_any.result w.in-Waiting.is (search rules)
@@ -46,8 +45,8 @@ returns-in-Close c =
     c.go_on.new.self =
     let s : Stack = c.args.self.now in
     let frames : s.frames ≡ c.in-Some.top ∷ c.self.inside.below.items =
-    ap (λ (x : Stack). x.frames) (sym c.self.view_is)
-    ∙ ap (λ (t : Option Frame). frames_from t c.self.inside.below.items) (sym c.get.ensures ∙ c.in-Some.is) in
+    on_top c.self.inside s c.tail_fill.result c.in-Some.top c.self.view_is c.tail_fill.ensures
+    (sym c.get.ensures ∙ c.in-Some.is) in
     let after = c.go_on.ensures c.in-Some.top c.self.inside.below.items frames in
     let tried : c.unwrap_or-noted.result ≡ unwrap_or c.match-top.noted (opened s) =
     c.unwrap_or-noted.ensures ∙ ap (unwrap_or c.match-top.noted) c.opened.ensures.begun in
@@ -66,8 +65,8 @@ returns-in-Close c =
     (λ start history k.
     let s : Stack = c.args.self.now in
     let frames : s.frames ≡ c.in-Some.top ∷ c.self.inside.below.items =
-    ap (λ (x : Stack). x.frames) (sym c.self.view_is)
-    ∙ ap (λ (t : Option Frame). frames_from t c.self.inside.below.items) (sym c.get.ensures ∙ c.in-Some.is) in
+    on_top c.self.inside s c.tail_fill.result c.in-Some.top c.self.view_is c.tail_fill.ensures
+    (sym c.get.ensures ∙ c.in-Some.is) in
     elim c.match-top.branch [
       | in-Waiting w ↦ fits_answer start history s k c.in-Some.top c.self.inside.below.items frames w.in-Waiting.noted _
           w.in-Waiting.is (search rules)

@@ -1,10 +1,11 @@
 use Rattle.std.proofs.Common.{◌≡◌, ◌≢◌, ◌∷◌, [], length, refl, sym, ap, ◌∙◌, subst}
-use Rattle.nested_writer.specs.Stack.{Stack, opened}
-use Rattle.nested_writer.specs.Inside.{stack_of, frames_from}
+use Rattle.nested_writer.specs.Stack.{Stack, tail_fill, opened}
+use Rattle.nested_writer.specs.Inside.{stack_of}
 use Rattle.nested_writer.specs.Calls.{IsAtBottom}
 use Rattle.nested_writer.specs.IsStack.{IsStack}
 use Rattle.nested_writer.proofs.Leaving.{asked_at}
 use Rattle.nested_writer.proofs.Releasing.{tail_holds, none_to_close}
+use Rattle.nested_writer.proofs.Tops.{on_top}
 use Rattle.trace_model.specs.History.{wished}
 use Rattle.nested_writer.proofs.Staying.{has_events_stays}
 use Rattle.nested_writer.proofs.stack.WriterStack.ask_close.Goals as goal
@@ -14,7 +15,9 @@ returns-in-Some-clause-wished c = λ yes start history old.
     let s : Stack = stack_of c.self.inside in
     let k : IsStack start history s = subst (IsStack start history) (sym c.self.view_is) old in
     let frames : s.frames ≡ c.in-Some.bottom ∷ c.self.inside.below.items =
-    ap (λ t. frames_from t c.self.inside.below.items) (sym c.get.ensures ∙ c.in-Some.is) in
+    on_top c.self.inside s c.tail_fill.result c.in-Some.bottom refl
+    (c.tail_fill.ensures ∙ ap tail_fill (sym c.self.view_is))
+    (sym c.get.ensures ∙ c.in-Some.is) in
     let bottom : IsAtBottom (c.in-Some.bottom ∷ c.self.inside.below.items) =
     subst IsAtBottom (ap (λ (x : Stack). x.frames) (sym c.self.view_is) ∙ frames) c.requires.bottom in
     let some : s.tail.bytes ≢ [] = λ none. c.if-end-eq0.false (c.end.ensures ∙ ap length none) in

@@ -1,8 +1,9 @@
-use Rattle.std.proofs.Common.{[], ◌≡◌, ◌∷◌, ◌++◌, Option, refl, sym, ap, ◌∙◌, subst}
+use Rattle.std.proofs.Common.{[], ◌≡◌, ℕ, suc, ◌+◌, ◌∷◌, ◌++◌, length, Option, refl, sym, ap, ◌∙◌, subst, arith}
 use Rattle.std.specs.Option.{option_to_list}
 use Rattle.page_image.specs.Contents.{Contents}
-use Rattle.nested_writer.specs.Stack.{Stack}
-use Rattle.nested_writer.specs.Inside.{stack_of}
+use Rattle.nested_writer.specs.Stack.{Stack, tail_fill}
+use Rattle.nested_writer.specs.TopFrame.{frame_in}
+use Rattle.nested_writer.specs.Inside.{stack_of, frames_from}
 use Rattle.nested_writer.specs.Calls.{IsAtBottom}
 use Rattle.nested_writer.specs.IsStack.{IsStack, IsReachedStack}
 use Rattle.nested_writer.proofs.Dropping.{released}
@@ -17,7 +18,16 @@ returns-clause-stack c = λ start h old.
     let bottom = subst (λ (x : Stack). IsAtBottom x.frames) (sym c.self.view_is) c.requires.bottom in
     let older : s.older ≡ c.in-Some.page ∷ c.pop.new.self.pages =
     c.pop.ensures.pages ∙ ap (λ (o : Option Contents). option_to_list o ++ c.pop.new.self.pages) c.in-Some.is in
-    released start h s c.in-Some.page c.pop.new.self.pages _ older refl bottom k
+    let long : length s.older ≡ suc (length c.pop.new.self.pages) = ap length older in
+    let fill : s.done + 1 + length c.pop.new.self.pages ≡ tail_fill s = omega (arith, long) in
+    subst
+    (λ (n : ℕ).
+    IsStack start (h ++ [])
+    (record s {
+      done = s.done + 1;
+      older = c.pop.new.self.pages;
+      frames = frames_from (frame_in c.self.inside.top n) c.self.inside.below.items;
+    })) (sym fill) (released start h s c.in-Some.page c.pop.new.self.pages _ older refl bottom k)
 
 pub returns-clause-written : goal.returns-clause-written
 returns-clause-written c = λ start h k.

@@ -1,16 +1,16 @@
-use Rattle.std.proofs.Common.{ℕ, ◌≡◌, ◌∷◌, ◌++◌, [], List, Option, None, sym, ap, ◌∙◌, subst, ⊎_elim}
+use Rattle.std.proofs.Common.{ℕ, ◌≡◌, ◌∷◌, ◌++◌, [], List, None, sym, ap, ◌∙◌, subst, ⊎_elim}
 use Rattle.std.specs.Prelude.{◌==◌}
 use Rattle.trace_model.specs.History.{leave}
 use Rattle.nested_writer.specs.declared.frame.Frame.{Frame}
 use Rattle.nested_writer.specs.declared.frame.Progress.{Progress}
 use Rattle.nested_writer.specs.declared.stack.leave.Ended.TheVariants.{Pending, Full}
 use Rattle.nested_writer.specs.Stack.{Stack, state_of}
-use Rattle.nested_writer.specs.Inside.{frames_from}
 use Rattle.nested_writer.specs.Ends.{MayEnd, HasEnded}
 use Rattle.nested_writer.specs.IsStack.{IsStack}
 use Rattle.nested_writer.proofs.Leaving.{left_none}
 use Rattle.nested_writer.proofs.Ending.{ended}
 use Rattle.nested_writer.proofs.Keeping.{some_below, none_left}
+use Rattle.nested_writer.proofs.Tops.{on_top}
 use Rattle.nested_writer.proofs.Promises.{ends_top}
 use Rattle.nested_writer.proofs.stack.WriterStack.end_any.Goals as goal
 use Rattle.nested_writer.proofs.stack.WriterStack.end_any.Goals.{then-is_empty, else-is_empty}
@@ -22,8 +22,8 @@ returns c =
     let below : List Frame = c.self.inside.below.items in
     let after : Stack = c.leave.new.self in
     let frames : s.frames ≡ top ∷ below =
-    ap (λ (x : Stack). x.frames) (sym c.self.view_is)
-    ∙ ap (λ (t : Option Frame). frames_from t below) (sym c.get.ensures ∙ c.in-Some.is) in
+    on_top c.self.inside s c.tail_fill.result top c.self.view_is c.tail_fill.ensures
+    (sym c.get.ensures ∙ c.in-Some.is) in
     let is = c.leave.ensures.after top below frames in
     let may : MayEnd top.progress =
     ⊎_elim (λ (noted, has). subst MayEnd (sym has) tt) (λ (slot, has). subst MayEnd (sym has) tt) c.in-Through.is in

@@ -6,9 +6,10 @@ use Rattle.nested_writer.specs.declared.frame.Pushed.{Pushed}
 use Rattle.nested_writer.specs.declared.frame.Purpose.TheVariants.{Record}
 use Rattle.nested_writer.specs.declared.frame.Progress.TheVariants.{Waiting}
 use Rattle.nested_writer.specs.Stack.{Stack, tail_fill, next_number}
-use Rattle.nested_writer.specs.Inside.{stack_of, frames_from}
+use Rattle.nested_writer.specs.TopFrame.{frame_in}
+use Rattle.nested_writer.specs.Inside.{stack_of, frames_from, top_frame}
 use Rattle.nested_writer.specs.IsStack.{IsStack, IsReachedStack}
-use Rattle.nested_writer.proofs.Tops.{top_is}
+use Rattle.nested_writer.proofs.Tops.{top_is, is_whole}
 use Rattle.nested_writer.proofs.Bounds.{stands_ends_at, stands_fits}
 use Rattle.nested_writer.specs.Allotted.{HasEvents}
 use Rattle.nested_writer.specs.Calls.{ReservesRecord}
@@ -39,7 +40,7 @@ abbrev slot_of : goal.After-hold → Slot
 slot_of c =
     record {
       number = c.first_number.result.0 + c.count.result;
-      fill = c.fill_number-fill.result.0;
+      fill = tail_fill (stack_of c.self.inside);
       place = c.put_plain-place.result;
     }
 
@@ -49,9 +50,9 @@ after c =
     (slot_of c).number (slot_of c).fill
 
 found : (c : goal.After-hold)
-    → (c.self.inside.top ≡ Some (waits_of c.args.pushed)) × (c.self.inside.below.items ≡ (plain c).below)
+    → (top_frame c.self.inside ≡ Some (waits_of c.args.pushed)) × (c.self.inside.below.items ≡ (plain c).below)
 found c =
-    top_is c.self.inside.top c.self.inside.below.items (waits_of c.args.pushed) (plain c).below
+    top_is (top_frame c.self.inside) c.self.inside.below.items (waits_of c.args.pushed) (plain c).below
     c.self.invariant.top_first (plain c).on_top
 
 -- the fields show the stack with the record put
@@ -59,23 +60,26 @@ abbrev shown_after : goal.After-hold → Stack
 shown_after c =
     record (stack_of c.self.inside) {
       tail = c.put_plain-place.new.self.page;
-      frames = frames_from c.hold.new.self c.self.inside.below.items;
+      frames = frames_from (frame_in c.hold.new.self (tail_fill (stack_of c.self.inside))) c.self.inside.below.items;
       last_moment = c.args.pushed.moment;
     }
 
 reported : (c : goal.After-hold) → shown_after c ≡ after c
-reported c = let held = c.hold.ensures (waits_of c.args.pushed) (found c).0 in
+reported c =
+    let fill = tail_fill (stack_of c.self.inside) in
+    let held = c.hold.ensures c.args.pushed.moment c.args.pushed.len (is_whole _ fill _ _ (found c).0) in
     λ i.
     record (stack_of c.self.inside) {
       tail = c.put_plain-place.new.self.page;
-      frames = frames_from (held i) ((found c).1 i);
+      frames = frames_from (frame_in (held i) fill) ((found c).1 i);
       last_moment = c.args.pushed.moment;
     }
 
 number_is : (c : goal.After-hold) → (slot_of c).number ≡ next_number (stack_of c.self.inside)
 number_is c = omega (arith, c.first_number.ensures, c.count.ensures.count)
 
-fill_is : (c : goal.After-hold) → (slot_of c).fill ≡ tail_fill (stack_of c.self.inside)
+-- the fill of the slot that is answered
+fill_is : (c : goal.After-hold) → c.fill_number-fill.result.0 ≡ tail_fill (stack_of c.self.inside)
 unfolding IsReachedStack
 fill_is c =
     let (start, history, k) = c.requires.stack in
@@ -86,7 +90,7 @@ acts c =
     let s : Stack = stack_of c.self.inside in
     let put = c.put_plain-place.ensures in
     plain_has_events s c.args.pushed (plain c) c.put_plain-place.new.self.page c.put_plain-place.result
-    (slot_of c).number (slot_of c).fill (number_is c) (fill_is c) (assumption put)
+    (slot_of c).number (slot_of c).fill (number_is c) refl (assumption put)
 
 pub returns-clause-reserved : goal.returns-clause-reserved
 returns-clause-reserved c = λ top below on_top.
@@ -94,7 +98,7 @@ returns-clause-reserved c = λ top below on_top.
     let put = c.put_plain-place.ensures in
     let reserved =
     plain_reserved s c.args.pushed (plain c) c.put_plain-place.new.self.page c.put_plain-place.result
-    (slot_of c).number (slot_of c).fill (number_is c) (fill_is c) put.bytes put.end put.len_is in
+    (slot_of c).number (slot_of c).fill (number_is c) refl put.bytes put.end put.len_is in
     subst
     (λ (x : Stack).
     ReservesRecord x top below c.args.pushed.moment c.args.pushed.len c.put_plain-place.result (shown_after c))
@@ -107,4 +111,9 @@ returns-clause-stack c =
     λ start history k. rw (reported c) (acts c start history (subst (IsStack start history) (sym c.self.view_is) k))
 
 pub returns-clause-slot : goal.returns-clause-slot
-returns-clause-slot c = rw (c.hold.ensures (waits_of c.args.pushed) (found c).0) refl
+returns-clause-slot c =
+    let fill = tail_fill (stack_of c.self.inside) in
+    rw (
+      c.hold.ensures c.args.pushed.moment c.args.pushed.len (is_whole _ fill _ _ (found c).0),
+      fill_is c,
+    ) refl

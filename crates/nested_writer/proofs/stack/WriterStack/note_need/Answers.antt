@@ -1,8 +1,9 @@
 use Rattle.std.proofs.Common.{◌≡◌, ℕ, Some, sym, ap, ◌∙◌, arith}
 use Rattle.nested_writer.specs.declared.frame.Progress.TheVariants.{Waiting}
 use Rattle.nested_writer.specs.declared.frame.Frame.{Frame}
-use Rattle.nested_writer.specs.Stack.{Stack, opened}
-use Rattle.nested_writer.specs.Inside.{stack_of, frames_from}
+use Rattle.nested_writer.specs.Stack.{Stack, tail_fill, opened}
+use Rattle.nested_writer.specs.TopFrame.{TopFrame, frame_in}
+use Rattle.nested_writer.specs.Inside.{stack_of, frames_from, top_frame}
 use Rattle.nested_writer.proofs.Tops.{top_is as top_is'}
 use Rattle.nested_writer.proofs.Allotting.{crowded_after, worn_after, noted_after}
 use Rattle.nested_writer.proofs.Keeping.{left_top}
@@ -26,11 +27,12 @@ returns-clause-after c =
     let (below, top_is) = c.requires.top in
     let s : Stack = stack_of c.self.inside in
     let found =
-    top_is' c.self.inside.top c.self.inside.below.items c.args.top below c.self.invariant.top_first
+    top_is' (top_frame c.self.inside) c.self.inside.below.items c.args.top below c.self.invariant.top_first
     (ap (λ (x : Stack). x.frames) c.self.view_is ∙ top_is) in
     let begun : c.opened-opened.result ≡ opened s = c.opened-opened.ensures.begun ∙ ap opened (sym c.self.view_is) in
-    let noted : c.note.new.self ≡ Some (record c.args.top { progress = Waiting (Some (opened s)) }) =
-    c.note.ensures c.args.top found.0
+    let noted : frame_in c.note.new.self (tail_fill s)
+    ≡ Some (record c.args.top { progress = Waiting (Some (opened s)) }) =
+    ap (λ (t : TopFrame). frame_in t (tail_fill s)) (c.note.ensures c.args.top (tail_fill s) found.0)
     ∙ ap (λ (n : ℕ). let f : Frame = record c.args.top { progress = Waiting (Some n) } in Some f) begun in
     noted_after c.args.self.now _ c.args.top below top_is c.requires.wants
     (rw (← c.self.view_is) (λ i. record s { frames = frames_from (noted i) (found.1 i) }))

@@ -1,5 +1,5 @@
 use Rattle.std.proofs.Common.{◌≡◌, ℕ, ◌+◌, ◌-◌, ◌≤◌, max, Bool, [], ◌∷◌, ◌++◌, List, length, sym, ap, ◌∙◌, subst, arith}
-use Rattle.std.proofs.Common.{rules}
+use Rattle.std.proofs.Common.{refl, rules}
 use Rattle.trace_model.specs.History.{reserve}
 use Rattle.trace_model.specs.Words.{encoded_len}
 use Rattle.page_image.specs.Contents.{is_blank}
@@ -8,7 +8,7 @@ use Rattle.nested_writer.specs.declared.frame.Slot.{Slot}
 use Rattle.nested_writer.specs.declared.frame.Purpose.{Purpose}
 use Rattle.nested_writer.specs.declared.frame.Progress.TheVariants.{Reserved}
 use Rattle.nested_writer.specs.Stack.{Stack, tail_fill}
-use Rattle.nested_writer.specs.Inside.{stack_of, frames_from}
+use Rattle.nested_writer.specs.Inside.{stack_of, frames_from, top_frame}
 use Rattle.nested_writer.specs.Calls.{HasRecordRoom}
 use Rattle.nested_writer.specs.IsStack.{IsStack, IsReachedStack}
 use Rattle.nested_writer.proofs.Tops.{top_is}
@@ -41,11 +41,10 @@ returns-clause-stack c = λ start history old.
     let k : IsStack start history s = subst (IsStack start history) (sym c.self.view_is) old in
     let (top, below, noted, on_top, purpose, waits) = c.requires.top in
     let items : List Frame = c.self.inside.below.items in
-    let on_top' : frames_from c.self.inside.top items ≡ top ∷ below =
+    let on_top' : frames_from (top_frame c.self.inside) items ≡ top ∷ below =
     ap (λ (x : Stack). x.frames) c.self.view_is ∙ on_top in
-    let found = top_is c.self.inside.top items top below c.self.invariant.top_first on_top' in
+    let found = top_is (top_frame c.self.inside) items top below c.self.invariant.top_first on_top' in
     let put = c.put-place.ensures in
-    let fill_is : c.fill_number-fill.result.0 ≡ tail_fill s = c.fill_number-fill.ensures ∙ k.holds.tail_is.fill_is in
     let delta : ℕ = c.args.raised - s.last_moment in
     let blank : Bool = is_blank s.tail.bytes in
     let raised : c.args.raised ≡ max c.args.moment s.last_moment =
@@ -57,7 +56,7 @@ returns-clause-stack c = λ start history old.
     let slot : Slot =
     record {
       number = c.first_number.result.0 + c.count.result;
-      fill = c.fill_number-fill.result.0;
+      fill = tail_fill s;
       place = c.put-place.result;
     } in
     rw c.hold_any.ensures
@@ -70,7 +69,7 @@ returns-clause-stack c = λ start history old.
       frames = record { purpose = p; progress = Reserved slot } ∷ items;
     })) purpose
     (reserved_with start history s top items c.args.moment c.args.len noted c.put-place.new.self.page c.put-place.result
-    c.args.raised (c.first_number.result.0 + c.count.result) c.fill_number-fill.result.0
-    raised (omega (arith, c.first_number.ensures, c.count.ensures.count)) fill_is
+    c.args.raised (c.first_number.result.0 + c.count.result) (tail_fill s)
+    raised (omega (arith, c.first_number.ensures, c.count.ensures.count)) refl
     (on_top' ∙ ap (λ (fs : List Frame). top ∷ fs) (sym found.1)) purpose waits (omega (arith, put.longer, room'))
     (assumption put) k))
