@@ -1,22 +1,10 @@
 //! The commands of a script, as they are kept, and the payloads one after the other.
 
-ghost use Rattle.std.specs.Prelude.{◌≡◌, ◌≤◌, length};
-ghost use Rattle.trace_script.specs.Kept.{part};
-
 use crate::command::ScriptLine;
-use crate::kept::lent;
 use crate::kept_lines::KeptLines;
+use crate::lent::lent;
 use std::fmt;
 use std::marker::Model;
-
-/// The bytes from one place to another.
-fn part_of(bytes: &[u8], start: usize, end: usize) -> &[u8]
-    requires order { start ≤ end }
-    requires within { end ≤ length bytes.now }
-    ensures { result.now ≡ part bytes.now start end }
-{
-    &bytes[start..end]
-}
 
 /// The commands of a script, in the order of their lines.
 #[derive(Drop)]
@@ -70,11 +58,9 @@ impl Commands {
         ensures { slice_get self.now index ≡ Some (shown_line result) }
     {
         let line = self.lines.line(index);
-        let start = self.lines.start(index);
-        let bytes = part_of(self.payloads.as_slice(), start, line.end);
         ScriptLine {
             number: index as u64 + line.above,
-            command: lent(line, bytes),
+            command: lent(self.payloads.as_slice(), &self.lines, index, line),
         }
     }
 }

@@ -1,11 +1,8 @@
 //! A command of a script as it is kept.
 ghost use Rattle.std.specs.Prelude.{◌≡◌, ◌<◌, IfSome};
-ghost use Rattle.trace_script.specs.Kept.{first_or_zero, shown};
-ghost use Rattle.trace_script.specs.ScriptTypes.{shown_command};
 
-use crate::command::Command;
 use std::mem::size_of;
-use trace_model::{CpuId, FillNo, Moment};
+use trace_model::CpuId;
 
 /// What a line asks for.
 #[derive(Clone, Copy)]
@@ -102,47 +99,5 @@ pub(crate) fn widened(line: Narrow) -> Wide
         above: u64::from(line.above),
         end: line.end as usize,
         value: line.value,
-    }
-}
-
-/// The first of these bytes, or 0 if there is none.
-fn first_of(bytes: &[u8]) -> u8
-    ensures { result ≡ first_or_zero bytes.now }
-{
-    match bytes {
-        [] => 0,
-        [first, ..] => *first,
-    }
-}
-
-/// The command of these bytes, as it is lent.
-#[inline(always)]
-pub(crate) fn lent(line: Wide, bytes: &[u8]) -> Command<'_>
-    ensures { shown_command result ≡ shown bytes.now line }
-{
-    let cpu = CpuId(u32::from(line.cpu));
-    let value = line.value;
-    match line.kind {
-        Kind::Begin => Command::Begin {
-            cpu,
-            moment: Moment(value),
-            payload: bytes,
-        },
-        Kind::Step => Command::Step { cpu, count: value },
-        Kind::Finish => Command::Finish { cpu },
-        Kind::Write => Command::Write {
-            cpu,
-            moment: Moment(value),
-            payload: bytes,
-        },
-        Kind::Close => Command::Close { cpu },
-        Kind::StepReader => Command::StepReader { cpu, count: value },
-        Kind::Take => Command::Take { cpu },
-        Kind::Wish => Command::Wish { cpu },
-        Kind::Deliver => Command::Deliver {
-            collector: usize::from(first_of(bytes)),
-            cpu,
-            fill: FillNo(value),
-        },
     }
 }

@@ -12,6 +12,7 @@ mod fields;
 mod header;
 mod kept;
 mod kept_lines;
+mod lent;
 mod lines;
 mod orders;
 mod payload;

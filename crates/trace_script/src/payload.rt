@@ -244,7 +244,8 @@ pub(crate) fn put_payload(payloads: &mut Vec<u8>, field: &[u8]) -> Result<(), Li
     if is_letter(field, b'-') {
         return Ok(());
     }
-    if field.is_empty() || field.len() % 2 != 0 || !are_hex_digits(field) {
+    let odd = field.len() % 2 != 0;
+    if odd || field.is_empty() || !are_hex_digits(field) {
         return Err(LineFault::BadHex);
     }
     put_pairs(payloads, field)?;

@@ -4,21 +4,21 @@ use Rattle.std.proofs.lemmas.Result.{err_from_is_err_and}
 use Rattle.text_model.specs.Text.{bytes_of_pairs}
 use Rattle.trace_script.proofs.PayloadLemmas.{payload_read, payload_refused, dash_payload, none_left, all_put}
 use Rattle.trace_script.proofs.payload.put_payload.Goals as goal
-use Rattle.trace_script.proofs.payload.put_payload.Goals.{then-is_empty-via-then-is_empty}
-use Rattle.trace_script.proofs.payload.put_payload.Goals.{then-is_empty-via-else-is_empty+then-field-ne0}
-use Rattle.trace_script.proofs.payload.put_payload.Goals.{then-is_empty-via-else-is_empty+else-field-ne0+then-not-are_hex_digits}
+use Rattle.trace_script.proofs.payload.put_payload.Goals.{then-odd-via-then-odd}
+use Rattle.trace_script.proofs.payload.put_payload.Goals.{then-odd-via-else-odd+then-is_empty}
+use Rattle.trace_script.proofs.payload.put_payload.Goals.{then-odd-via-else-odd+else-is_empty+then-not-are_hex_digits}
 
 pub returns-then-is_letter : goal.returns-then-is_letter
 returns-then-is_letter c =
     ([], sym (append-nil _), dash_payload c.args.field.now (sym c.is_letter.ensures ∙ c.if-is_letter.true))
 
-pub returns-then-is_empty : goal.returns-then-is_empty
-returns-then-is_empty c = elim c.then-is_empty.branch [
-  | then-is_empty-via-then-is_empty w ↦ payload_refused c.args.field.now
-      (sym c.is_letter.ensures ∙ c.if-is_letter.false) (inl (sym c.is_empty.ensures ∙ w.if-is_empty.true))
-  | then-is_empty-via-else-is_empty+then-field-ne0 w ↦ payload_refused c.args.field.now
-      (sym c.is_letter.ensures ∙ c.if-is_letter.false) (inr (inl w.if-field-ne0.true))
-  | then-is_empty-via-else-is_empty+else-field-ne0+then-not-are_hex_digits w ↦
+pub returns-then-odd : goal.returns-then-odd
+returns-then-odd c = elim c.then-odd.branch [
+  | then-odd-via-then-odd w ↦ payload_refused c.args.field.now
+      (sym c.is_letter.ensures ∙ c.if-is_letter.false) (inr (inl w.if-odd.true))
+  | then-odd-via-else-odd+then-is_empty w ↦ payload_refused c.args.field.now
+      (sym c.is_letter.ensures ∙ c.if-is_letter.false) (inl (sym w.is_empty.ensures ∙ w.if-is_empty.true))
+  | then-odd-via-else-odd+else-is_empty+then-not-are_hex_digits w ↦
       payload_refused c.args.field.now (sym c.is_letter.ensures ∙ c.if-is_letter.false)
       (inr (inr (sym w.are_hex_digits.ensures ∙ w.if-not-are_hex_digits.true)))
 ]
