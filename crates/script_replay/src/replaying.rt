@@ -151,7 +151,8 @@ fn new_collectors(alloc: Global, count: usize) -> Result<Vec<Collector>, NoMemor
 }
 
 /// Obeys all lines of the script, and tells their steps to this teller, which has told what comes before the first
-/// line.
+/// line. It isn't inlined: in a function of its own its numbers stay in registers.
+#[inline(never)]
 fn obey_all<'a, T: Teller>(
     alloc: Global,
     script: &'a Script,

@@ -60,7 +60,7 @@ impl Commands {
         let line = self.lines.line(index);
         ScriptLine {
             number: index as u64 + line.above,
-            command: lent(self.payloads.as_slice(), &self.lines, index, line),
+            command: lent(&self.payloads, &self.lines, index, line),
         }
     }
 }

@@ -4,9 +4,12 @@ ghost use Rattle.std.specs.Prelude.{◌≡◌, ◌<◌, IfSome};
 use std::mem::size_of;
 use trace_model::CpuId;
 
-/// What a line asks for.
+/// What a line asks for. The variants have other numbers than those of `Command`. If they had the same, the compiler
+/// would make the one number from the other by a copy, and a match on a command that is lent would come after the match
+/// on its kind, in place of being one with it.
 #[derive(Clone, Copy)]
 pub(crate) enum Kind {
+    Deliver,
     Begin,
     Step,
     Finish,
@@ -15,7 +18,6 @@ pub(crate) enum Kind {
     StepReader,
     Take,
     Wish,
-    Deliver,
 }
 
 /// A command as it is kept, in numbers of some widths. The bytes of its payload are kept elsewhere. A delivery has one

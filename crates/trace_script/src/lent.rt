@@ -30,25 +30,25 @@ fn part_of(bytes: &[u8], start: usize, end: usize) -> &[u8]
 
 /// The bytes of the command at this index among those of all commands.
 #[inline(always)]
-fn bytes_of<'a>(payloads: &'a [u8], lines: &KeptLines, index: usize, line: Wide) -> &'a [u8]
-    requires kept { AreKept 0 0 (length payloads.now) lines.now }
+fn bytes_of<'a>(payloads: &'a Vec<u8>, lines: &KeptLines, index: usize, line: Wide) -> &'a [u8]
+    requires kept { AreKept 0 0 (length payloads.now.items) lines.now }
     requires at { slice_get lines.now index ≡ Some line }
-    ensures { result.now ≡ part payloads.now (start_of 0 lines.now index) line.end }
+    ensures { result.now ≡ part payloads.now.items (start_of 0 lines.now index) line.end }
 {
-    part_of(payloads, lines.start(index), line.end)
+    part_of(payloads.as_slice(), lines.start(index), line.end)
 }
 
 /// The command at this index, as it is lent.
 #[inline(always)]
 pub(crate) fn lent<'a>(
-    payloads: &'a [u8],
+    payloads: &'a Vec<u8>,
     lines: &KeptLines,
     index: usize,
     line: Wide,
 ) -> Command<'a>
-    requires kept { AreKept 0 0 (length payloads.now) lines.now }
+    requires kept { AreKept 0 0 (length payloads.now.items) lines.now }
     requires at { slice_get lines.now index ≡ Some line }
-    ensures { shown_command result ≡ shown (part payloads.now (start_of 0 lines.now index) line.end) line }
+    ensures { shown_command result ≡ shown (part payloads.now.items (start_of 0 lines.now index) line.end) line }
 {
     let cpu = CpuId(u32::from(line.cpu));
     let value = line.value;

@@ -88,7 +88,8 @@ fn room_for(alloc: Global, bytes: usize) -> Vec<u8>
     }
 }
 
-/// The commands of the lines that are left.
+/// The commands of the lines that are left. It isn't inlined: in a function of its own its numbers stay in registers.
+#[inline(never)]
 fn read_commands(
     alloc: Global,
     cpus: u32,
