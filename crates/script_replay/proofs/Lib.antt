@@ -11,6 +11,7 @@ pub mod FrameRuns
 pub mod FrameTops
 pub mod PushedLanes
 pub mod WritesAlone
+pub mod WritesAbove
 -- what is reported
 pub mod Reporting
 -- a new lane, and takes

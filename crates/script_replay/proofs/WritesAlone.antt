@@ -23,133 +23,133 @@ none_fits [] (payload ∷ payloads) none fit = absurd fit
 none_fits (frame ∷ frames) payloads none fit = absurd (let z : ⊥ = cc in z)
 
 module _ (n size start cpu line moment : ℕ) (payload : List ℕ) (v new : LaneValue) (reports : ReportsValue)
-    (lane : Lane) (is : IsLane n size start cpu v lane) (w : IsWriteAlone n size start lane.core moment payload new.core)
-  where
-    none_kept : lane.payloads ≡ []
-    none_kept = none_fits lane.core.frames lane.payloads w.none is.fit
+    (lane : Lane) (is : IsLane n size start cpu v lane)
+    (w : IsWriteAlone n size start lane.core moment payload new.core) where
+  none_kept : lane.payloads ≡ []
+  none_kept = none_fits lane.core.frames lane.payloads w.none is.fit
 
-    -- ---- the exchanges
+  -- ---- the exchanges
 
-    abbrev x_push : Exchange
-    x_push = record { event = model.pushes moment (length payload); answer = model.pushed }
+  abbrev x_push : Exchange
+  x_push = record { event = model.pushes moment (length payload); answer = model.pushed }
 
-    abbrev x_reserve : Exchange
-    x_reserve = record { event = model.steps; answer = model.reserved_as w.number }
+  abbrev x_reserve : Exchange
+  x_reserve = record { event = model.steps; answer = model.reserved_as w.number }
 
-    abbrev x_end : Exchange
-    x_end = record { event = model.ends (padded payload); answer = model.full }
+  abbrev x_end : Exchange
+  x_end = record { event = model.ends (padded payload); answer = model.full }
 
-    abbrev x_leave : Exchange
-    x_leave = record { event = model.steps; answer = model.gone }
+  abbrev x_leave : Exchange
+  x_leave = record { event = model.steps; answer = model.gone }
 
-    abbrev rest : List Exchange
-    rest = x_reserve ∷ x_end ∷ x_leave ∷ []
+  abbrev rest : List Exchange
+  rest = x_reserve ∷ x_end ∷ x_leave ∷ []
 
-    -- ---- the lane between them
+  -- ---- the lane between them
 
-    abbrev between : Lane
-    between = lane_with lane payload model.pushed w.pushed
+  abbrev between : Lane
+  between = lane_with lane payload model.pushed w.pushed
 
-    abbrev reserved : Lane
-    reserved = lane_behind between w.reserved
+  abbrev reserved : Lane
+  reserved = lane_behind between w.reserved
 
-    abbrev ended : Lane
-    ended = lane_behind reserved w.ended
+  abbrev ended : Lane
+  ended = lane_behind reserved w.ended
 
-    abbrev after : Lane
-    after = lane_behind ended w.after
+  abbrev after : Lane
+  after = lane_behind ended w.after
 
-    one : length w.pushed.frames ≡ 1
-    one = ap length w.waits
+  one : length w.pushed.frames ≡ 1
+  one = ap length w.waits
 
-    waits_so : model.steps ≡ event_on_top w.pushed.frames between.payloads
-    waits_so = sym (ap (λ (fs : List Frame). event_on_top fs between.payloads) w.waits)
+  waits_so : model.steps ≡ event_on_top w.pushed.frames between.payloads
+  waits_so = sym (ap (λ (fs : List Frame). event_on_top fs between.payloads) w.waits)
 
-    keeps_its_payload : reserved.payloads ≡ payload ∷ []
-    keeps_its_payload =
-        ap (λ (fs : List Frame). payloads_left fs (payload ∷ lane.payloads)) w.has_slot
-        ∙ ap (λ (ps : List (List ℕ)). drop (length (payload ∷ ps) - 1) (payload ∷ ps)) none_kept
+  keeps_its_payload : reserved.payloads ≡ payload ∷ []
+  keeps_its_payload =
+      ap (λ (fs : List Frame). payloads_left fs (payload ∷ lane.payloads)) w.has_slot
+      ∙ ap (λ (ps : List (List ℕ)). drop (length (payload ∷ ps) - 1) (payload ∷ ps)) none_kept
 
-    ends_so : model.ends (padded payload) ≡ event_on_top w.reserved.frames reserved.payloads
-    ends_so = sym (ap (λ (fs : List Frame). event_on_top fs reserved.payloads) w.has_slot
-        ∙ ap (event_in (Progress.reserved w.number)) keeps_its_payload)
+  ends_so : model.ends (padded payload) ≡ event_on_top w.reserved.frames reserved.payloads
+  ends_so = sym (ap (λ (fs : List Frame). event_on_top fs reserved.payloads) w.has_slot
+      ∙ ap (event_in (Progress.reserved w.number)) keeps_its_payload)
 
-    leaves_so : model.steps ≡ event_on_top w.ended.frames ended.payloads
-    leaves_so = sym (ap (λ (fs : List Frame). event_on_top fs ended.payloads) w.stays
-        ∙ ap (λ (s : Progress). event_in s ended.payloads) w.has_left)
+  leaves_so : model.steps ≡ event_on_top w.ended.frames ended.payloads
+  leaves_so = sym (ap (λ (fs : List Frame). event_on_top fs ended.payloads) w.stays
+      ∙ ap (λ (s : Progress). event_in s ended.payloads) w.has_left)
 
-    none_left : after.payloads ≡ []
-    none_left =
-        ap (λ (fs : List Frame). payloads_left fs ended.payloads) w.is_gone
-        ∙ ap (λ (fs : List Frame). payloads_left [] (payloads_left fs reserved.payloads)) w.stays
-        ∙ ap (λ (ps : List (List ℕ)). payloads_left [] (drop (length ps - 1) ps)) keeps_its_payload
+  none_left : after.payloads ≡ []
+  none_left =
+      ap (λ (fs : List Frame). payloads_left fs ended.payloads) w.is_gone
+      ∙ ap (λ (fs : List Frame). payloads_left [] (payloads_left fs reserved.payloads)) w.stays
+      ∙ ap (λ (ps : List (List ℕ)). payloads_left [] (drop (length ps - 1) ps)) keeps_its_payload
 
-    run : FrameRun n size (length w.pushed.frames) between rest after
-    run = (
-      refl,
-      waits_so,
-      w.reserved,
-      w.reserve,
-      (
-        ap length w.has_slot ∙ sym one,
-        ends_so,
-        w.ended,
-        w.end,
-        (ap length w.stays ∙ sym one, leaves_so, w.after, w.leave, refl),
-      ),
-    )
+  run : FrameRun n size (length w.pushed.frames) between rest after
+  run = (
+    refl,
+    waits_so,
+    w.reserved,
+    w.reserve,
+    (
+      ap length w.has_slot ∙ sym one,
+      ends_so,
+      w.ended,
+      w.end,
+      (ap length w.stays ∙ sym one, leaves_so, w.after, w.leave, refl),
+    ),
+  )
 
-    some : w.pushed.frames ≢ []
-    some none = let zero = ap (length {A = Frame}) none in absurd (omega (arith, one, zero))
+  some : w.pushed.frames ≢ []
+  some none = let zero = ap (length {A = Frame}) none in absurd (omega (arith, one, zero))
 
-    is_gone : length w.after.frames < length w.pushed.frames
-    is_gone = let zero = ap (length {A = Frame}) w.is_gone in omega (arith, one, zero)
+  is_gone : length w.after.frames < length w.pushed.frames
+  is_gone = let zero = ap (length {A = Frame}) w.is_gone in omega (arith, one, zero)
 
-    writes : WritesFrame n size (model.pushes moment (length payload)) payload lane (x_push ∷ rest) after
-    writes = record {
-      push = x_push;
-      rest = rest;
-      exchanges_are = refl;
-      between = between;
-      pushes = record { event_is = refl; core = w.pushed; step = w.push; after_is = refl };
-      finishes = finishes some run is_gone;
-    }
+  writes : WritesFrame n size (model.pushes moment (length payload)) payload lane (x_push ∷ rest) after
+  writes = record {
+    push = x_push;
+    rest = rest;
+    exchanges_are = refl;
+    between = between;
+    pushes = record { event_is = refl; core = w.pushed; step = w.push; after_is = refl };
+    finishes = finishes some run is_gone;
+  }
 
-    -- ---- the value
+  -- ---- the value
 
-    same_taken : w.after.reader.taken ≡ lane.core.reader.taken
-    same_taken =
-        taken_stay n size w.ended _ _ w.after (λ of. of) w.leave
-        ∙ taken_stay n size w.reserved _ _ w.ended (λ of. of) w.end
-        ∙ taken_stay n size w.pushed _ _ w.reserved (λ of. of) w.reserve
-        ∙ taken_stay n size lane.core _ _ w.pushed (λ of. of) w.push
+  same_taken : w.after.reader.taken ≡ lane.core.reader.taken
+  same_taken =
+      taken_stay n size w.ended _ _ w.after (λ of. of) w.leave
+      ∙ taken_stay n size w.reserved _ _ w.ended (λ of. of) w.end
+      ∙ taken_stay n size w.pushed _ _ w.reserved (λ of. of) w.reserve
+      ∙ taken_stay n size lane.core _ _ w.pushed (λ of. of) w.push
 
-    fits : HasPayloads after
-    fits =
-        subst (λ (fs : List Frame). FitFrames fs after.payloads) (sym w.is_gone)
-        (subst (λ (ps : List (List ℕ)). FitFrames [] ps) (sym none_left) tt)
+  fits : HasPayloads after
+  fits =
+      subst (λ (fs : List Frame). FitFrames fs after.payloads) (sym w.is_gone)
+      (subst (λ (ps : List (List ℕ)). FitFrames [] ps) (sym none_left) tt)
 
-    pub lane_after : new ≡ record v { core = new.core } → IsLane n size start cpu new after
-    lane_after core =
-        subst (λ (x : LaneValue). IsLane n size start cpu x after) (sym core)
-        (moved_lane is w.is_core (is.payloads_are ∙ none_kept ∙ sym none_left) fits is.body
-        (is.taken_are ∙ ap (map (parcel_of cpu)) (sym same_taken)))
+  pub lane_after : new ≡ record v { core = new.core } → IsLane n size start cpu new after
+  lane_after core =
+      subst (λ (x : LaneValue). IsLane n size start cpu x after) (sym core)
+      (moved_lane is w.is_core (is.payloads_are ∙ none_kept ∙ sym none_left) fits is.body
+      (is.taken_are ∙ ap (map (parcel_of cpu)) (sym same_taken)))
 
-    untold : (steps : Option StepTextValue) → steps ≡ None
-        → AreTold n size line cpu lane.core (x_push ∷ rest) w.after steps steps
-    untold None none = tt
-    untold (Some text) none = absurd (let z : ⊥ = cc in z)
+  untold : (steps : Option StepTextValue) → steps ≡ None
+      → AreTold n size line cpu lane.core (x_push ∷ rest) w.after steps steps
+  untold None none = tt
+  untold (Some text) none = absurd (let z : ⊥ = cc in z)
 
-    reported : reports.steps ≡ None → Reported n size line cpu lane.core (x_push ∷ rest) w.after reports reports
-    reported none = record { log = sym (append-nil _); steps = untold reports.steps none }
+  reported : reports.steps ≡ None → Reported n size line cpu lane.core (x_push ∷ rest) w.after reports reports
+  reported none = record { log = sym (append-nil _); steps = untold reports.steps none }
 
-    pub line_written : new ≡ record v { core = new.core } → reports.steps ≡ None
-        → Happens (λ n size before exchanges after. LineRun n size (write cpu moment payload) before exchanges after)
-        line cpu n size start lane reports new reports
-    line_written core none = record {
-      exchanges = x_push ∷ rest;
-      after = after;
-      happened = writes;
-      is_lane = lane_after core;
-      reported = reported none;
-    }
+  pub line_written : new ≡ record v { core = new.core } → reports.steps ≡ None
+      → Happens (λ n size before exchanges after. LineRun n size (write cpu moment payload) before exchanges after)
+      line cpu n size start lane reports new reports
+  line_written core none = record {
+    exchanges = x_push ∷ rest;
+    after = after;
+    happened = writes;
+    is_lane = lane_after core;
+    reported = reported none;
+  }

@@ -1,5 +1,5 @@
 -- What steps of frames, and pushes, do to a lane as a value.
-use Rattle.std.specs.Prelude.{◌≡◌, ℕ, ◌≤◌, List, [], length}
+use Rattle.std.specs.Prelude.{◌≡◌, ℕ, ◌≤◌, ◌⊎◌, List, [], length}
 use Rattle.trace_model.specs.Ring.{Core}
 use Rattle.trace_model.specs.Steps as model
 use Rattle.trace_model.specs.Steps.{Step, Exchange}
@@ -11,6 +11,7 @@ use Rattle.ring_core.specs.Value.{CoreValue}
 use Rattle.ring_frames.specs.Answers.{IsAnswerOf}
 use Rattle.ring_core.specs.Steps.{IsStep}
 use Rattle.ring_core.specs.AtOnce.{WritesAlone}
+use Rattle.ring_core.specs.Above.{WritesAbove}
 use Rattle.script_replay.specs.Reports.{ReportsValue}
 use Rattle.script_replay.specs.Value.{LaneValue}
 use Rattle.script_replay.specs.Lanes.{IsLane, MakesExchanges}
@@ -92,7 +93,7 @@ HasWritten event payload line cpu old old_reports new reports =
     MakesExchanges (λ n size before exchanges after. WritesFrame n size event payload before exchanges after)
     line cpu old old_reports new reports
 
--- so it is at once, with no other frame on the stack: only the ring changes
-pub record HasWrittenAlone (moment : ℕ) (payload : List ℕ) (old new : LaneValue) : Type 0 where
+-- so it is at once, with no other frame on the stack or above others: only the ring changes
+pub record HasWrittenAtOnce (moment : ℕ) (payload : List ℕ) (old new : LaneValue) : Type 0 where
   pub core : new ≡ record old { core = new.core }
-  pub writes : WritesAlone old.core moment payload new.core
+  pub writes : WritesAlone old.core moment payload new.core ⊎ WritesAbove old.core moment payload new.core

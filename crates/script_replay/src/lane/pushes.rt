@@ -14,7 +14,7 @@ impl<'a> Lane<'a> {
     ghost use Rattle.text_model.specs.Script.{begin_frame, write, close};
     ghost use Rattle.step_telling.specs.Tells.{IsAsked};
     ghost use Rattle.script_replay.specs.Lanes.{IsLaneOf, IsReportedLane, HasLine};
-    ghost use Rattle.script_replay.specs.Frames.{IsPushOf, push_event, Pushes, HasWritten, HasWrittenAlone};
+    ghost use Rattle.script_replay.specs.Frames.{IsPushOf, push_event, Pushes, HasWritten, HasWrittenAtOnce};
 
     /// Pushes a record frame of this moment and payload.
     #[inline(never)]
@@ -47,30 +47,33 @@ impl<'a> Lane<'a> {
         ensures { OnOk result (HasLine (write at.cpu.0 moment payload.now) at.line at.cpu.0
             self.old reports.old self.new reports.new) }
     {
-        match self.write_alone(moment, payload, reports) {
+        match self.write_at_once(moment, payload, reports) {
             Wrote::Record => Ok(()),
             Wrote::Nothing => self.write_by_steps(at, moment, payload, reports),
         }
     }
 
-    /// Writes a record of this moment and payload in one call, if its frame would be alone and nothing is to be told of
-    /// its steps: nothing is logged of them.
+    /// Writes a record of this moment and payload in one call, if the ring does that and nothing is to be told of the
+    /// steps of its frame: nothing is logged of them.
     #[inline(always)]
-    fn write_alone<T: Teller>(
+    fn write_at_once<T: Teller>(
         &mut self,
         moment: u64,
         payload: &'a [u8],
         reports: &Reports<T>,
     ) -> Wrote
         requires { (cpu : ℕ) × IsLaneOf cpu self.old }
-        ensures wrote { result ≡ Wrote.Record → HasWrittenAlone moment payload.now self.old self.new }
+        ensures wrote { result ≡ Wrote.Record → HasWrittenAtOnce moment payload.now self.old self.new }
         ensures untold { result ≡ Wrote.Record → reports.now.steps ≡ None }
         ensures nothing { result ≡ Wrote.Nothing → self.new ≡ self.old }
     {
         if reports.tells() {
             return Wrote::Nothing;
         }
-        self.core.write(moment, payload)
+        if self.core.depth() == 0 {
+            return self.core.write(moment, payload);
+        }
+        self.core.write_above(moment, payload)
     }
 
     /// The same, step by step.
