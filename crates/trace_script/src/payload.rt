@@ -194,7 +194,7 @@ fn put_each<'a>(payloads: &mut Vec<u8>, text: &'a [u8]) -> Result<&'a [u8], NoMe
 
 /// Appends the bytes that the pairs of hexadecimal digits at a text's beginning spell, and returns the text after all
 /// these pairs. If memory is refused, some of the bytes may be appended.
-#[inline(never)]
+#[inline(always)]
 fn put_pairs<'a>(payloads: &mut Vec<u8>, text: &'a [u8]) -> Result<&'a [u8], NoMemory>
     ensures { PutsPairs result text.now payloads.old.items payloads.new.items }
 {
