@@ -2,13 +2,14 @@
 use crate::event::{Answer, Event};
 use crate::ring::Core;
 use nested_writer::WriteFault;
-use ring_frames::Phase;
+use ring_frames::{Phase, StepAnswer};
 
 impl Core {
     ghost use Rattle.trace_model.specs.Steps as model;
     ghost use Rattle.std.specs.Prelude.{◌≡◌, ◌≢◌, []};
     ghost use Rattle.ring_frames.specs.declared.phase.Phase.TheVariants.{Idle, Wishing};
     ghost use Rattle.ring_frames.specs.Answers.{KeepsPayloads, ZerosSlot};
+    ghost use Rattle.ring_frames.specs.Phases.{as_answer};
     ghost use Rattle.ring_core.specs.Answers.{HasWholePage};
     ghost use Rattle.ring_core.specs.Steps.{MakesStep, MakesEvent, IsReachedCore, HasItsSize};
 
@@ -43,8 +44,7 @@ impl Core {
         }
     }
 
-    /// One step of the frame on top. Most are of a frame that reserves its record, or looks for the reader's wish, so
-    /// these phases are tested first.
+    /// One step of the frame on top: it reserves its record, or makes a step on a word.
     #[inline(always)]
     fn step_top(&mut self) -> Answer
         requires ring { IsReachedCore self.old }
@@ -58,36 +58,47 @@ impl Core {
         if self.frames.is_idle() {
             return self.reserve();
         }
-        if self.frames.is_wishing() {
-            return self.load_wish().answer();
-        }
-        self.step_in_phase()
+        self.step_on_word().answer()
     }
 
-    /// One step of the frame on top, which moves the head, begins a fill or closes one.
-    #[inline(never)]
-    fn step_in_phase(&mut self) -> Answer
+    /// One step of the frame on top on a word. Most are looks for the reader's wish, so that is asked first.
+    #[inline(always)]
+    fn step_on_word(&mut self) -> StepAnswer
         requires ring { IsReachedCore self.old }
         requires top { self.old.stack.frames ≢ [] }
-        requires reserved { self.old.phase ≢ Idle }
-        requires closed { self.old.phase ≢ Wishing }
-        ensures makes { MakesStep self.old model.steps result self.new }
+        requires phase { self.old.phase ≢ Idle }
+        ensures makes { MakesStep self.old model.steps (as_answer result) self.new }
         ensures payloads { KeepsPayloads self.old.stack self.new.stack }
-        ensures zeros { ZerosSlot self.old.stack result self.new.stack }
+    {
+        if self.frames.is_wishing() {
+            return self.load_wish();
+        }
+        self.turn_page()
+    }
+
+    /// One step of the frame on top by which the head moves, or a fill is begun or closed.
+    #[inline(never)]
+    fn turn_page(&mut self) -> StepAnswer
+        requires ring { IsReachedCore self.old }
+        requires top { self.old.stack.frames ≢ [] }
+        requires reserves { self.old.phase ≢ Idle }
+        requires closes { self.old.phase ≢ Wishing }
+        ensures makes { MakesStep self.old model.steps (as_answer result) self.new }
+        ensures payloads { KeepsPayloads self.old.stack self.new.stack }
     {
         match self.frames.phase() {
-            Phase::Looking { noted } => self.load_link(noted).answer(),
-            Phase::Claiming { noted, page } => self.claim_head(noted, page).answer(),
-            Phase::LookingNext { role, noted, page } => self.load_next(role, noted, page).answer(),
+            Phase::Looking { noted } => self.load_link(noted),
+            Phase::Claiming { noted, page } => self.claim_head(noted, page),
+            Phase::LookingNext { role, noted, page } => self.load_next(role, noted, page),
             Phase::Marking {
                 role,
                 noted,
                 page,
                 next,
-            } => self.mark_head(role, noted, page, next).answer(),
-            Phase::Clearing { noted, page } => self.clear_update(noted, page).answer(),
-            Phase::Opening { noted, page } => self.open_fill(noted, page).answer(),
-            Phase::Releasing => self.release_fill().answer(),
+            } => self.mark_head(role, noted, page, next),
+            Phase::Clearing { noted, page } => self.clear_update(noted, page),
+            Phase::Opening { noted, page } => self.open_fill(noted, page),
+            Phase::Releasing => self.release_fill(),
             Phase::Idle | Phase::Wishing => unreachable!(),
         }
     }
