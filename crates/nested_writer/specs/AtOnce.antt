@@ -15,14 +15,13 @@ use Rattle.nested_writer.specs.Calls.{HasRecordRoom}
 abbrev pub MayStand : Stack → (moment len : ℕ) → Type 0
 MayStand s moment len = (IsTooLong s.size len → ⊥) × (moment < MOMENT_LIMIT)
 
--- The stack is empty, and a record of this moment, for a payload of len bytes, may be written and has room in the tail.
-abbrev pub FitsAtOnce : Stack → (moment len : ℕ) → Type 0
-FitsAtOnce s moment len =
-    (s.frames ≡ []) × (IsTooLong s.size len → ⊥) × (moment < MOMENT_LIMIT) × HasRecordRoom s moment len
-
 -- A record of this moment, for a payload of len bytes, may be written and has room in the tail.
 abbrev pub FitsInTail : Stack → (moment len : ℕ) → Type 0
 FitsInTail s moment len = MayStand s moment len × HasRecordRoom s moment len
+
+-- The stack is empty, and a record of this moment, for a payload of len bytes, may be written and has room in the tail.
+abbrev pub FitsAtOnce : Stack → (moment len : ℕ) → Type 0
+FitsAtOnce s moment len = (s.frames ≡ []) × FitsInTail s moment len
 
 -- A frame is on the stack, and there is room for one more.
 abbrev pub MayCover : Stack → Type 0
@@ -69,11 +68,5 @@ pub record IsShortNext (s : Stack) (moment len : ℕ) : Type 0 where
   pub in_time : moment < MOMENT_LIMIT
 
 -- The stack is empty, and the record is short.
-pub record IsShortAlone (s : Stack) (moment len : ℕ) : Type 0 where
-  pub none : s.frames ≡ []
-  pub some : 1 ≤ len
-  pub short : len ≤ SHORT_LIMIT
-  pub behind : is_blank s.tail.bytes ≡ false
-  pub in_order : s.last_moment ≤ moment
-  pub near : moment - s.last_moment < EXTEND_FROM
-  pub in_time : moment < MOMENT_LIMIT
+abbrev pub IsShortAlone : Stack → (moment len : ℕ) → Type 0
+IsShortAlone s moment len = (s.frames ≡ []) × IsShortNext s moment len

@@ -85,10 +85,10 @@ pub record EndsTop (old : Stack) (result : Result Ended WriteFault) (new : Stack
   pub bottom : result ≡ Ok Full → IsAtBottom new.frames
   pub next : IfOk result (λ ended. IsEndedTo old new ended)
 
--- `write` and `write_alone`: the record is written if it fits at once, its moment raised to the last one's; else
--- nothing changes.
-pub record WritesWhatFits (moment : ℕ) (payload : List ℕ) (old : Stack) (result : Wrote) (new : Stack) : Type 0 where
-  pub wrote : result ≡ at_once.Record ↔ FitsAtOnce old moment (length payload)
+-- The record is written exactly if that is so, its moment raised to the last one's; else nothing changes.
+pub record WritesIf (so : Type 0) (moment : ℕ) (payload : List ℕ) (old : Stack) (result : Wrote) (new : Stack)
+    : Type 0 where
+  pub wrote : result ≡ at_once.Record ↔ so
   pub records : result ≡ at_once.Record
       → records_of_page new.tail
       ≡ records_of_page old.tail ++ record { moment = max moment old.last_moment; bytes = padded payload } ∷ []
@@ -98,18 +98,15 @@ pub record WritesWhatFits (moment : ℕ) (payload : List ℕ) (old : Stack) (res
   pub nothing : result ≡ at_once.Nothing → new ≡ old
   pub kept : SameFills old new
 
--- `write_above`: the record is written if it fits above the frames on the stack, its moment raised to the last one's;
--- else nothing changes.
-pub record WritesAbove (moment : ℕ) (payload : List ℕ) (old : Stack) (result : Wrote) (new : Stack) : Type 0 where
-  pub wrote : result ≡ at_once.Record ↔ FitsAbove old moment (length payload)
-  pub records : result ≡ at_once.Record
-      → records_of_page new.tail
-      ≡ records_of_page old.tail ++ record { moment = max moment old.last_moment; bytes = padded payload } ∷ []
-  pub stack : result ≡ at_once.Record
-      → HasEvents old (push moment (length payload) ∷ reserve ∷ leave (Some payload) ∷ []) new
-  pub stays : IsReachedStack new
-  pub nothing : result ≡ at_once.Nothing → new ≡ old
-  pub kept : SameFills old new
+-- `write` and `write_alone`: if it fits at once.
+abbrev pub WritesWhatFits : (moment : ℕ) → List ℕ → Stack → Wrote → Stack → Type 0
+WritesWhatFits moment payload old result new =
+    WritesIf (FitsAtOnce old moment (length payload)) moment payload old result new
+
+-- `write_above`: if it fits above the frames on the stack.
+abbrev pub WritesWhatFitsAbove : (moment : ℕ) → List ℕ → Stack → Wrote → Stack → Type 0
+WritesWhatFitsAbove moment payload old result new =
+    WritesIf (FitsAbove old moment (length payload)) moment payload old result new
 
 -- The frame of a record of this moment, and of a payload of len bytes, is put on the empty stack, and has left.
 pub record StandsAgain (moment len : ℕ) (old new : Stack) : Type 0 where

@@ -15,7 +15,7 @@ use Rattle.ring_core.proofs.AtOnce.{is_core_after}
 module _ (v : CoreValue) (new : FramesValue) (moment : ℕ) (payload : List ℕ) (some : v.stack.frames ≢ [])
     (wrote : WritesAboveAtOnce (frames_of v) moment payload new) where
   module _ (n size start : ℕ) (c : Core) (core : IsCore n size start v c) where
-    abbrev h : frames_above.IsWriteAbove n size start c moment payload (next_number v.stack) new
+    abbrev h : frames_above.IsWriteAboveAtOnce n size start c moment payload (next_number v.stack) new
     h = wrote n size start c core.reached core.shows.frames
 
     has_some : c.frames ≢ []

@@ -12,7 +12,7 @@ use Rattle.ring_frames.specs.Value.{FramesValue}
 use Rattle.ring_frames.specs.AreFrames.{frames_in_phases, AreBelow, AreNotedAlike, AreFrames}
 use Rattle.ring_frames.specs.Answers.{HoldSlot, KeepsPayloads}
 use Rattle.ring_frames.specs.Steps.{IsFrames}
-use Rattle.ring_frames.specs.Above.{IsWriteAbove, WritesAboveAtOnce}
+use Rattle.ring_frames.specs.Above.{IsWriteAboveAtOnce, WritesAboveAtOnce}
 use Rattle.ring_frames.proofs.Privately.{top_is_private}
 use Rattle.ring_frames.proofs.Payloads.{grown}
 use Rattle.ring_frames.proofs.Tops.{topped}
@@ -47,7 +47,7 @@ module _ (n size start : ℕ) (v : FramesValue) (c : Core) (k : AreFrames n size
       }
 
   written : HasEvents v.stack (push moment (length payload) ∷ reserve ∷ leave (Some payload) ∷ []) stack
-      → IsWriteAbove n size start c moment payload (next_number v.stack) (record v { stack = stack })
+      → IsWriteAboveAtOnce n size start c moment payload (next_number v.stack) (record v { stack = stack })
   written has_events =
       let few = fits.0.1 in
       let own = fits.1 in

@@ -46,7 +46,7 @@ module _ (n size start : ℕ) (v : FramesValue) (c : Core) (k : AreFrames n size
   few = subst (λ (fs : List Frame). length fs < MAX_FRAMES) (sym none) (omega arith)
 
   own : FitsInTail v.stack moment len
-  own = ((fits.1, fits.2), fits.3)
+  own = fits.1
 
   abbrev pushed : Core
   pushed = tail.pushed n size start v c k moment payload few own [] bare
@@ -111,9 +111,9 @@ left_has_events : (s stack : Stack) (moment : ℕ) (payload : List ℕ) → Fits
 left_has_events s stack moment payload fits is has_events = λ start h k.
     let none : stack.frames ≡ [] = ap (λ (x : Stack). x.frames) is ∙ fits.0 in
     let short =
-    subst (λ (z : ℕ). model.IsTooLong z (length payload) → ⊥) (sym (ap (λ (x : Stack). x.size) is)) fits.1 in
+    subst (λ (z : ℕ). model.IsTooLong z (length payload) → ⊥) (sym (ap (λ (x : Stack). x.size) is)) fits.1.0.0 in
     stands_again start (h ++ push moment (length payload) ∷ reserve ∷ leave (Some payload) ∷ []) stack moment
-    (length payload) none (short, fits.2) (has_events start h k)
+    (length payload) none (short, fits.1.0.1) (has_events start h k)
 
 pub writes_at_once : (v : FramesValue) (stack : Stack) (moment : ℕ) (payload : List ℕ)
     → FitsAtOnce v.stack moment (length payload) → stack ≡ with_written v.stack moment payload

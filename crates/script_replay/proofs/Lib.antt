@@ -10,6 +10,7 @@ pub mod LaneValues
 pub mod FrameRuns
 pub mod FrameTops
 pub mod PushedLanes
+pub mod WrittenLines
 pub mod WritesAlone
 pub mod WritesAbove
 -- what is reported

@@ -1,19 +1,19 @@
 -- A line by which a record is written at once: it has four exchanges with the ring, of which nothing is logged.
-use Rattle.std.proofs.Common.{◌≡◌, ◌≢◌, ℕ, ◌-◌, ◌<◌, List, [], ◌∷◌, length, drop, map, Option, Some, None, refl, sym}
-use Rattle.std.proofs.Common.{ap, ◌∙◌, subst, arith, append-nil}
+use Rattle.std.proofs.Common.{◌≡◌, ◌≢◌, ℕ, ◌-◌, ◌<◌, List, [], ◌∷◌, length, drop, map, None, refl, sym}
+use Rattle.std.proofs.Common.{ap, ◌∙◌, subst, arith}
 use Rattle.trace_model.specs.Words.{padded}
 use Rattle.trace_model.specs.Frames.{Frame, Progress}
 use Rattle.trace_model.specs.Steps as model
 use Rattle.trace_model.specs.Steps.{Exchange}
 use Rattle.text_model.specs.Script.{write}
-use Rattle.world_model.specs.Lanes.{Lane, payloads_left, lane_with, lane_behind, event_in, event_on_top, FitFrames}
-use Rattle.world_model.specs.Lanes.{HasPayloads, FrameRun, finishes, WritesFrame, LineRun}
+use Rattle.world_model.specs.Lanes.{Lane, payloads_left, lane_behind, event_in, event_on_top, FitFrames}
+use Rattle.world_model.specs.Lanes.{HasPayloads, FrameRun, LineRun}
 use Rattle.world_model.specs.World.{parcel_of}
-use Rattle.step_telling.specs.Known.{StepTextValue}
 use Rattle.ring_core.specs.AtOnce.{IsWriteAlone}
 use Rattle.script_replay.specs.Value.{LaneValue}
-use Rattle.script_replay.specs.Reports.{ReportsValue, Reported, AreTold}
+use Rattle.script_replay.specs.Reports.{ReportsValue}
 use Rattle.script_replay.specs.Lanes.{IsLane, Happens}
+use Rattle.script_replay.proofs.WrittenLines as written
 use Rattle.script_replay.proofs.LaneValues.{moved_lane, taken_stay}
 
 -- without a frame there is no payload
@@ -30,9 +30,6 @@ module _ (n size start cpu line moment : ℕ) (payload : List ℕ) (v new : Lane
 
   -- ---- the exchanges
 
-  abbrev x_push : Exchange
-  x_push = record { event = model.pushes moment (length payload); answer = model.pushed }
-
   abbrev x_reserve : Exchange
   x_reserve = record { event = model.steps; answer = model.reserved_as w.number }
 
@@ -48,7 +45,7 @@ module _ (n size start cpu line moment : ℕ) (payload : List ℕ) (v new : Lane
   -- ---- the lane between them
 
   abbrev between : Lane
-  between = lane_with lane payload model.pushed w.pushed
+  between = written.between n size start cpu line moment payload lane w.pushed w.push
 
   abbrev reserved : Lane
   reserved = lane_behind between w.reserved
@@ -105,16 +102,6 @@ module _ (n size start cpu line moment : ℕ) (payload : List ℕ) (v new : Lane
   is_gone : length w.after.frames < length w.pushed.frames
   is_gone = let zero = ap (length {A = Frame}) w.is_gone in omega (arith, one, zero)
 
-  writes : WritesFrame n size (model.pushes moment (length payload)) payload lane (x_push ∷ rest) after
-  writes = record {
-    push = x_push;
-    rest = rest;
-    exchanges_are = refl;
-    between = between;
-    pushes = record { event_is = refl; core = w.pushed; step = w.push; after_is = refl };
-    finishes = finishes some run is_gone;
-  }
-
   -- ---- the value
 
   same_taken : w.after.reader.taken ≡ lane.core.reader.taken
@@ -135,21 +122,9 @@ module _ (n size start cpu line moment : ℕ) (payload : List ℕ) (v new : Lane
       (moved_lane is w.is_core (is.payloads_are ∙ none_kept ∙ sym none_left) fits is.body
       (is.taken_are ∙ ap (map (parcel_of cpu)) (sym same_taken)))
 
-  untold : (steps : Option StepTextValue) → steps ≡ None
-      → AreTold n size line cpu lane.core (x_push ∷ rest) w.after steps steps
-  untold None none = tt
-  untold (Some text) none = absurd (let z : ⊥ = cc in z)
-
-  reported : reports.steps ≡ None → Reported n size line cpu lane.core (x_push ∷ rest) w.after reports reports
-  reported none = record { log = sym (append-nil _); steps = untold reports.steps none }
-
   pub line_written : new ≡ record v { core = new.core } → reports.steps ≡ None
       → Happens (λ n size before exchanges after. LineRun n size (write cpu moment payload) before exchanges after)
       line cpu n size start lane reports new reports
-  line_written core none = record {
-    exchanges = x_push ∷ rest;
-    after = after;
-    happened = writes;
-    is_lane = lane_after core;
-    reported = reported none;
-  }
+  line_written core none =
+      written.line_written n size start cpu line moment payload lane w.pushed w.push new reports rest after some run
+      is_gone refl (lane_after core) none

@@ -7,7 +7,7 @@ use trace_model::MAX_FRAMES;
 impl WriterStack {
     ghost use Rattle.std.specs.Prelude.{◌≡◌, ◌↔◌, length, IsTrue};
     ghost use Rattle.nested_writer.specs.AtOnce.{MayCover, IsShortNext, with_written};
-    ghost use Rattle.nested_writer.specs.Promises.{WritesAbove};
+    ghost use Rattle.nested_writer.specs.Promises.{WritesWhatFitsAbove};
     ghost use Rattle.nested_writer.specs.IsStack.{IsReachedStack};
 
     /// Whether a frame is on the stack, and one more may be pushed.
@@ -36,7 +36,7 @@ impl WriterStack {
         requires stack { IsReachedStack self.old }
         requires covers { MayCover self.old }
         requires short { IsShortNext self.old moment (length payload.now) }
-        ensures at_once { WritesAbove moment payload.now self.old result self.new }
+        ensures at_once { WritesWhatFitsAbove moment payload.now self.old result self.new }
         ensures written { result ≡ Wrote.Record → self.new ≡ with_written self.old moment payload.now }
         ensures frames { self.new.frames ≡ self.old.frames }
     {
@@ -54,7 +54,7 @@ impl WriterStack {
     fn write_any_above(&mut self, moment: u64, payload: &[u8]) -> Wrote
         requires stack { IsReachedStack self.old }
         requires covers { MayCover self.old }
-        ensures at_once { WritesAbove moment payload.now self.old result self.new }
+        ensures at_once { WritesWhatFitsAbove moment payload.now self.old result self.new }
         ensures written { result ≡ Wrote.Record → self.new ≡ with_written self.old moment payload.now }
         ensures frames { self.new.frames ≡ self.old.frames }
     {
@@ -72,7 +72,7 @@ impl WriterStack {
     #[inline(always)]
     pub fn write_above(&mut self, moment: u64, payload: &[u8]) -> Wrote
         requires stack { IsReachedStack self.old }
-        ensures at_once { WritesAbove moment payload.now self.old result self.new }
+        ensures at_once { WritesWhatFitsAbove moment payload.now self.old result self.new }
         ensures written { result ≡ Wrote.Record → self.new ≡ with_written self.old moment payload.now }
         ensures frames { self.new.frames ≡ self.old.frames }
     {

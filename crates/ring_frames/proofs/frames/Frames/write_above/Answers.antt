@@ -3,7 +3,7 @@ use Rattle.nested_writer.specs.declared.stack.write.Wrote.{Wrote}
 use Rattle.nested_writer.specs.declared.stack.write.Wrote.TheVariants.{Record, Nothing}
 use Rattle.nested_writer.specs.Stack.{Stack}
 use Rattle.nested_writer.specs.AtOnce.{with_written}
-use Rattle.nested_writer.specs.Promises.{WritesAbove}
+use Rattle.nested_writer.specs.Promises.{WritesWhatFitsAbove}
 use Rattle.ring_frames.specs.Value.{FramesValue}
 use Rattle.ring_frames.specs.Inside.{frames_in}
 use Rattle.ring_frames.specs.Steps.{IsFrames}
@@ -24,7 +24,7 @@ returns-clause-wrote c = λ is.
 
 -- whether or not it is written
 payloads : (v : FramesValue) (new : Stack) (moment : ℕ) (payload : List ℕ) (wrote : Wrote) → IsFrames v
-    → WritesAbove moment payload v.stack wrote new → (wrote ≡ Record → new ≡ with_written v.stack moment payload)
+    → WritesWhatFitsAbove moment payload v.stack wrote new → (wrote ≡ Record → new ≡ with_written v.stack moment payload)
     → KeepsPayloads v.stack new
 payloads v new moment payload Record are fits written =
     above_kept v new moment payload are (written refl) (fits.stack refl)
