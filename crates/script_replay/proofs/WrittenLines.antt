@@ -12,7 +12,7 @@ use Rattle.world_model.specs.Log.{log_of}
 use Rattle.log_text.specs.LogTypes.{shown_log}
 use Rattle.step_telling.specs.Known.{StepTextValue}
 use Rattle.script_replay.specs.Value.{LaneValue}
-use Rattle.script_replay.specs.Reports.{ReportsValue, Reported, AreTold}
+use Rattle.script_replay.specs.Reports.{ReportsValue, AreTold}
 use Rattle.script_replay.specs.Lanes.{IsLane, Happens}
 
 untold : (n size line cpu : ℕ) (before after : Core) (exchanges : List Exchange) (steps : Option StepTextValue)
