@@ -3,12 +3,18 @@
 import os
 import shutil
 import subprocess
+import sys
 import tempfile
 import zlib
 from pathlib import Path
 
 BENCH = Path(__file__).resolve().parent.parent
 TOP = BENCH.parent
+sys.path.insert(0, str(TOP / "tools"))
+from over_gate import NotBuilt, build_archive, build_program, kit
+
+# Set in the environment if programs are built over what the merge gate left in this checkout.
+OVER_GATE = "TRACERING_OVER_GATE"
 RUST_FLAGS = "--edition 2021 -C opt-level=3 -C codegen-units=1 -C panic=abort -C target-cpu=x86-64-v2".split()
 
 
@@ -81,13 +87,35 @@ def staging(name):
 
 
 def staged(name):
-    """Proves and builds the product's program or static library bench/programs/NAME, and answers what is built.
-
-    Its crate is made beside copies of the crates that it is built on. These are proved in this checkout first, which
-    keeps their proofs.
-    """
+    """Proves and builds the product's program or static library bench/programs/NAME, and answers what is built."""
     source, folder = BENCH / "programs" / name, staging(name)
     [(crate, line)] = crate_lines(source / "crate").items()
+    here = folder / "crates" / crate
+    for file in source.rglob("*.rattle"):
+        copied(file, here / "src" / f"{file.stem}.rt")
+    for file in source.rglob("*.proof"):
+        function, _, part = file.stem.partition(".")
+        copied(file, here / "proofs" / function / f"{part}.antt")
+    build = built_over_gate if os.environ.get(OVER_GATE) else built_beside_copies
+    try:
+        return build(folder, crate, line)
+    except NotBuilt as failure:
+        raise Failure(f"bench/programs/{name} isn't built\n{failure}") from failure
+
+
+def built_over_gate(folder, crate, line):
+    """Builds the crate over the libraries that the merge gate left in this checkout."""
+    head, _, named = line.partition(":")
+    here = folder / "crates" / crate
+    build, file = (build_archive, f"lib{crate}.a") if "staticlib" in head else (build_program, crate)
+    build(here, crate, named.split(), here / "out" / file)
+    return here / "out" / file
+
+
+def built_beside_copies(folder, crate, line):
+    """Builds the crate beside copies of those that it is built on. These are proved in this checkout first, which keeps
+    their proofs.
+    """
     crates = crate_lines(TOP / "crates.txt")
     lower_crates = dependencies(line, crates)
     for top in highest(lower_crates, crates):
@@ -100,11 +128,6 @@ def staged(name):
     (folder / "crates.txt").write_text("".join(f"{crates[lower]}\n" for lower in lower_crates) + f"{line}\n")
     shutil.copy(TOP / "HANDLES", folder)
     here = folder / "crates" / crate
-    for file in source.rglob("*.rattle"):
-        copied(file, here / "src" / f"{file.stem}.rt")
-    for file in source.rglob("*.proof"):
-        function, _, part = file.stem.partition(".")
-        copied(file, here / "proofs" / function / f"{part}.antt")
     if "staticlib" in line:
         call(["rt", "lib"], cwd=here)
         return here / "out" / f"lib{crate}.a"
@@ -113,7 +136,7 @@ def staged(name):
     # (This also runs the program, without a word and without input, so that its status says nothing.)
     _, output = tried(["rt", "run"], cwd=here)
     if not program.is_file():
-        raise Failure(f"bench/programs/{name} isn't built\n{output}")
+        raise NotBuilt(output)
     return program
 
 
@@ -139,8 +162,3 @@ def tracering():
     if not program.is_file():
         raise Failure(f"./tracering builds no program\n{output}")
     return program
-
-
-def kit():
-    """The kit's folder."""
-    return Path(subprocess.run(["rt", "doc"], stdout=subprocess.PIPE, text=True, check=True).stdout.strip()).parent
