@@ -52,7 +52,8 @@ impl Commands {
         self.len() == 0
     }
 
-    /// The command at this index, with the number of its line.
+    /// The command at this index, with the number of its line. It is inlined where its kind is matched.
+    #[inline(always)]
     pub fn line(&self, index: usize) -> ScriptLine<'_>
         requires { index < length self.now }
         ensures { slice_get self.now index ≡ Some (shown_line result) }

@@ -97,6 +97,7 @@ impl<'a> Lane<'a> {
     }
 
     /// Keeps what an answer of the reader brings, a body or a page. The answer says whether the take continues.
+    #[inline(always)]
     fn keep(&mut self, alloc: Global, cpu: CpuId, answer: Answer) -> Result<bool, NoMemory>
         requires { MayKeep cpu.0 answer }
         ensures { IfOk result (λ goes_on. Keeps cpu.0 answer goes_on self.old self.new) }
