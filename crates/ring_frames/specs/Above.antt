@@ -23,7 +23,8 @@ with_record_above v moment payload = record v { stack = with_written v.stack mom
 -- payload; its record, the next one, is reserved under this number; and it ends, with the payload and the zeros up to
 -- the end of its slot, and is popped. The frames of before are below it meanwhile, and are left. The frames after the
 -- steps are those of the last state.
-pub record IsWriteAboveAtOnce (n size start : ℕ) (c : Core) (moment : ℕ) (payload : List ℕ) (number : ℕ) (new : FramesValue)
+pub record IsWriteAboveAtOnce (n size start : ℕ) (c : Core) (moment : ℕ) (payload : List ℕ) (number : ℕ)
+    (new : FramesValue)
     : Type 0 where
   pub pushed : Core
   pub reserved : Core

@@ -24,7 +24,8 @@ returns-clause-wrote c = λ is.
 
 -- whether or not it is written
 payloads : (v : FramesValue) (new : Stack) (moment : ℕ) (payload : List ℕ) (wrote : Wrote) → IsFrames v
-    → WritesWhatFitsAbove moment payload v.stack wrote new → (wrote ≡ Record → new ≡ with_written v.stack moment payload)
+    → WritesWhatFitsAbove moment payload v.stack wrote new
+    → (wrote ≡ Record → new ≡ with_written v.stack moment payload)
     → KeepsPayloads v.stack new
 payloads v new moment payload Record are fits written =
     above_kept v new moment payload are (written refl) (fits.stack refl)
