@@ -5,6 +5,7 @@ the crate that it builds, and keeps its work in the crate's folder `out/over_gat
 """
 
 import subprocess
+from functools import cache
 from pathlib import Path
 
 TOP = Path(__file__).resolve().parent.parent
@@ -22,14 +23,15 @@ def read_uses():
 
 
 def below(uses, named):
-    """The crates of this repository that are among the named ones or below them."""
+    """The crates of this repository that are among the named ones or below them, the lowest first."""
     found = []
     for name in named:
         if name in uses:
-            found += [it for it in [name, *below(uses, uses[name])] if it not in found]
+            found += [it for it in [*below(uses, uses[name]), name] if it not in found]
     return found
 
 
+@cache
 def kit():
     """The kit's folder."""
     return Path(subprocess.run(["rt", "doc"], stdout=subprocess.PIPE, text=True, check=True).stdout.strip()).parent

@@ -11,7 +11,7 @@ from pathlib import Path
 BENCH = Path(__file__).resolve().parent.parent
 TOP = BENCH.parent
 sys.path.insert(0, str(TOP / "tools"))
-from over_gate import NotBuilt, build_archive, build_program, kit
+from over_gate import NotBuilt, below, build_archive, build_program, kit, read_uses
 
 # Set in the environment if programs are built over what the merge gate left in this checkout.
 OVER_GATE = "TRACERING_OVER_GATE"
@@ -57,19 +57,10 @@ def crate_lines(file):
     return {line.partition(":")[0].split()[0]: line for line in lines}
 
 
-def dependencies(line, crates):
-    """The crates of this repository that the crate of this line is built on, the lowest first."""
-    found = []
-    for name in line.partition(":")[2].split():
-        if name in crates:
-            found += [lower for lower in [*dependencies(crates[name], crates), name] if lower not in found]
-    return found
-
-
-def highest(names, crates):
+def highest(names, uses):
     """Those of these crates that no other one of them is built on: with each, the kit proves all that are below it."""
-    below = {name for crate in names for name in crates[crate].partition(":")[2].split()}
-    return [name for name in names if name not in below]
+    used = {name for crate in names for name in uses[crate]}
+    return [name for name in names if name not in used]
 
 
 def staging(name):
@@ -116,9 +107,9 @@ def built_beside_copies(folder, crate, line):
     """Builds the crate beside copies of those that it is built on. These are proved in this checkout first, which keeps
     their proofs.
     """
-    crates = crate_lines(TOP / "crates.txt")
-    lower_crates = dependencies(line, crates)
-    for top in highest(lower_crates, crates):
+    crates, uses = crate_lines(TOP / "crates.txt"), read_uses()
+    lower_crates = below(uses, line.partition(":")[2].split())
+    for top in highest(lower_crates, uses):
         call(["rt", "lib"], cwd=TOP / "crates" / top)
     for lower in lower_crates:
         for part in ("src", "specs", "proofs"):
@@ -162,3 +153,11 @@ def tracering():
     if not program.is_file():
         raise Failure(f"./tracering builds no program\n{output}")
     return program
+
+
+def is_fresh(archive):
+    """Whether the program and, after it, this library were built from the sources as they are."""
+    # (A program that isn't fresh would be taken from here, where none is.)
+    status, _ = tried([TOP / "tracering", "dump"], env=os.environ | {"TRACERING_BUILT": "/dev/null/none"})
+    built_from = TOP / "crates/trace_cli/out/tracering.sources"
+    return status != 127 and built_from.stat().st_mtime <= archive.stat().st_mtime
