@@ -7,3 +7,4 @@ pub mod PrivateCommutes
 pub mod FrameEnds
 pub mod WriterEnds
 pub mod TakeEnds
+pub mod FewSteps

@@ -2,14 +2,15 @@
 -- and below which fill all are passed. Each of its steps before it has reserved, or after it has left,
 -- lowers this number, whatever a reader does in between.
 -- docs/FORMATS.md, "Writer frames".
-use Rattle.std.specs.Prelude.{◌≡◌, ◌≢◌, ℕ, ◌+◌, ◌-◌, ◌*◌, ◌<◌, ◌≤◌, nat_lt, if◌then◌else◌, List, [], ◌∷◌, length, None}
+use Rattle.std.specs.Prelude.{◌≡◌, ◌≢◌, ℕ, ⊤, ◌+◌, ◌-◌, ◌*◌, ◌<◌, ◌≤◌, nat_lt, if◌then◌else◌, List, [], ◌∷◌, length, None}
 use Rattle.trace_model.specs.History.{HistoryEvent, Reservation}
 use Rattle.trace_model.specs.Packing.{tail_of}
 use Rattle.trace_model.specs.Links.{header_link}
 use Rattle.trace_model.specs.Frames.{Progress, waiting, reserved, left, number_of, Phase, idle, looking, claiming}
 use Rattle.trace_model.specs.Frames.{looking_next, marking, clearing, opening, releasing, wishing, Frame}
 use Rattle.trace_model.specs.Ring.{link_into, Core}
-use Rattle.trace_model.specs.Steps.{steps, Answer, Step}
+use Rattle.trace_model.specs.declared.limits.TheConstants.{MAX_PAGES}
+use Rattle.trace_model.specs.Steps.{Event, pushes, pushes_close, steps, ends, reads, wishes, Answer, Step, Exchange}
 use Rattle.ring_model.specs.Ranks.{state_rank, late_rank, frame_limit}
 use Rattle.ring_model.specs.Reached.{IsReached}
 use Rattle.ring_model.specs.RingKept.{IsRingKept}
@@ -86,3 +87,47 @@ ClaimsFailOnceTheHeadMoved = (n size start : ℕ) (c : Core) (frame : Frame) (be
     → lost + n ≡ noted
     → link_into n c.links noted ≢ header_link page lost
     → lost < c.head
+
+-- ---- how many steps a frame makes in a run
+
+-- what may come next: a step of the frame on top, which hasn't reserved, or an event of the reader
+abbrev pub MayComeNext : Core → Event → Type 0
+MayComeNext c (pushes moment len) = ⊥
+MayComeNext c pushes_close = ⊥
+MayComeNext c steps =
+    (frame : Frame) × (below : List Frame) × (c.frames ≡ frame ∷ below) × (number_of frame.state ≡ None)
+MayComeNext c (ends payload) = ⊥
+MayComeNext c reads = ⊤
+MayComeNext c wishes = ⊤
+
+-- A run in which one frame makes steps, stays on the stack and doesn't reserve but by the last of them, and the reader
+-- does whatever it does in between.
+abbrev pub FrameRunsOn : (n size : ℕ) → Core → List Exchange → Core → Type 0
+FrameRunsOn n size before [] after = before ≡ after
+FrameRunsOn n size before (x ∷ exchanges) after =
+    MayComeNext before x.event
+    × (between : Core)
+    × Step n size before x.event x.answer between
+    × (length between.frames ≡ length before.frames)
+    × FrameRunsOn n size between exchanges after
+
+-- how many of them are the frame's
+abbrev pub own_step : Event → ℕ
+own_step (pushes moment len) = 0
+own_step pushes_close = 0
+own_step steps = 1
+own_step (ends payload) = 0
+own_step reads = 0
+own_step wishes = 0
+
+abbrev pub own_steps : List Exchange → ℕ
+own_steps [] = 0
+own_steps (x ∷ exchanges) = own_step x.event + own_steps exchanges
+
+-- Whatever the reader does in between, they are at most 3N + 52.
+abbrev pub FramesMakeFewSteps : Type 0
+FramesMakeFewSteps = (n size start : ℕ) (c : Core) (exchanges : List Exchange) (after : Core)
+    → n ≤ MAX_PAGES
+    → IsReached n size start c
+    → FrameRunsOn n size c exchanges after
+    → own_steps exchanges ≤ frame_limit n

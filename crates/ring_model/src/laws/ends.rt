@@ -2,7 +2,7 @@
 ghost use Rattle.ring_model.specs.FrameOutcomes.{FramesLeave, FramesReserve};
 ghost use Rattle.ring_model.specs.Ranks.{EndsComeToAnEnd, FramesAreNearTheirEnd, StepsComeToAnEnd};
 ghost use Rattle.ring_model.specs.Ranks.{TakesAreNearTheirAnswer, TakesComeToAnAnswer};
-ghost use Rattle.ring_model.specs.WriterRanks.{WriterStepsComeToAnEnd, WritersAreNearTheirEnd};
+ghost use Rattle.ring_model.specs.WriterRanks.{FramesMakeFewSteps, WriterStepsComeToAnEnd, WritersAreNearTheirEnd};
 
 /// A frame that nothing interrupts is gone in the end: each step of a frame that hasn't reserved, and each end, after
 /// which it is still on the stack lowers a number (`frame_rank`), which is at most 3N + 52 in a ring of N pages.
@@ -31,4 +31,9 @@ pub fn frames_reserve_or_leave()
 pub fn writers_come_to_an_end()
     ensures steps { WriterStepsComeToAnEnd }
     ensures near { WritersAreNearTheirEnd }
+{}
+
+/// A frame makes at most 3N + 52 steps in a run until it has reserved or is gone, whatever the reader does in between.
+pub fn frames_make_few_steps()
+    ensures few { FramesMakeFewSteps }
 {}
