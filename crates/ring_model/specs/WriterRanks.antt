@@ -72,6 +72,17 @@ WriterStepsComeToAnEnd = (n size start : ℕ) (c : Core) (frame : Frame) (below 
     → ((noted page : ℕ) → frame.phase ≡ claiming noted page → noted ≡ c.opened → noted < knows + n)
     → rank_in n knows after < rank_in n passed c
 
+-- So it is where its record is ended.
+abbrev pub WriterEndsComeToAnEnd : Type 0
+WriterEndsComeToAnEnd = (n size start : ℕ) (c : Core) (frame : Frame) (below : List Frame) (number : ℕ)
+    (payload : List ℕ) (answer : Answer) (after : Core) (passed knows : ℕ)
+    → IsRingKept n size start c
+    → c.frames ≡ frame ∷ below
+    → frame.state ≡ reserved number
+    → Step n size c (ends payload) answer after
+    → length after.frames ≡ length c.frames
+    → rank_in n knows after < rank_in n passed c
+
 abbrev pub WritersAreNearTheirEnd : Type 0
 WritersAreNearTheirEnd = (n size start passed : ℕ) (c : Core)
     → IsRingKept n size start c
@@ -90,18 +101,19 @@ ClaimsFailOnceTheHeadMoved = (n size start : ℕ) (c : Core) (frame : Frame) (be
 
 -- ---- how many steps a frame makes in a run
 
--- what may come next: a step of the frame on top, which hasn't reserved, or an event of the reader
+-- what may come next: a step of the frame on top, which hasn't reserved; its end, if it has; or an event of the reader
 abbrev pub MayComeNext : Core → Event → Type 0
 MayComeNext c (pushes moment len) = ⊥
 MayComeNext c pushes_close = ⊥
 MayComeNext c steps =
     (frame : Frame) × (below : List Frame) × (c.frames ≡ frame ∷ below) × (number_of frame.state ≡ None)
-MayComeNext c (ends payload) = ⊥
+MayComeNext c (ends payload) =
+    (frame : Frame) × (below : List Frame) × (number : ℕ) × (c.frames ≡ frame ∷ below) × (frame.state ≡ reserved number)
 MayComeNext c reads = ⊤
 MayComeNext c wishes = ⊤
 
--- A run in which one frame makes steps, stays on the stack and doesn't reserve but by the last of them, and the reader
--- does whatever it does in between.
+-- A run in which one frame makes steps, its record's end among them, and stays on the stack, and the reader does
+-- whatever it does in between.
 abbrev pub FrameRunsOn : (n size : ℕ) → Core → List Exchange → Core → Type 0
 FrameRunsOn n size before [] after = before ≡ after
 FrameRunsOn n size before (x ∷ exchanges) after =
@@ -116,7 +128,7 @@ abbrev pub own_step : Event → ℕ
 own_step (pushes moment len) = 0
 own_step pushes_close = 0
 own_step steps = 1
-own_step (ends payload) = 0
+own_step (ends payload) = 1
 own_step reads = 0
 own_step wishes = 0
 

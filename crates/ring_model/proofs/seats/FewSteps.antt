@@ -23,7 +23,7 @@ use Rattle.ring_model.proofs.partition.RingsKept.{reached_kept, reached_further}
 use Rattle.ring_model.proofs.histories.StepsAsEvents.{counts_rise}
 use Rattle.ring_model.proofs.links.SeenLinks.{frames_have_seen_links, claims_fail_once_the_head_moved}
 use Rattle.ring_model.proofs.seats.SeatSteps.{reader_leaves_writer}
-use Rattle.ring_model.proofs.seats.WriterEnds.{writer_steps_lower, writers_near}
+use Rattle.ring_model.proofs.seats.WriterEnds.{writer_steps_lower, writer_ends_lower, writers_near}
 
 -- ---- who knows more fills to be passed is no further from the end
 
@@ -106,7 +106,8 @@ module _ (n size start : ℕ) (c : Core) (few : n ≤ MAX_PAGES) (reached : IsRe
       ∙ ap (λ (f : List Frame). writer_rank n after.head c.done c.opened c.history f) s.frames)) in
       omega arith
 
-  one_lower : (event : Event) (answer : Answer) (after : Core) → MayComeNext c event
+  -- a step of the frame lowers its rank by one at least, and one of the reader doesn't raise it
+  pub one_lower : (event : Event) (answer : Answer) (after : Core) → MayComeNext c event
       → Step n size c event answer after → length after.frames ≡ length c.frames
       → own_step event + rank_in n after.head after ≤ rank_in n c.head c
   one_lower (pushes moment len) answer after may step stays = absurd may
@@ -118,7 +119,10 @@ module _ (n size start : ℕ) (c : Core) (few : n ≤ MAX_PAGES) (reached : IsRe
       (λ noted page at now. claimed frame below top answer after noted page at now
       (top_step frame below (claiming noted page) top at step)) in
       omega arith
-  one_lower (ends payload) answer after may step stays = absurd may
+  one_lower (ends payload) answer after (frame, below, number, top, own) step stays =
+      let low =
+      writer_ends_lower n size start c frame below number payload answer after c.head after.head kept top own step stays in
+      omega arith
   one_lower reads answer after may step stays = let low = reads_none reads answer after tt step in omega arith
   one_lower wishes answer after may step stays = let low = reads_none wishes answer after tt step in omega arith
 
