@@ -9,7 +9,6 @@ use Rattle.trace_model.specs.Links.{header_link}
 use Rattle.trace_model.specs.Frames.{Progress, waiting, reserved, left, number_of, Phase, idle, looking, claiming}
 use Rattle.trace_model.specs.Frames.{looking_next, marking, clearing, opening, releasing, wishing, Frame}
 use Rattle.trace_model.specs.Ring.{link_into, Core}
-use Rattle.trace_model.specs.declared.limits.TheConstants.{MAX_PAGES}
 use Rattle.trace_model.specs.Steps.{Event, pushes, pushes_close, steps, ends, reads, wishes, Answer, Step, Exchange}
 use Rattle.ring_model.specs.Ranks.{state_rank, late_rank, frame_limit}
 use Rattle.ring_model.specs.Reached.{IsReached}
@@ -139,7 +138,6 @@ own_steps (x ∷ exchanges) = own_step x.event + own_steps exchanges
 -- Whatever the reader does in between, they are at most 3N + 52.
 abbrev pub FramesMakeFewSteps : Type 0
 FramesMakeFewSteps = (n size start : ℕ) (c : Core) (exchanges : List Exchange) (after : Core)
-    → n ≤ MAX_PAGES
     → IsReached n size start c
     → FrameRunsOn n size c exchanges after
     → own_steps exchanges ≤ frame_limit n
