@@ -38,6 +38,8 @@ pub mod TopsDo
 -- whole scripts have one account
 pub mod OneAccount
 pub mod OneText
+-- what is printed of the log
+pub mod LogLines
 -- what an account is
 pub mod AccountWindows
 pub mod NestedFrames

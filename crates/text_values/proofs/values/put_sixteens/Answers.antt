@@ -1,0 +1,13 @@
+use Rattle.std.proofs.Common.{◌++◌, ap, List, ℕ, ◌∙◌}
+use Rattle.text_values.proofs.Behind.{behind_put}
+use Rattle.text_values.proofs.Hexadecimal.{part_and_rest, part_more}
+use Rattle.text_values.proofs.values.put_sixteens.Goals as goal
+
+pub loop-part-preserved : goal.loop-part-preserved
+loop-part-preserved c =
+    let put = c.in_ok-extend_from_slice.ensures.items ∙ ap (λ (ds : List ℕ). c.loop-part.out.items ++ ds) c.sixteen_pairs.ensures in
+    let cut = c.in-Some.ensures.cases in
+    record {
+      text = part_more _ _ _ _ _ _ (part_and_rest c.loop-part.left.now _ _ 16 cut.0 cut.1) c.loop-part.invariant.text put;
+      behind = behind_put _ _ _ _ c.loop-part.invariant.behind put;
+    }
