@@ -4,7 +4,7 @@ use ring_steps::{ReaderSeat, WriterSeat, seats, settle};
 use std::test::Fail;
 use trace_model::FillNo;
 
-/// A record is noted, and each seat makes steps; both are joined then.
+/// A record and a close frame are noted, and each seat makes steps; both are joined then.
 #[test]
 fn both_seats_of_a_new_ring_make_steps(rt: HostRuntime) -> Result<(), Fail> {
     let (mut writer, mut reader): (WriterSeat, ReaderSeat) = seats(rt.alloc(), 2, 32)?;
@@ -14,6 +14,7 @@ fn both_seats_of_a_new_ring_make_steps(rt: HostRuntime) -> Result<(), Fail> {
     writer.note_step();
     writer.note_end(&[1, 2, 3, 4]);
     assert!(rt; writer.load_wish() == 0);
+    writer.note_close();
     reader.store_wish(FillNo(0));
     settle(writer, reader);
     Ok(())

@@ -78,7 +78,13 @@ fn a_page_of_nested_records_is_closed(rt: HostRuntime) -> Result<(), Fail> {
     let mut stack = WriterStack::new(rt.alloc(), 2, 32)?;
     write_nested(&rt, &mut stack)?;
     let front = close_asked(&rt, rt.alloc(), &mut stack)?;
-    compare(&rt, &front, 0, 0, b"\x01\0\0\x001234\xa1\0\0\0aaaa\x41\x01\0\0bbbb");
+    compare(
+        &rt,
+        &front,
+        0,
+        0,
+        b"\x01\0\0\x001234\xa1\0\0\0aaaa\x41\x01\0\0bbbb",
+    );
     stack.pop_bottom();
     compare(&rt, &stack.into_tail(), 1, 3, b"");
     Ok(())

@@ -1,9 +1,9 @@
 //! What is answered, as text.
 use crate::collectors::calls::Answer;
+use crate::words::put_bytes;
 use collector::Added;
 use page_image::{Image, Missed};
 use page_numbers::Parcel;
-use crate::words::put_bytes;
 use std::alloc::Global;
 use trace_model::NoMemory;
 

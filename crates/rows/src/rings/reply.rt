@@ -1,10 +1,10 @@
 //! What is answered, as text.
+use crate::words::put_hex;
 use link_marks::{Link, Mark};
 use nested_writer::{Ended, WriteFault};
 use page_borrow::records;
 use page_image::Page;
 use ring_frames::Answer;
-use crate::words::put_hex;
 use std::alloc::Global;
 use trace_model::{LINK_FILLS, LINK_PAGES, NoMemory};
 

@@ -1,6 +1,6 @@
 //! The lines of the text that ask something of a ring.
-use link_marks::{Link, Mark};
 use crate::words::{hex_bytes, number};
+use link_marks::{Link, Mark};
 use std::alloc::Global;
 use std::str::SplitWhitespace;
 use trace_model::{LINK_FILLS, MAX_PAGES, MAX_SIZE, MIN_PAGES, MIN_SIZE, NoMemory, START_FILL};
