@@ -26,6 +26,7 @@ pub mod RunCalls
 pub mod ReplayedLines
 -- a ring beside an account
 pub mod Standing
+pub mod TakesCounted
 -- what the frame on top does
 pub mod WishesKept
 pub mod DueRuns
@@ -46,6 +47,7 @@ pub mod NestedFrames
 -- worlds have accounts
 pub mod StandingKept
 pub mod ReaderLines
+pub mod CountedTakes
 pub mod ReaderStands
 pub mod PushCases
 pub mod RecordsStand
