@@ -21,3 +21,9 @@ pub returns-in-len8-up-clause-behind : goal.returns-in-len8-up-clause-behind
 returns-in-len8-up-clause-behind c =
     behind_behind c.args.out.now.items c.extend_from_slice.new.self.items c.put_few.new.out.items
     (_, c.in_ok-extend_from_slice.ensures.items) c.put_few.ensures.behind
+
+pub returns-clause-text : goal.returns-clause-text
+returns-clause-text c = c.put_few-2.ensures.text
+
+pub returns-clause-behind : goal.returns-clause-behind
+returns-clause-behind c = c.put_few-2.ensures.behind

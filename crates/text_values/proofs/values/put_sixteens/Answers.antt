@@ -5,9 +5,11 @@ use Rattle.text_values.proofs.values.put_sixteens.Goals as goal
 
 pub loop-part-preserved : goal.loop-part-preserved
 loop-part-preserved c =
-    let put = c.in_ok-extend_from_slice.ensures.items ∙ ap (λ (ds : List ℕ). c.loop-part.out.items ++ ds) c.sixteen_pairs.ensures in
+    let before = c.loop-part.invariant in
     let cut = c.in-Some.ensures.cases in
+    let put = c.in_ok-extend_from_slice.ensures.items
+    ∙ ap (λ (digits : List ℕ). c.loop-part.out.items ++ digits) c.sixteen_pairs.ensures in
     record {
-      text = part_more _ _ _ _ _ _ (part_and_rest c.loop-part.left.now _ _ 16 cut.0 cut.1) c.loop-part.invariant.text put;
-      behind = behind_put _ _ _ _ c.loop-part.invariant.behind put;
+      text = part_more _ _ _ _ _ _ (part_and_rest c.loop-part.left.now _ _ 16 cut.0 cut.1) before.text put;
+      behind = behind_put _ _ _ _ before.behind put;
     }
