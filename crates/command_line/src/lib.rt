@@ -9,6 +9,6 @@ mod recover;
 mod words;
 
 pub use call::{Call, CallFault, CollectCall, CpuFile, RecoverCall};
-pub use given::{given_call, given_words};
+pub use given::given_call;
 pub use parse::call_of;
 pub use words::{DEFAULT_PAGE, MAX_FILES, MAX_PAGE, MIN_PAGE};

@@ -17,7 +17,8 @@ use crate::answer::answer_to;
 use crate::choose::collect;
 use crate::recover::recover;
 use command_io::{Std, message_for};
-use command_line::{Call, given_call, given_words};
+use command_line::{Call, given_call};
+use process_words::given_words;
 use std::process::ExitCode;
 
 // What is chosen here, `answer_to` and `message_for` say, and of `collect` and `recover` the functions that these call.
