@@ -21,6 +21,8 @@ mod pages;
 #[cfg(test)]
 mod parcels;
 #[cfg(test)]
+mod receipts;
+#[cfg(test)]
 mod scripts;
 #[cfg(test)]
 mod stack;
