@@ -9,7 +9,6 @@ use Rattle.trace_model.specs.Links.{header_link}
 use Rattle.trace_model.specs.Frames.{Progress, waiting, reserved, left, number_of, Phase, idle, looking, claiming}
 use Rattle.trace_model.specs.Frames.{looking_next, marking, clearing, opening, releasing, wishing, Frame}
 use Rattle.trace_model.specs.Ring.{link_into, Core}
-use Rattle.trace_model.specs.declared.limits.TheConstants.{MAX_PAGES}
 use Rattle.trace_model.specs.Steps.{Event, pushes, pushes_close, steps, ends, reads, wishes, Answer, Step, Exchange}
 use Rattle.ring_model.specs.Ranks.{state_rank, late_rank, frame_limit}
 use Rattle.ring_model.specs.Reached.{IsReached}
@@ -72,6 +71,17 @@ WriterStepsComeToAnEnd = (n size start : ℕ) (c : Core) (frame : Frame) (below 
     → ((noted page : ℕ) → frame.phase ≡ claiming noted page → noted ≡ c.opened → noted < knows + n)
     → rank_in n knows after < rank_in n passed c
 
+-- So it is where its record is ended.
+abbrev pub WriterEndsComeToAnEnd : Type 0
+WriterEndsComeToAnEnd = (n size start : ℕ) (c : Core) (frame : Frame) (below : List Frame) (number : ℕ)
+    (payload : List ℕ) (answer : Answer) (after : Core) (passed knows : ℕ)
+    → IsRingKept n size start c
+    → c.frames ≡ frame ∷ below
+    → frame.state ≡ reserved number
+    → Step n size c (ends payload) answer after
+    → length after.frames ≡ length c.frames
+    → rank_in n knows after < rank_in n passed c
+
 abbrev pub WritersAreNearTheirEnd : Type 0
 WritersAreNearTheirEnd = (n size start passed : ℕ) (c : Core)
     → IsRingKept n size start c
@@ -90,18 +100,19 @@ ClaimsFailOnceTheHeadMoved = (n size start : ℕ) (c : Core) (frame : Frame) (be
 
 -- ---- how many steps a frame makes in a run
 
--- what may come next: a step of the frame on top, which hasn't reserved, or an event of the reader
+-- what may come next: a step of the frame on top, which hasn't reserved; its end, if it has; or an event of the reader
 abbrev pub MayComeNext : Core → Event → Type 0
 MayComeNext c (pushes moment len) = ⊥
 MayComeNext c pushes_close = ⊥
 MayComeNext c steps =
     (frame : Frame) × (below : List Frame) × (c.frames ≡ frame ∷ below) × (number_of frame.state ≡ None)
-MayComeNext c (ends payload) = ⊥
+MayComeNext c (ends payload) =
+    (frame : Frame) × (below : List Frame) × (number : ℕ) × (c.frames ≡ frame ∷ below) × (frame.state ≡ reserved number)
 MayComeNext c reads = ⊤
 MayComeNext c wishes = ⊤
 
--- A run in which one frame makes steps, stays on the stack and doesn't reserve but by the last of them, and the reader
--- does whatever it does in between.
+-- A run in which one frame makes steps, its record's end among them, and stays on the stack, and the reader does
+-- whatever it does in between.
 abbrev pub FrameRunsOn : (n size : ℕ) → Core → List Exchange → Core → Type 0
 FrameRunsOn n size before [] after = before ≡ after
 FrameRunsOn n size before (x ∷ exchanges) after =
@@ -116,7 +127,7 @@ abbrev pub own_step : Event → ℕ
 own_step (pushes moment len) = 0
 own_step pushes_close = 0
 own_step steps = 1
-own_step (ends payload) = 0
+own_step (ends payload) = 1
 own_step reads = 0
 own_step wishes = 0
 
@@ -127,7 +138,6 @@ own_steps (x ∷ exchanges) = own_step x.event + own_steps exchanges
 -- Whatever the reader does in between, they are at most 3N + 52.
 abbrev pub FramesMakeFewSteps : Type 0
 FramesMakeFewSteps = (n size start : ℕ) (c : Core) (exchanges : List Exchange) (after : Core)
-    → n ≤ MAX_PAGES
     → IsReached n size start c
     → FrameRunsOn n size c exchanges after
     → own_steps exchanges ≤ frame_limit n

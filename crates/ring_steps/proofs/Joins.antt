@@ -11,7 +11,7 @@ use Rattle.ring_steps.specs.Views.{Writing, writing_of, Reading, SeatView, laid,
 use Rattle.ring_steps.specs.Views.{passed, reading, AreReceipts, AreSeated, settled}
 use Rattle.ring_steps.specs.Shown.{AreWords, IsReading, Shows}
 use Rattle.ring_steps.specs.Words.{done_word}
-use Rattle.ring_steps.specs.Seats.{SeatState, AreParts}
+use Rattle.ring_steps.specs.Seats.{SeatState, without_slot, AreParts}
 use Rattle.ring_steps.proofs.Placed.{writer_at, joined_at}
 use Rattle.ring_steps.proofs.InTime.{receipt_at}
 
@@ -99,3 +99,22 @@ looks shape slots id me is s h deep at range =
         },
       ),
     )
+
+-- whether the reader has the spare's slot is no part of the state
+pub parts_with_slot : (shape : Shape) (w : Writing) (r : Reading) → AreParts shape w (without_slot r)
+    → AreParts shape w r
+parts_with_slot shape w r p = record {
+  core = p.core;
+  reached = p.reached;
+  writing_is = p.writing_is;
+  reading_is = record {
+    order_is = p.reading_is.order_is;
+    spare_is = p.reading_is.spare_is;
+    spare_link_is = p.reading_is.spare_link_is;
+    reader_is = p.reading_is.reader_is;
+    wish_is = p.reading_is.wish_is;
+    observed_is = p.reading_is.observed_is;
+  };
+  reader_made_is = p.reader_made_is;
+  in_time = p.in_time;
+}

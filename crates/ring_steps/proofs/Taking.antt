@@ -36,7 +36,7 @@ use Rattle.ring_steps.specs.Made.{writer_made_of}
 use Rattle.ring_steps.specs.Views.{Reading, reading_after, reading, reads}
 use Rattle.ring_steps.specs.Shown.{page_before, AreWords, Homes, AreHomes, IsReading}
 use Rattle.ring_steps.specs.Words.{opened_word, done_word, wish_word, page_word}
-use Rattle.ring_steps.specs.Seats.{SeatState, kept_slots, IsSeatOfReader}
+use Rattle.ring_steps.specs.Seats.{SeatState, kept_slots, IsSeatOfReader, without_slot}
 use Rattle.ring_steps.specs.Taking.{ReadReported, SeatReported, IsWordInto}
 use Rattle.ring_steps.proofs.Made.{reached_on, writer_same, reader_then}
 use Rattle.ring_steps.proofs.Allowing.{IsShownBy, ReaderMoves}
@@ -386,3 +386,45 @@ module _ (shape : Shape) (me : SeatState) (is : IsSeatOfReader me) (c : Core) (w
       s.are_homes (λ e. absurd (cc)))
       (λ reported.
       (record { view = refl; hand = ap (λ (l : List (ℕ × Option Contents)). (c.spare, None) ∷ l) none }, reported))
+
+  -- a word is loaded, and the spare's slot is put home: no step of the model
+  pub gives_back : (i : ℕ)
+      → ReaderMoves shape c (writer_made_of s.reached) me ws homes i (λ k. k)
+      (λ _ after. after ≡ (reads (without_slot (reading me.0)), []))
+  gives_back i =
+      let k = kept shape me c ws homes s in let some_pages = some_position shape me c ws homes s in
+      let b : Bool = (reading me.0).keeps_spare in
+      let hand : me.1 ≡ kept_slots b c.spare = is.hand ∙ ap (kept_slots b) s.is_reading.spare_is in
+      let given : AreHomes shape.pages shape.size c (reading_of c false) (put_back homes me.1) =
+      subst
+      (λ (l : List (ℕ × Option Contents)).
+      AreHomes shape.pages shape.size c (reading_of c false) (put_back homes l)) (sym hand)
+      (homes_given shape.pages shape.size c (reading me.0) homes c.reader c.spare_link b some_pages k.links.apart
+      s.are_homes s.are_homes.spare) in
+      record {
+        next = c;
+        after = without_slot (reading me.0);
+        act = gives;
+        valid = tt;
+        shown = record {
+          pages_fit = s.pages_fit;
+          reached = s.reached;
+          are_words = subst (AreWords shape.pages c) (sym (set-get_or ws i 0)) s.are_words;
+          are_homes = record { count = given.count; closed = given.closed; free = given.free; spare = given.spare };
+          is_reading = record {
+            order_is = s.is_reading.order_is;
+            spare_is = s.is_reading.spare_is;
+            spare_link_is = s.is_reading.spare_link_is;
+            reader_is = s.is_reading.reader_is;
+            wish_is = s.is_reading.wish_is;
+            observed_is = s.is_reading.observed_is;
+          };
+          reader_made_is = s.reader_made_is;
+          in_time = s.in_time;
+        };
+        writer_is = refl;
+        head_le = omega arith;
+        reported =
+            ap (λ (l : List (ℕ × Option Contents)). (reads (without_slot (reading me.0)), l))
+            (ap rest hand ∙ nothing_left b c.spare);
+      }

@@ -53,6 +53,10 @@ pub record IsSeatOfReader (me : SeatState) : Type 0 where
   pub view : me.0 ≡ reads (reading me.0)
   pub hand : me.1 ≡ kept_slots (reading me.0).keeps_spare (reading me.0).spare
 
+-- the reader's part, without that slot
+abbrev pub without_slot : Reading → Reading
+without_slot r = record r { keeps_spare = false }
+
 -- a receipt's seat has no slot
 pub record IsSeatOfReceipt (me : SeatState) : Type 0 where
   pub view : me.0 ≡ saw (made_seen me.0)

@@ -1,9 +1,9 @@
 //! The two seats of a ring, joined at its end.
-ghost use Rattle.std.specs.Prelude.{◌≡◌, false};
+ghost use Rattle.std.specs.Prelude.{◌≡◌};
 ghost use Rattle.ring_steps.specs.Views.{writing, reading, joined};
-ghost use Rattle.ring_steps.specs.Seats.{IsTableOf, AreParts};
+ghost use Rattle.ring_steps.specs.Seats.{IsTableOf, without_slot, AreParts};
 ghost use Rattle.ring_steps.specs.Ends.{writing_in, reading_in, writing_settled, reading_settled, writer_table};
-ghost use Rattle.ring_steps.specs.Ends.{reader_table};
+ghost use Rattle.ring_steps.specs.Ends.{reader_table, SameReaderSeat};
 
 use crate::ends::{ReaderSeat, WriterSeat};
 use crate::ghost_part::GhostPart;
@@ -52,16 +52,27 @@ impl fmt::Debug for SettledSeats {
     }
 }
 
-/// Joins the two seats of a ring, and loads once how many fills are closed. So what both know are the parts of one
-/// state that the ring reached. The reader has no slot then: it hasn't stored its spare's link, or has loaded a
-/// link since.
+impl ReaderSeat {
+    /// A load of the number of closed fills, by which the spare's slot is put home, if the reader has it. Nothing else
+    /// of its part changes, and the model has no such step.
+    fn give_back_slot(&mut self)
+        ensures same { SameReaderSeat self.old self.new }
+        ensures part { reading_in self.new ≡ without_slot (reading_in self.old) }
+    {
+        load::<Brand, _>(&self.board, self.shape, &mut self.seat, Word::Done, &());
+    }
+}
+
+/// Joins the two seats of a ring at any moment, and loads once how many fills are closed. So what both know are the
+/// parts of one state that the ring reached. If the reader has the spare's slot, it gives that back first.
 pub fn settle(writer: WriterSeat, reader: ReaderSeat) -> SettledSeats
     requires one_table { reader_table reader ≡ writer_table writer }
-    requires no_slot { (reading_in reader).keeps_spare ≡ false }
     ensures writing { writing_settled result ≡ writing_in writer }
-    ensures reading { reading_settled result ≡ reading_in reader }
+    ensures reading { reading_settled result ≡ without_slot (reading_in reader) }
     ensures parts { AreParts writer.shape (writing_in writer) (reading_in reader) }
 {
+    let mut reader = reader;
+    reader.give_back_slot();
     writer.recall();
     let WriterSeat {
         board,

@@ -1,12 +1,11 @@
 -- A frame makes few steps in a run, whatever the reader does in between: each lowers its rank, and the reader none.
-use Rattle.std.proofs.Common.{◌≡◌, ◌≢◌, ℕ, ◌+◌, ◌-◌, ◌*◌, ◌<◌, ◌≤◌, Bool, true, List, [], ◌∷◌, length, None, refl, ap}
-use Rattle.std.proofs.Common.{◌∙◌, subst, arith}
+use Rattle.std.proofs.Common.{◌≡◌, ℕ, ◌+◌, ◌-◌, ◌<◌, ◌≤◌, Bool, List, [], ◌∷◌, length, refl, ap}
+use Rattle.std.proofs.Common.{◌∙◌, arith, inl, inr}
 use Rattle.std.specs.Prelude.{if◌then◌else◌, nat_lt}
-use Rattle.std.proofs.lemmas.Bool.{cond_both, lt-ltb, ltb-true}
-use Rattle.trace_model.specs.declared.limits.TheConstants.{MAX_PAGES}
+use Rattle.std.proofs.lemmas.Bool.{cond_both, cases_lt, lt-ltb, ltb-true}
 use Rattle.trace_model.specs.History.{HistoryEvent}
 use Rattle.trace_model.specs.Frames.{Progress, Phase, idle, looking, claiming, looking_next, marking, clearing, opening}
-use Rattle.trace_model.specs.Frames.{releasing, wishing, Frame, number_of}
+use Rattle.trace_model.specs.Frames.{releasing, wishing, Frame}
 use Rattle.trace_model.specs.Ring.{Core}
 use Rattle.trace_model.specs.Steps.{Event, pushes, pushes_close, steps, ends, reads, wishes, Answer, Step, Exchange}
 use Rattle.trace_model.proofs.steps.StepCases.{ClaimHeadStep, claim_late, claims, claim_fails}
@@ -14,16 +13,14 @@ use Rattle.trace_model.proofs.steps.StepSound.{cases_of}
 use Rattle.trace_model.proofs.steps.EventSteps.{top_step}
 use Rattle.ring_model.specs.Reached.{IsReached}
 use Rattle.ring_model.specs.RingKept.{IsRingKept}
-use Rattle.ring_model.specs.SeenLinks.{HasSeenLink, HaveSeenLinks}
-use Rattle.ring_model.specs.Seats.{IsOfReader, WriterStays}
-use Rattle.ring_model.specs.Ranks.{frame_limit}
+use Rattle.ring_model.specs.Seats.{IsOfReader}
 use Rattle.ring_model.specs.WriterRanks.{look_rank, own_rank, writer_rank, rank_in, MayComeNext, FrameRunsOn, own_step}
 use Rattle.ring_model.specs.WriterRanks.{own_steps, FramesMakeFewSteps}
 use Rattle.ring_model.proofs.partition.RingsKept.{reached_kept, reached_further}
 use Rattle.ring_model.proofs.histories.StepsAsEvents.{counts_rise}
-use Rattle.ring_model.proofs.links.SeenLinks.{frames_have_seen_links, claims_fail_once_the_head_moved}
+use Rattle.ring_model.proofs.links.SeenLinks.{claims_fail_once_the_head_moved}
 use Rattle.ring_model.proofs.seats.SeatSteps.{reader_leaves_writer}
-use Rattle.ring_model.proofs.seats.WriterEnds.{writer_steps_lower, writers_near}
+use Rattle.ring_model.proofs.seats.WriterEnds.{writer_steps_lower, writer_ends_lower, writers_near}
 
 -- ---- who knows more fills to be passed is no further from the end
 
@@ -64,7 +61,7 @@ writer_falls n passed knows done opened history (frame ∷ below) less =
 
 -- ---- one step
 
-module _ (n size start : ℕ) (c : Core) (few : n ≤ MAX_PAGES) (reached : IsReached n size start c) where
+module _ (n size start : ℕ) (c : Core) (reached : IsReached n size start c) where
   kept : IsRingKept n size start c
   kept = reached_kept n size start c reached
 
@@ -83,15 +80,14 @@ module _ (n size start : ℕ) (c : Core) (few : n ≤ MAX_PAGES) (reached : IsRe
         let within = kept.links.opened_le in omega arith
     claimed noted page at now (claim_fails same none a is) =
         let head : after.head ≡ c.head = ap (λ (d : Core). d.head) is in
-        let seen : HaveSeenLinks n c.links c.head c.frames = frames_have_seen_links n size start c few reached in
-        let first : HasSeenLink n c.links c.head (claiming noted page) =
-        subst (HasSeenLink n c.links c.head) at (subst (HaveSeenLinks n c.links c.head) top seen).0 in
-        let round : n ≤ noted = first.0 in
-        let sum : noted - n + n ≡ noted = omega arith in
-        let moved =
-        claims_fail_once_the_head_moved n size start c frame below noted page (noted - n) reached top at now sum
-        (none (noted - n) sum) in
-        omega arith
+        elim (cases_lt noted n) [
+          | inl early ↦ omega arith
+          | inr round ↦ let sum : noted - n + n ≡ noted = omega arith in
+              let moved =
+              claims_fail_once_the_head_moved n size start c frame below noted page (noted - n) reached top at now sum
+              (none (noted - n) sum) in
+              omega arith
+        ]
 
   reads_none : (event : Event) (answer : Answer) (after : Core) → IsOfReader event → Step n size c event answer after
       → rank_in n after.head after ≤ rank_in n c.head c
@@ -106,7 +102,8 @@ module _ (n size start : ℕ) (c : Core) (few : n ≤ MAX_PAGES) (reached : IsRe
       ∙ ap (λ (f : List Frame). writer_rank n after.head c.done c.opened c.history f) s.frames)) in
       omega arith
 
-  one_lower : (event : Event) (answer : Answer) (after : Core) → MayComeNext c event
+  -- a step of the frame lowers its rank by one at least, and one of the reader doesn't raise it
+  pub one_lower : (event : Event) (answer : Answer) (after : Core) → MayComeNext c event
       → Step n size c event answer after → length after.frames ≡ length c.frames
       → own_step event + rank_in n after.head after ≤ rank_in n c.head c
   one_lower (pushes moment len) answer after may step stays = absurd may
@@ -118,24 +115,27 @@ module _ (n size start : ℕ) (c : Core) (few : n ≤ MAX_PAGES) (reached : IsRe
       (λ noted page at now. claimed frame below top answer after noted page at now
       (top_step frame below (claiming noted page) top at step)) in
       omega arith
-  one_lower (ends payload) answer after may step stays = absurd may
+  one_lower (ends payload) answer after (frame, below, number, top, own) step stays =
+      let low =
+      writer_ends_lower n size start c frame below number payload answer after c.head after.head kept top own step stays in
+      omega arith
   one_lower reads answer after may step stays = let low = reads_none reads answer after tt step in omega arith
   one_lower wishes answer after may step stays = let low = reads_none wishes answer after tt step in omega arith
 
 -- ---- a run
 
-lower : (n size start : ℕ) (c : Core) (exchanges : List Exchange) (after : Core) → n ≤ MAX_PAGES
+lower : (n size start : ℕ) (c : Core) (exchanges : List Exchange) (after : Core)
     → IsReached n size start c → FrameRunsOn n size c exchanges after → own_steps exchanges ≤ rank_in n c.head c
-lower n size start c [] after few reached run = omega arith
-lower n size start c (x ∷ exchanges) after few reached (may, between, step, stays, run) =
+lower n size start c [] after reached run = omega arith
+lower n size start c (x ∷ exchanges) after reached (may, between, step, stays, run) =
     let rest =
-    lower n size start between exchanges after few
+    lower n size start between exchanges after
     (reached_further n size start c x.event x.answer between reached step) run in
-    let one = one_lower n size start c few reached x.event x.answer between may step stays in
+    let one = one_lower n size start c reached x.event x.answer between may step stays in
     omega arith
 
 pub few_steps : FramesMakeFewSteps
-few_steps n size start c exchanges after few reached run =
-    let low = lower n size start c exchanges after few reached run in
+few_steps n size start c exchanges after reached run =
+    let low = lower n size start c exchanges after reached run in
     let near = writers_near n size start c.head c (reached_kept n size start c reached) in
     omega arith

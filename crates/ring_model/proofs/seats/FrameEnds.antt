@@ -459,18 +459,19 @@ steps_lower n size start c frame below answer after r top none step stays =
     frame_lowers n size start c frame below r top frame.phase answer after refl none stays
     (top_step frame below frame.phase top refl step)
 
+-- a frame that has reserved touches no word
+pub reserved_idle : (kind : Purpose) (state : Progress) (phase : Phase) (number : ℕ) → state ≡ reserved number
+    → MayBeIn kind state phase → phase ≡ idle
+reserved_idle kind waiting phase number at may = absurd cc
+reserved_idle kind (reserved m) phase number at may = may.1
+reserved_idle kind left phase number at may = absurd cc
+
 pub ends_lower : EndsComeToAnEnd
 ends_lower n size start c frame below number payload answer after r top own step stays =
     let end = top_ends payload frame below number top own step in
     leaves n size start c frame below r top after idle (Some payload)
-    (idle_of frame.kind frame.state own (top_agrees c frame below r.stack top).0)
+    (reserved_idle frame.kind frame.state frame.phase number own (top_agrees c frame below r.stack top).0)
     (subst (λ (x : Progress). 13 < idle_rank c x) (sym own) (omega arith)) stays end.after_is
-  where
-    idle_of : (kind : Purpose) (state : Progress) → state ≡ reserved number → MayBeIn kind state frame.phase
-        → frame.phase ≡ idle
-    idle_of kind waiting at may = absurd cc
-    idle_of kind (reserved m) at may = may.1
-    idle_of kind left at may = absurd cc
 
 -- ---- the limit
 

@@ -1,6 +1,6 @@
 -- A frame of a running ring has an end: each of its steps lowers its rank, whatever the reader does in between.
 use Rattle.std.proofs.Common.{◌≡◌, ◌≢◌, ℕ, suc, ◌+◌, ◌-◌, ◌*◌, ◌<◌, ◌≤◌, Bool, List, [], ◌∷◌, ◌++◌, length, Option}
-use Rattle.std.proofs.Common.{None, refl, sym, ap, ◌∙◌, subst, arith}
+use Rattle.std.proofs.Common.{Some, None, refl, sym, ap, ◌∙◌, subst, arith}
 use Rattle.std.specs.Prelude.{if◌then◌else◌, ◌==◌, nat_lt}
 use Rattle.std.proofs.lemmas.Bool.{cond_both, lt-ltb, le-ltb}
 use Rattle.trace_model.specs.History.{HistoryEvent, leave, Reservation}
@@ -12,7 +12,7 @@ use Rattle.trace_model.specs.Frames.{opening, releasing, wishing, Frame}
 use Rattle.trace_model.specs.Ring.{Core}
 use Rattle.trace_model.specs.Steps.{Answer, closing_phase, in_phase, after_leave, after_next, with_link, with_new_tail}
 use Rattle.trace_model.specs.Steps.{with_released, after_begin}
-use Rattle.trace_model.proofs.steps.EventSteps.{top_step}
+use Rattle.trace_model.proofs.steps.EventSteps.{top_step, top_ends}
 use Rattle.trace_model.proofs.steps.StepCases.{BeginsAgain, IdleStep, ReserveStep, reserves, finds_nothing, is_crowded}
 use Rattle.trace_model.proofs.steps.StepCases.{is_worn, notes, LoadLinkStep, load_link_late, sees_free, sees_header}
 use Rattle.trace_model.proofs.steps.StepCases.{sees_update, ClaimHeadStep, claim_late, claims, claim_fails}
@@ -25,11 +25,11 @@ use Rattle.ring_model.specs.KeptStack.{MayBeIn}
 use Rattle.ring_model.specs.RingKept.{IsRingKept}
 use Rattle.ring_model.specs.Ranks.{state_rank, late_rank}
 use Rattle.ring_model.specs.WriterRanks.{look_rank, need_rank, grant_rank, fresh_rank, own_rank, writer_rank, rank_in}
-use Rattle.ring_model.specs.WriterRanks.{WriterStepsComeToAnEnd, WritersAreNearTheirEnd}
+use Rattle.ring_model.specs.WriterRanks.{WriterStepsComeToAnEnd, WriterEndsComeToAnEnd, WritersAreNearTheirEnd}
 use Rattle.ring_model.proofs.links.LinkFills.{header_inside}
 use Rattle.ring_model.proofs.histories.HistorySteps.{top_agrees, wishing_left}
 use Rattle.ring_model.proofs.seats.FrameEnds.{late_now, late_passed, late_le, opened_tail, again_rank, again_lt}
-use Rattle.ring_model.proofs.seats.FrameEnds.{opened_lt, needs_tail, state_le}
+use Rattle.ring_model.proofs.seats.FrameEnds.{opened_lt, needs_tail, reserved_idle, state_le}
 
 -- ---- parts of a rank
 
@@ -353,6 +353,13 @@ pub writer_steps_lower : WriterStepsComeToAnEnd
 writer_steps_lower n size start c frame below answer after passed knows r top none step stays more behind past =
     frame_lowers n size start c frame below r top passed knows behind past frame.phase answer after refl none stays
     (top_step frame below frame.phase top refl step)
+
+pub writer_ends_lower : WriterEndsComeToAnEnd
+writer_ends_lower n size start c frame below number payload answer after passed knows r top own step stays =
+    let end = top_ends payload frame below number top own step in
+    leaves n size start c frame below r top passed knows after idle (Some payload)
+    (reserved_idle frame.kind frame.state frame.phase number own (top_agrees c frame below r.stack top).0)
+    (subst (λ (x : Progress). 13 < fresh_rank c.history x) (sym own) (omega arith)) stays end.after_is
 
 -- ---- the limit
 

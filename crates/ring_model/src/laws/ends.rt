@@ -2,7 +2,8 @@
 ghost use Rattle.ring_model.specs.FrameOutcomes.{FramesLeave, FramesReserve};
 ghost use Rattle.ring_model.specs.Ranks.{EndsComeToAnEnd, FramesAreNearTheirEnd, StepsComeToAnEnd};
 ghost use Rattle.ring_model.specs.Ranks.{TakesAreNearTheirAnswer, TakesComeToAnAnswer};
-ghost use Rattle.ring_model.specs.WriterRanks.{FramesMakeFewSteps, WriterStepsComeToAnEnd, WritersAreNearTheirEnd};
+ghost use Rattle.ring_model.specs.WriterRanks.{FramesMakeFewSteps, WriterEndsComeToAnEnd, WriterStepsComeToAnEnd};
+ghost use Rattle.ring_model.specs.WriterRanks.{WritersAreNearTheirEnd};
 
 /// A frame that nothing interrupts is gone in the end: each step of a frame that hasn't reserved, and each end, after
 /// which it is still on the stack lowers a number (`frame_rank`), which is at most 3N + 52 in a ring of N pages.
@@ -27,13 +28,15 @@ pub fn frames_reserve_or_leave()
 {}
 
 /// With steps of the reader between, each step of a frame that hasn't reserved and stays on the stack still lowers a
-/// number, at most 3N + 52, by what the writer knows of the fills that are passed.
+/// number, at most 3N + 52, by what the writer knows of the fills that are passed; and so does its record's end.
 pub fn writers_come_to_an_end()
     ensures steps { WriterStepsComeToAnEnd }
+    ensures ends { WriterEndsComeToAnEnd }
     ensures near { WritersAreNearTheirEnd }
 {}
 
-/// A frame makes at most 3N + 52 steps in a run until it has reserved or is gone, whatever the reader does in between.
+/// A frame that isn't asked for its number again makes at most 3N + 52 steps in a run, its record's end among them, before
+/// the one by which it is gone: if no other frame interrupts it, and whatever the reader does in between.
 pub fn frames_make_few_steps()
     ensures few { FramesMakeFewSteps }
 {}
