@@ -1,7 +1,6 @@
--- How many fills are closed after what the writer made of a run, and what the reader finds once it was told of it.
-use Rattle.std.proofs.Common.{◌≡◌, ℕ, zero, suc, ◌<◌, ◌≤◌, Bool, true, false, List, [], ◌∷◌, ◌++◌, length, refl, sym, ap}
+-- How many fills are closed after what the writer made of a run, and what the reader finds once it has learned of it.
+use Rattle.std.proofs.Common.{◌≡◌, ℕ, ◌≤◌, Bool, true, false, List, [], ◌∷◌, ◌++◌, refl, sym, ap}
 use Rattle.std.proofs.Common.{◌∙◌, subst, arith, append_assoc}
-use Rattle.std.specs.Prelude.{slice_index_or, Contains}
 use Rattle.trace_model.specs.Ring.{Core}
 use Rattle.trace_model.specs.Steps.{Event, pushes, pushes_close, steps, ends, reads, wishes, Exchange, Step, Run}
 use Rattle.trace_model.proofs.steps.StepSound.{cases_of}
@@ -12,8 +11,12 @@ use Rattle.ring_model.proofs.partition.RingsKept.{reached_kept}
 use Rattle.ring_model.proofs.seats.SeatSteps.{reader_leaves_writer}
 use Rattle.ring_steps.specs.Made.{WriterMade, writer_made, Trace, trace_of, trace_to, is_by_writer, kept_if, by_writer}
 use Rattle.ring_steps.specs.Made.{writer_made_of}
-use Rattle.ring_steps.specs.Receipts.{Told, IsInTime, AreInTime}
+use Rattle.ring_steps.specs.Receipts.{AreInTime}
+use Rattle.ring_steps.specs.Views.{Writing}
 use Rattle.ring_steps.proofs.Made.{reached_on, made_append}
+use Rattle.ring_steps.proofs.InTime.{lesson_at}
+use Rattle.ring_shared.specs.Value.{WriterValue}
+use Rattle.ring_shared.specs.Calls.{AreWriterFields}
 use Rattle.ring_shared.specs.Receipts.{done_after, WhatReturnedIsSeen}
 
 -- ---- one step
@@ -49,37 +52,44 @@ counts_run n size c last (x ∷ exchanges) (between, step, run) =
     step
     ∙ counts_run n size between last exchanges run
 
-pub done_made : (n size start : ℕ) (c : Core) (r : IsReached n size start c)
+done_made : (n size start : ℕ) (c : Core) (r : IsReached n size start c)
     → done_after start (writer_made_of r) ≡ c.done
 done_made n size start c r =
     ap (λ (done : ℕ). done_after done (writer_made_of r)) (sym r.is_new.done)
     ∙ counts_run n size r.from c r.exchanges r.run
 
+-- of a writer's end
+pub done_of_part : (v : WriterValue) → AreWriterFields v → done_after v.shape.start v.part.made ≡ v.part.done
+done_of_part v w =
+    ap (λ (p : Writing). done_after v.shape.start p.made) (sym w.part_is)
+    ∙ (done_made v.shape.pages v.shape.size v.shape.start w.core w.reached ∙ ap (λ (p : Writing). p.done) w.part_is)
+
 -- ---- and no front of it closes more
+
+rises_step : (x : Exchange) (between : Core) (others : List WriterMade) (one : WriterMade)
+    (made later : List WriterMade) (most : ℕ)
+    → ((front : List WriterMade) → others ≡ front ++ later → done_after between.done front ≤ most)
+    → (b : Bool)
+    → kept_if b (writer_made x between) others ≡ one ∷ (made ++ later)
+    → done_after one.done made ≤ most
+rises_step x between others one made later most again true e =
+    let same : writer_made x between ≡ one = cc in
+    let rest : others ≡ made ++ later = cc in
+    subst (λ (m : WriterMade). done_after m.done made ≤ most) same (again made rest)
+rises_step x between others one made later most again false e = again (one ∷ made) e
 
 rises_run : (n size start : ℕ) (c last : Core) (exchanges : List Exchange) (made later : List WriterMade)
     → IsReached n size start c → (run : Run n size c exchanges last)
     → by_writer (trace_of n size c exchanges last run) ≡ made ++ later
     → done_after c.done made ≤ last.done
-rises_step : (n size start : ℕ) (c between last : Core) (x : Exchange) (exchanges : List Exchange) (one : WriterMade)
-    (made later : List WriterMade) (b : Bool)
-    → IsReached n size start between → (run : Run n size between exchanges last)
-    → kept_if b (writer_made x between) (by_writer (trace_of n size between exchanges last run))
-    ≡ one ∷ (made ++ later)
-    → done_after one.done made ≤ last.done
-rises_step n size start c between last x exchanges one made later true r run e =
-    let same : writer_made x between ≡ one = cc in
-    let rest : by_writer (trace_of n size between exchanges last run) ≡ made ++ later = cc in
-    subst (λ (m : WriterMade). done_after m.done made ≤ last.done) same
-    (rises_run n size start between last exchanges made later r run rest)
-rises_step n size start c between last x exchanges one made later false r run e =
-    rises_run n size start between last exchanges (one ∷ made) later r run e
 rises_run n size start c last exchanges [] later r run e =
     (counts_rise n size start c last exchanges (reached_kept n size start c r) run).1
 rises_run n size start c last [] (one ∷ made) later r run e = absurd (cc)
 rises_run n size start c last (x ∷ exchanges) (one ∷ made) later r (between, step, run) e =
-    rises_step n size start c between last x exchanges one made later (is_by_writer x.event)
-    (reached_on n size start c x.event x.answer between r step) run e
+    rises_step x between (by_writer (trace_of n size between exchanges last run)) one made later last.done
+    (λ front at.
+    rises_run n size start between last exchanges front later
+    (reached_on n size start c x.event x.answer between r step) run at) (is_by_writer x.event) e
 
 -- the ring was new before the run
 reached_first : (n size start : ℕ) (c : Core) → (r : IsReached n size start c) → IsReached n size start r.from
@@ -92,26 +102,20 @@ done_before n size start c r made later e =
     subst (λ (done : ℕ). done_after done made ≤ c.done) r.is_new.done
     (rises_run n size start r.from c r.exchanges made later (reached_first n size start c r) r.run e)
 
--- ---- what the reader was told
-
-told_at : (trace : Trace) (told : List Told) (one : Told) (k : ℕ) → k < length told → slice_index_or told k one ≡ one
-    → AreInTime trace told → IsInTime trace one
-told_at trace [] one k low at are = absurd (omega arith)
-told_at trace (first ∷ told) one zero low at (is, are) = subst (IsInTime trace) at is
-told_at trace (first ∷ told) one (suc k) low at (is, are) = told_at trace told one k (omega arith) at are
+-- ---- what the reader finds once it has learned of it
 
 pub what_returned_is_seen : WhatReturnedIsSeen
-what_returned_is_seen shape before after done told (k, low, at) found =
+what_returned_is_seen shape before after done lesson (k, low, at) found =
     let r = found.known.reached in
-    let still = found.nothing.told_is in
+    let still = found.nothing.lessons_are in
     let is =
-    told_at (trace_to r) before.told told k low at (subst (AreInTime (trace_to r)) still found.in_time) in
-    let made : writer_made_of r ≡ told.made ++ (is.others ++ by_writer is.rest) =
+    lesson_at (trace_to r) before.lessons lesson k low at (subst (AreInTime (trace_to r)) still found.in_time) in
+    let made : writer_made_of r ≡ lesson.made ++ (is.others ++ by_writer is.rest) =
     ap by_writer is.trace_is
     ∙ (made_append is_by_writer writer_made is.front is.rest
     ∙ (ap (λ (l : List WriterMade). l ++ by_writer is.rest) is.has_made
-    ∙ append_assoc told.made is.others (by_writer is.rest))) in
+    ∙ append_assoc lesson.made is.others (by_writer is.rest))) in
     let low =
-    done_before shape.pages shape.size shape.start found.known.core r told.made (is.others ++ by_writer is.rest) made in
+    done_before shape.pages shape.size shape.start found.known.core r lesson.made (is.others ++ by_writer is.rest) made in
     let all = found.all in
     omega arith

@@ -32,4 +32,7 @@ pub mod WholeAppends
 pub mod TopLent
 pub mod Rooms
 pub mod TakenMade
+pub mod Learning
+pub mod DoneSeen
+pub mod ReturnedBefore
 pub mod OneRun

@@ -35,7 +35,7 @@ pub record Stays (shape : Shape) (before after : Reading) (reader : Reader) : Ty
   pub order_is : after.order ≡ before.order
   pub spare_is : after.spare ≡ before.spare
   pub wish_is : after.wish ≡ before.wish
-  pub told_is : after.told ≡ before.told
+  pub lessons_are : after.lessons ≡ before.lessons
   pub observed_is : after.observed ≡ before.observed
   pub reader_is : after.reader ≡ reader
 
@@ -51,7 +51,7 @@ nothing shape before after reader s taken expected hint seen =
       observed_is = s.observed_is;
       expected_is = ap (λ (x : Reader). x.expected) s.reader_is ∙ expected;
       wish_is = s.wish_is;
-      told_is = s.told_is;
+      lessons_are = s.lessons_are;
       hint_le = omega arith;
       seen_le = omega arith;
     }
@@ -66,12 +66,12 @@ module _ (shape : Shape) (before after : Reading) (sees : Core → Type 0) (answ
     made_is = step_read shape before sees model.reads answer after r;
   }
 
-  -- what the reader was told is before what it did later
-  pub time_after : AreInTime (trace_to known_after.reached) after.told
+  -- what the reader learned is before what it did later
+  pub time_after : AreInTime (trace_to known_after.reached) after.lessons
   unfolding known_after
   time_after =
-      subst (AreInTime (trace_to known_after.reached)) (sym r.told_is)
-      (in_time_more shape.pages shape.size shape.start r.core model.reads answer r.next r.reached r.step before.told
+      subst (AreInTime (trace_to known_after.reached)) (sym r.lessons_are)
+      (in_time_more shape.pages shape.size shape.start r.core model.reads answer r.next r.reached r.step before.lessons
       r.in_time)
 
   -- the model answers the step so
@@ -86,7 +86,7 @@ module _ (shape : Shape) (before after : Reading) (sees : Core → Type 0) (answ
     order_is = ap (λ (part : Reading). part.order) is;
     spare_is = ap (λ (part : Reading). part.spare) is;
     wish_is = ap (λ (part : Reading). part.wish) is;
-    told_is = ap (λ (part : Reading). part.told) is;
+    lessons_are = ap (λ (part : Reading). part.lessons) is;
     observed_is = ap (λ (part : Reading). part.observed) is;
     reader_is = ap (λ (part : Reading). part.reader) is;
   }

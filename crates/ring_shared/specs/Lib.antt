@@ -5,6 +5,7 @@ pub mod Lending
 pub mod Takes
 pub mod NewReader
 pub mod NewEnds
+pub mod Receipts
 pub mod Settling
 pub mod Nearer
 pub mod Finishing

@@ -1,6 +1,7 @@
 //! What holds of any call on an end of a running ring, and of all calls on both ends.
 ghost use Rattle.ring_shared.specs.Laws.{CallsAppend, ClosesAppend, EndsAppend, NumbersAreReportedAgain, PushesAppend};
 ghost use Rattle.ring_shared.specs.Laws.{RefusalsAppend, ReservationsAppend};
+ghost use Rattle.ring_shared.specs.Receipts.{WhatReturnedIsSeen, WhatReturnedStandsBefore};
 ghost use Rattle.ring_shared.specs.RunLaws.{ReaderStepsEndRuns, ReaderStepsStand, RunsAreReached, WriterCallsEndRuns};
 ghost use Rattle.ring_shared.specs.RunLaws.{WriterStepsStand};
 ghost use Rattle.ring_shared.specs.TailLaws.{TailsAreTheRest};
@@ -55,6 +56,14 @@ pub fn writers_have_histories()
 /// A take adds to what its reader made exactly its steps, the last of which has the take's answer, or none has it.
 pub fn takes_are_made()
     ensures { TakesAreMade }
+{}
+
+/// What a writer had done when it gave a receipt is before all that its reader does after it has learned the receipt. So
+/// if a take finds nothing from then on, the number that it answers is no lower than the writer's `done` was; and in the
+/// run of both ends each step of the former is before each of the latter.
+pub fn what_returned_is_seen()
+    ensures seen { WhatReturnedIsSeen }
+    ensures before { WhatReturnedStandsBefore }
 {}
 
 /// If a take has found that all closed fills are passed, the writer has no frame, and neither end has made a step

@@ -43,6 +43,8 @@ pub mod laws;
 mod making;
 pub mod reader;
 #[tactic(auto, unfolding(crate::specs::Calls::IsWriter))]
+pub mod receipts;
+#[tactic(auto, unfolding(crate::specs::Calls::IsWriter))]
 pub mod settling;
 pub mod take;
 #[tactic(auto, unfolding(crate::specs::Calls::IsWriter))]
@@ -50,6 +52,7 @@ pub mod writer;
 
 pub use making::{ring, ring_at};
 pub use reader::Reader;
+pub use receipts::Receipt;
 pub use ring_frames::Answer;
 pub use settling::{SettleFault, Settled, settle};
 pub use take::Take;

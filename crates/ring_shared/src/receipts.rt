@@ -49,12 +49,12 @@ impl Writer {
 
 impl Reader {
     ghost use Rattle.std.specs.Prelude.{◌≡◌};
-    ghost use Rattle.ring_steps.specs.Views.{told_of};
+    ghost use Rattle.ring_steps.specs.Views.{with_lesson};
     ghost use Rattle.ring_shared.specs.Takes.{IsReader, SameRing};
 
-    /// Tells this end of what its ring's writer had done: in the run of both ends that is before all steps that this
-    /// end makes from now on. So a take that answers `Empty` from now on has a number that is at least the writer's
-    /// `done()` when it gave the receipt. It costs one load of a word.
+    /// From now on this end knows what its ring's writer had done: in the run of both ends that is before all steps that
+    /// this end makes later. So if a later take answers `Empty`, its number is at least the writer's `done()` when it
+    /// gave the receipt. It costs one load of a word.
     ///
     /// ```
     /// let (mut writer, mut reader): (Writer, Reader) = ring(rt.alloc(), 2, 32)?;
@@ -64,7 +64,7 @@ impl Reader {
     pub fn learn(&mut self, receipt: Receipt)
         requires reader { IsReader self.old }
         requires one_ring { receipt.table ≡ self.old.table }
-        ensures told { self.new ≡ record self.old { part = told_of self.old.part receipt.made } }
+        ensures learned { self.new ≡ record self.old { part = with_lesson self.old.part receipt.made } }
         ensures ring { SameRing self.old self.new }
         ensures reader { IsReader self.new }
     {

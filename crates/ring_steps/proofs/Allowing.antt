@@ -127,7 +127,7 @@ module _ (shape : Shape) where
     are_homes = subst (λ (x : Reading). AreHomes shape.pages shape.size c x homes) same s.are_homes;
     is_reading = subst (IsReading c) same s.is_reading;
     reader_made_is = subst (λ (x : Reading). x.made ≡ reader_made_of s.reached) same s.reader_made_is;
-    in_time = subst (λ (x : Reading). AreInTime (trace_to s.reached) x.told) same s.in_time;
+    in_time = subst (λ (x : Reading). AreInTime (trace_to s.reached) x.lessons) same s.in_time;
   }
 
   pub reader_allows : (slots id : ℕ) (me : SeatState) (i : ℕ) (f : ℕ → ℕ) (reports : ℕ → SeatState → Type 0)

@@ -95,7 +95,7 @@ looks shape slots id me is s h deep at range =
           writing_is = sym w_is;
           reading_is = subst (IsReading h.core) (sym r_is) h.shown.is_reading;
           reader_made_is = ap (λ (r : Reading). r.made) r_is ∙ h.shown.reader_made_is;
-          in_time = subst (λ (r : Reading). AreInTime (trace_to h.shown.reached) r.told) (sym r_is) h.shown.in_time;
+          in_time = subst (λ (r : Reading). AreInTime (trace_to h.shown.reached) r.lessons) (sym r_is) h.shown.in_time;
         },
       ),
     )
@@ -116,4 +116,5 @@ parts_with_slot shape w r p = record {
     observed_is = p.reading_is.observed_is;
   };
   reader_made_is = p.reader_made_is;
+  in_time = p.in_time;
 }

@@ -1,7 +1,7 @@
 -- The writer's steps that load and set links, and load the reader's wish.
 use Rattle.std.specs.Prelude.{slice_index_or, slice_set, Some, ◌==◌}
 use Rattle.std.specs.List.{slice_index}
-use Rattle.std.proofs.Common.{◌≡◌, ◌≢◌, ℕ, suc, ◌+◌, ◌-◌, ◌%◌, ◌<◌, ◌≤◌, Bool, List, [], ◌∷◌, ◌++◌, length, refl, sym}
+use Rattle.std.proofs.Common.{◌≡◌, ◌≢◌, ℕ, suc, ◌+◌, ◌-◌, ◌%◌, ◌<◌, ◌≤◌, Bool, List, [], ◌∷◌, length, refl, sym}
 use Rattle.std.proofs.Common.{ap, ◌∙◌, subst, mod-lt, eq-eqb, ne_eqb, arith}
 use Rattle.std.proofs.lemmas.List.{set-get_or}
 use Rattle.std.proofs.lemmas.List.Elements.{All-get_or}
@@ -181,7 +181,7 @@ module _ (shape : Shape) (me : SeatState) (is : IsWriting me) (now : Writing) (c
           (reader_same shape.pages shape.size shape.start c steps going (moved c frames links head) s.reached
           step refl);
       in_time =
-          in_time_more shape.pages shape.size shape.start c steps going (moved c frames links head) s.reached step r.told
+          in_time_more shape.pages shape.size shape.start c steps going (moved c frames links head) s.reached step r.lessons
           s.in_time;
     };
     later = writer_made record { event = steps; answer = going } (moved c frames links head) ∷ [];

@@ -102,7 +102,7 @@ parts_now shape before now r leads parts =
           private_read shape.pages shape.size shape.start parts.core aside exchanges r parts.reached run
           parts.reading_is;
       in_time =
-          private_in_time shape.pages shape.size shape.start parts.core aside exchanges parts.reached run r.told
+          private_in_time shape.pages shape.size shape.start parts.core aside exchanges parts.reached run r.lessons
           parts.in_time;
     }
 

@@ -2,7 +2,7 @@
 use Rattle.std.proofs.Common.{◌≡◌, ◌≤◌, ℕ, zero, suc, List, [], ◌∷◌, set, refl, sym, ap, ◌∙◌, subst, arith}
 use mathlib.Core.Option.{some}
 use lib.ListN.{get_elem?}
-use Rattle.ring_steps.specs.Views.{Writing, Reading, SeatView, laid, whole, writes, reads, saw, joined, spent}
+use Rattle.ring_steps.specs.Views.{Writing, Reading, SeatView, laid, whole, writes, reads, joined, spent}
 use Rattle.ring_steps.specs.Views.{AreReceipts, AreSeated, begun, made, running, settled}
 use Rattle.ring_steps.proofs.InTime.{receipt_at}
 

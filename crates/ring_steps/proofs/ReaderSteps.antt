@@ -109,7 +109,7 @@ module _ (shape : Shape) (me : SeatState) (is : IsSeatOfReader me) (c : Core) (w
               s.reached step (reading me.0) after refl s.reader_made_is is_reading;
           in_time =
               in_time_more shape.pages shape.size shape.start c wishes (wished_for (reading me.0).reader.seen) next
-              s.reached step (reading me.0).told s.in_time;
+              s.reached step (reading me.0).lessons s.in_time;
         };
         writer_is =
             ap (λ (made : List WriterMade). writing_of made next)
@@ -133,7 +133,7 @@ module _ (shape : Shape) (me : SeatState) (is : IsSeatOfReader me) (c : Core) (w
                 made_is = s.reader_made_is;
                 one_more = refl;
                 in_time = s.in_time;
-                told_is = refl;
+                lessons_are = refl;
               };
           keeps = refl;
         };

@@ -5,10 +5,9 @@ use Rattle.std.proofs.Props.{props}
 use mathlib.Core.Option.{some}
 use lib.ListN.{get_elem?}
 use Rattle.atomic_table.specs.Table.{Splits, Joins}
-use Rattle.trace_model.specs.Ring.{Core}
 use Rattle.ring_steps.specs.declared.rule.Shape.{Shape}
 use Rattle.ring_steps.specs.Made.{WriterMade, trace_to, writer_made_of, privately_made}
-use Rattle.ring_steps.specs.Views.{Writing, writing_of, Reading, told_of, SeatView, laid, writes, reads, saw, spent}
+use Rattle.ring_steps.specs.Views.{Writing, writing_of, Reading, with_lesson, SeatView, laid, writes, reads, saw, spent}
 use Rattle.ring_steps.specs.Views.{writing, passed, reading, made_seen, IsReceipt, AreReceipts, AreSeated, running}
 use Rattle.ring_steps.specs.Shown.{Shows}
 use Rattle.ring_steps.specs.Seats.{Leads}
@@ -17,7 +16,7 @@ use Rattle.ring_steps.proofs.Private.{private_shown, private_open_pages, private
 use Rattle.ring_steps.proofs.Placed.{writer_at, reader_at}
 use Rattle.ring_steps.proofs.Allowing.{shown_as}
 use Rattle.ring_steps.proofs.Notes.{part_reached}
-use Rattle.ring_steps.proofs.InTime.{learned, receipt_at, receipts_later, receipt_more, receipt_spent}
+use Rattle.ring_steps.proofs.InTime.{lesson_in_time, receipt_at, receipts_later, receipt_more, receipt_spent}
 
 -- ---- the writer's part by now
 
@@ -107,11 +106,11 @@ pub learns : (shape : Shape) (id : ℕ) (view : SeatView) (other : ℕ) (with : 
     → view ≡ reads (reading view)
     → with ≡ saw (made_seen with)
     → Joins (Shows shape.pages shape.size shape.start) id view other with
-    (reads (told_of (reading view) (made_seen with))) spent
+    (reads (with_lesson (reading view) (made_seen with))) spent
 learns shape id view other with is its s h at ne at_other =
     let w : Writing = writing_of (writer_made_of h.shown.reached) h.core in
     let made : List WriterMade = made_seen with in
-    let after : Reading = told_of (reading view) made in
+    let after : Reading = with_lesson (reading view) made in
     let (known, there, second, r_is) =
     reader_at w h.reader h.core.head s.views id (reading view) h.seats (at ∙ ap some is) in
     let front : set s.views id (reads after) ≡ writes w known ∷ reads after ∷ there.receipts =
@@ -148,7 +147,7 @@ learns shape id view other with is its s h at ne at_other =
             };
         reader_made_is = shown.reader_made_is;
         in_time =
-            learned (trace_to shown.reached) (reading view) made later writers shown.reader_made_is shown.in_time;
+            lesson_in_time (trace_to shown.reached) (reading view) made later writers shown.reader_made_is shown.in_time;
       };
       seats =
           subst (AreSeated w after h.core.head) (sym views_are)

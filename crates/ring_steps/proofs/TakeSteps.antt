@@ -35,7 +35,7 @@ use Rattle.ring_steps.proofs.Taking.{gone_on}
 abbrev after_read : Reading → model.Answer → Reading → Reading
 after_read before answer part = reading_after before.made record { event = model.reads; answer = answer } part
 
--- the step is seen as one of which less is told, and that has this answer
+-- the step is seen as one of which less is stated, and that has this answer
 pub seen_as : (shape : Shape) (before : Reading) (sees other : Core → Type 0) (event : model.Event)
     (answer reported : model.Answer) (after : Reading)
     → (r : IsReaderStep shape before sees event answer after)
@@ -56,7 +56,7 @@ seen_as shape before sees other event answer reported after r seen e = record {
       r.one_more
       ∙ ap (λ (a : model.Answer). before.made ++ reading_made record { event = event; answer = a } after ∷ []) e;
   in_time = r.in_time;
-  told_is = r.told_is;
+  lessons_are = r.lessons_are;
 }
 
 module _ (shape : Shape) (before after : Reading) (sees : Core → Type 0) (answer : model.Answer)
@@ -130,7 +130,7 @@ module _ (shape : Shape) (before after : Reading) (sees : Core → Type 0) (answ
         observed = observed i;
         keeps_spare = slot i;
         made = [];
-        told = r.told_is i;
+        lessons = r.lessons_are i;
       })
       ∙ ap
       (λ (a : model.Answer).

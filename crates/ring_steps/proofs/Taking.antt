@@ -54,14 +54,14 @@ reading_of c keeps_spare = record {
   observed = take c.reader.expected (map as_record (reserved_records c.history));
   keeps_spare = keeps_spare;
   made = [];
-  told = [];
+  lessons = [];
 }
 
 -- and after a step of a take
 abbrev pub reading_on : Reading → Core → Bool → model.Answer → Reading
 reading_on before c keeps_spare answer =
     reading_after before.made record { event = model.reads; answer = answer }
-    (record (reading_of c keeps_spare) { told = before.told })
+    (record (reading_of c keeps_spare) { lessons = before.lessons })
 
 -- the reader goes on, and the link of its page may be set
 abbrev pub gone_on : Core → Reader → Link → Core
@@ -242,7 +242,7 @@ module _ (shape : Shape) (me : SeatState) (c : Core) (ws : List ℕ) (homes : Ho
               reader_then shape.pages shape.size shape.start c model.reads answer next s.reached step (reading me.0)
               (reading_on (reading me.0) next b answer) refl s.reader_made_is is_reading;
           in_time =
-              in_time_more shape.pages shape.size shape.start c model.reads answer next s.reached step (reading me.0).told
+              in_time_more shape.pages shape.size shape.start c model.reads answer next s.reached step (reading me.0).lessons
               s.in_time;
         };
         writer_is =
@@ -278,7 +278,7 @@ module _ (shape : Shape) (me : SeatState) (c : Core) (ws : List ℕ) (homes : Ho
               made_is = s.reader_made_is;
               one_more = refl;
               in_time = s.in_time;
-              told_is = refl;
+              lessons_are = refl;
             },
           );
         };
@@ -420,6 +420,7 @@ module _ (shape : Shape) (me : SeatState) (is : IsSeatOfReader me) (c : Core) (w
             observed_is = s.is_reading.observed_is;
           };
           reader_made_is = s.reader_made_is;
+          in_time = s.in_time;
         };
         writer_is = refl;
         head_le = omega arith;

@@ -88,8 +88,8 @@ pub record IsReaderStep (shape : Shape) (before : Reading) (sees : Core → Type
   pub after_is : IsReading next after
   pub made_is : before.made ≡ reader_made_of reached
   pub one_more : after.made ≡ before.made ++ reading_made record { event = event; answer = answer } after ∷ []
-  pub in_time : AreInTime (trace_to reached) before.told
-  pub told_is : after.told ≡ before.told
+  pub in_time : AreInTime (trace_to reached) before.lessons
+  pub lessons_are : after.lessons ≡ before.lessons
 
 -- what a step of the reader by which it neither takes nor gives back a slot shows of its seat: a store of the wish
 -- (those of a take: Taking)
@@ -141,4 +141,4 @@ pub record AreParts (shape : Shape) (w : Writing) (r : Reading) : Type 0 where
   pub writing_is : writing_of (writer_made_of reached) core ≡ w
   pub reading_is : IsReading core r
   pub reader_made_is : r.made ≡ reader_made_of reached
-  pub in_time : AreInTime (trace_to reached) r.told
+  pub in_time : AreInTime (trace_to reached) r.lessons

@@ -82,7 +82,7 @@ pub record IsShown (n size start : ℕ) (c : Core) (r : Reading) (words : List �
   pub are_homes : AreHomes n size c r homes
   pub is_reading : IsReading c r
   pub reader_made_is : r.made ≡ reader_made_of reached
-  pub in_time : AreInTime (trace_to reached) r.told
+  pub in_time : AreInTime (trace_to reached) r.lessons
 
 -- Some state is shown, and its two parts are what the seats know. The tail's slot is empty, while no seat has it.
 pub record Shows (n size start : ℕ) (s : State (Option Contents) SeatView) : Type 0 where

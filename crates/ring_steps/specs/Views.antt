@@ -8,7 +8,7 @@ use Rattle.trace_model.specs.Links.{Link, normal_link}
 use Rattle.trace_model.specs.Frames.{Frame}
 use Rattle.trace_model.specs.Ring.{Core, Reader, first_reader}
 use Rattle.ring_steps.specs.Made.{WriterMade, ReaderMade}
-use Rattle.ring_steps.specs.Receipts.{Told}
+use Rattle.ring_steps.specs.Receipts.{Lesson}
 
 -- The writer's part of a ring: its frames, the pages of the fills that are begun and not closed, the oldest first, what
 -- the frames did, and the two counts that it alone stores; made: its steps so far.
@@ -48,8 +48,8 @@ writing_after made x w = record w { made = made ++ writing_made x w ∷ [] }
 
 -- The reader's part: the page at each position, the page outside the ring and its link, how far its take has come and
 -- what it took, and the wish, which it alone stores. observed: the committed records up to the last one that it took,
--- those that were lost before it among them. keeps_spare: the spare's slot is out with it. made: its steps so far; told:
--- what it learned by receipts.
+-- those that were lost before it among them. keeps_spare: the spare's slot is out with it. made: its steps so far.
+-- lessons: what it learned by receipts.
 pub record Reading : Type 0 where
   pub order : List ℕ
   pub spare : ℕ
@@ -59,7 +59,7 @@ pub record Reading : Type 0 where
   pub observed : List Record
   pub keeps_spare : Bool
   pub made : List ReaderMade
-  pub told : List Told
+  pub lessons : List Lesson
 
 -- the reader's step that led to this part
 abbrev pub reading_made : Exchange → Reading → ReaderMade
@@ -76,9 +76,9 @@ reading_made x r = record {
 abbrev pub reading_after : List ReaderMade → Exchange → Reading → Reading
 reading_after made x r = record r { made = made ++ reading_made x r ∷ [] }
 
--- it learns that the writer had made these steps
-abbrev pub told_of : Reading → List WriterMade → Reading
-told_of r made = record r { told = r.told ++ record { steps = length r.made; made = made } ∷ [] }
+-- the part of a reader that learns that the writer had made these steps
+abbrev pub with_lesson : Reading → List WriterMade → Reading
+with_lesson r made = record r { lessons = r.lessons ++ record { steps = length r.made; made = made } ∷ [] }
 
 -- What a seat knows. laid: the first one, before it has the tail's slot; whole: and then, before it is split. writes:
 -- the writer's, with a number below which each fill is passed. saw: a receipt, of the steps that the writer had made.
@@ -105,7 +105,7 @@ no_reading = record {
   observed = [];
   keeps_spare = false;
   made = [];
-  told = [];
+  lessons = [];
 }
 
 -- the writer's part of what a seat knows, if it has one

@@ -1,9 +1,9 @@
-//! Receipts: the steps that the writer had made by some moment, of which the reader is told.
+//! Receipts: the steps that the writer had made by some moment, of which its reader learns.
 ghost use Rattle.std.specs.Prelude.{◌≡◌, ◌<◌, []};
 ghost use Rattle.ring_steps.specs.Seats.{IsSeatOfReceipt, SitsAt, Leads};
 ghost use Rattle.ring_steps.specs.Ends.{writing_in, passed_in, reading_in, writer_table, reader_table, made_in};
 ghost use Rattle.ring_steps.specs.Ends.{receipt_table, SameSeat, SameReaderSeat};
-ghost use Rattle.ring_steps.specs.Views.{writes, reads, saw, writing, passed, reading, told_of, made_seen};
+ghost use Rattle.ring_steps.specs.Views.{writes, reads, saw, writing, passed, reading, with_lesson, made_seen};
 
 use crate::ends::{ReaderSeat, ReceiptSeat, WriterSeat};
 use crate::ghost_part::ghost_part_known;
@@ -27,13 +27,13 @@ impl<J: ChosenPart> Split<View> for Given<J> {
     ghost right = { λ _. saw J.now.made };
 }
 
-/// The reader's seat has been told what a receipt has.
+/// The reader's seat has learned what a receipt has.
 struct Learned;
 
 impl Join<View> for Learned {
-    ghost use Rattle.ring_steps.specs.Views.{reads, reading, told_of, made_seen, spent};
+    ghost use Rattle.ring_steps.specs.Views.{reads, reading, with_lesson, made_seen, spent};
 
-    ghost both = { λ view receipt. reads (told_of (reading view) (made_seen receipt)) };
+    ghost both = { λ view receipt. reads (with_lesson (reading view) (made_seen receipt)) };
 
     ghost spent = { spent };
 }
@@ -66,7 +66,7 @@ fn take_in(board: &Board, shape: Shape, seat: &mut TableSeat, receipt: TableSeat
     requires receipt { IsSeatOfReceipt receipt.me }
     ensures seated { seat.new.table_id ≡ seat.old.table_id }
     ensures seat { seat.new.me
-        ≡ (reads (told_of (reading seat.old.me.0) (made_seen receipt.me.0)), seat.old.me.1) }
+        ≡ (reads (with_lesson (reading seat.old.me.0) (made_seen receipt.me.0)), seat.old.me.1) }
 {
     let _shape = shape;
     board.shared.join_seat::<Learned>(seat, receipt);
@@ -90,12 +90,12 @@ impl WriterSeat {
 }
 
 impl ReaderSeat {
-    /// Tells the reader of the steps that a receipt of its ring has: a load. They are before all that the reader does
-    /// from then on.
+    /// The reader learns of the steps that a receipt of its ring has: a load. They are before all that it does from then
+    /// on.
     pub fn learn(&mut self, receipt: ReceiptSeat)
         requires table { receipt_table receipt ≡ reader_table self.old }
         ensures same { SameReaderSeat self.old self.new }
-        ensures told { reading_in self.new ≡ told_of (reading_in self.old) (made_in receipt) }
+        ensures learned { reading_in self.new ≡ with_lesson (reading_in self.old) (made_in receipt) }
     {
         let ReceiptSeat { seat } = receipt;
         take_in(&self.board, self.shape, &mut self.seat, seat);

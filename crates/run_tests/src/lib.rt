@@ -1,4 +1,4 @@
-//! Tests alone: scripts that are run by threads, with gates of several kinds; readers' ends; and audits.
+//! Tests alone: scripts that are run by threads, with gates of several kinds; readers' ends, and a receipt; and audits.
 //!
 //! They make a thousand runs. `rt test` leaves them as a program, which makes those of one test again, on two cores for
 //! example by `taskset -c 0,1 out/run_tests_tests runs::each_collector_has_what_was_written`. Under `ulimit -v 200000`
@@ -11,6 +11,8 @@ mod audits;
 mod ends;
 #[cfg(test)]
 mod gates;
+#[cfg(test)]
+mod receipts;
 #[cfg(test)]
 mod runs;
 #[cfg(test)]

@@ -33,5 +33,8 @@ pub use Rattle.trace_model.specs.Steps.{wishes, wished_for}
 pub use Rattle.ring_steps.specs.Seats.{IsReaderStep}
 pub use Rattle.ring_shared.specs.declared.take.Take.{Take}
 pub use Rattle.ring_shared.specs.Takes.{IsOfSize, IsTake, IsPageTaken, TakesNothing, TakesSteps, empty_of}
+-- what a receipt has, and what a reader learns by it
+pub use Rattle.ring_shared.specs.Receipts.{ReceiptValue, done_after}
+pub use Rattle.ring_steps.specs.Views.{with_lesson}
 -- what is left of two ends that are joined
 pub use Rattle.ring_shared.specs.Settling.{AreEndsOf, IsSettled, unread_page}

@@ -1,5 +1,5 @@
-use Rattle.std.proofs.Common.{rules, refl, sym, ap, ◌∙◌, subst}
-use Rattle.ring_steps.specs.Views.{Writing, writing}
+use Rattle.std.proofs.Common.{refl, sym, ap, ◌∙◌, subst}
+use Rattle.ring_steps.specs.Views.{writing}
 use Rattle.ring_steps.specs.Ends.{writing_in}
 use Rattle.ring_steps.specs.Seats.{SeatState, emptied, IsWriting}
 use Rattle.ring_steps.specs.Paging.{IsWriterReached}
