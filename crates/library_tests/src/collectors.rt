@@ -1,4 +1,4 @@
-//! What parcels and collectors keep: pages. What they answer is in `collector_rows/stdout`.
+//! What parcels and collectors keep: pages. What they answer is in `rows/stdout`.
 use collector::{Added, Collector};
 use page_image::read_image;
 use page_numbers::Parcel;
@@ -50,14 +50,6 @@ fn a_parcel_is_written_with_its_page(rt: HostRuntime) -> Result<(), Fail> {
     let whole = Parcel::of(rt.alloc(), CpuId(0), page, 1)?;
     compare(&rt, &whole.share()?, ONE_OF_36)?;
     assert!(rt; whole.has_page_of(&fitted) && whole.sharers() == 1);
-    Ok(())
-}
-
-/// So does one that is read.
-#[test]
-fn a_parcel_is_read_with_its_page(rt: HostRuntime) -> Result<(), Fail> {
-    let read = Parcel::from_bytes(rt.alloc(), ONE_OF_36)?;
-    compare(&rt, &read, ONE_OF_36)?;
     Ok(())
 }
 

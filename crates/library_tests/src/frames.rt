@@ -1,5 +1,5 @@
 //! What a stack does by itself, which no exchange with a ring can show: the rows of a ring are in the text that
-//! `ring_rows` reads.
+//! `rows` reads.
 ghost use Rattle.std.specs.Prelude.{◌≡◌, [], IfOk};
 ghost use Rattle.trace_model.specs.declared.limits.TheConstants.{START_FILL};
 ghost use Rattle.nested_writer.specs.Stack.{new_stack};
