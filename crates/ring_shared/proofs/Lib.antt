@@ -33,3 +33,6 @@ pub mod TopLent
 pub mod Rooms
 pub mod TakenMade
 pub mod OneRun
+pub mod Stops
+pub mod FewSteps
+pub mod CallSteps

@@ -8,6 +8,7 @@ pub mod NewEnds
 pub mod Settling
 pub mod Nearer
 pub mod Finishing
+pub mod FewSteps
 pub mod Promises
 pub mod Covering
 pub mod WholeWrites

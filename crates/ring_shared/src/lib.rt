@@ -51,6 +51,6 @@ pub mod writer;
 pub use making::{ring, ring_at};
 pub use reader::Reader;
 pub use ring_frames::Answer;
-pub use settling::{SettleFault, Settled, settle};
+pub use settling::{SettleFault, Settled, settle, stop};
 pub use take::Take;
 pub use writer::Writer;
