@@ -174,11 +174,12 @@ class CpuState(NamedTuple):
     frames: tuple
     seen: int
     in_take: bool
+    made: Optional[int]
     wish: int
 
 
 def new_cpu(start):
-    return CpuState(events=new_ring(start), frames=(), seen=start, in_take=False, wish=0)
+    return CpuState(events=new_ring(start), frames=(), seen=start, in_take=False, made=0, wish=0)
 
 
 # ---- what a frame does
@@ -242,8 +243,14 @@ def has_gone(s, below, frame):
 # ---- what a line adds: its own events, with the state after it
 
 
+def made_after(made, own):
+    return made if clause("made after: no fill is lost", LOSES not in own) else None
+
+
 def with_own(before, own, frames):
-    return before._replace(events=before.events.then_all(own), frames=frames)
+    return before._replace(
+        events=before.events.then_all(own), frames=frames, made=made_after(before.made, own)
+    )
 
 
 def is_idle(before):
@@ -337,17 +344,41 @@ def takes_page(before):
                 seen == before.seen and clause("takes page: sees none for a reason", why_unseen)
             )
             if own_is and seen_is:
-                yield own, before._replace(events=before.events.then_all(own), seen=seen, in_take=False)
+                after = before._replace(events=before.events.then_all(own), seen=seen, in_take=False, made=0)
+                yield own, after
+                if choice("takes page: finds no head in a move", own == () and moving):
+                    yield own, after._replace(made=None)
 
 
-def reads_on(before):
-    done = before.events.window.done
-    for own in ((TAKES,), ()):
-        own_is = choice("reads on: takes one", own == (TAKES,)) or choice("reads on: takes none", own == ())
+def seen_by(made, before):
+    return before.events.window.done if clause("seen by: the second step sees", made < 2) else before.seen
+
+
+def take_steps(made, total, before):
+    head, done, _ = before.events.window
+    seen = seen_by(made, before)
+    if clause("take steps: finds the head", total < 2):
+        yield (), before._replace(in_take=True, made=total)
+    if clause("take steps: finds none, in two", 2 <= total) and clause("take steps: finds none", head == done):
+        yield (), before._replace(seen=seen, in_take=False, made=0)
+    is_found = clause("take steps: finds one, in two", 2 <= total) and clause("take steps: finds one", head < done)
+    if is_found and clause("take steps: finds one, before four", total < 4):
+        yield (), before._replace(seen=seen, in_take=True, made=total)
+    if clause("take steps: takes one, in four", 4 <= total):
+        after = before.events.then(TAKES)
+        yield (TAKES,), before._replace(events=after, seen=seen, in_take=False, made=0)
+
+
+def reads_on(count, before):
+    done, moving, made = before.events.window.done, is_moving(before.frames), before.made
+    if made is not None and clause("reads on: no frame moves", not moving):
+        yield from take_steps(made, made + count, before)
+    if choice("reads on: isn't known", made is None) or choice("reads on: a frame moves", moving):
         for seen in (done, before.seen):
-            seen_is = choice("reads on: sees", seen == done) or choice("reads on: sees none", seen == before.seen)
-            if own_is and seen_is:
-                yield own, before._replace(events=before.events.then_all(own), seen=seen, in_take=True)
+            if choice("reads on: sees", seen == done) or choice("reads on: sees none", seen == before.seen):
+                after = before._replace(events=before.events.then(TAKES), seen=seen, in_take=False, made=0)
+                yield (TAKES,), after
+                yield (), before._replace(seen=seen, in_take=True, made=None)
 
 
 def asks(before):
@@ -377,7 +408,7 @@ def part_of(script, command, before):
         too_deep = choice("close is refused: too deep", MAX_FRAMES <= len(before.frames))
         return writes_whole(script, too_deep, PUSH_CLOSE, b"", before)
     if name == "step_reader":
-        return reads_on(before)
+        return reads_on(command.count, before)
     if name == "take_page":
         return takes_page(before)
     return asks(before)

@@ -44,16 +44,22 @@ def call(command, folder):
         raise NotBuilt(ran.stdout)
 
 
-def compile_crate(folder, crate, named, root, file):
-    """Proves the crate in this folder, which uses the named ones, and compiles it."""
+def words_of(verb, crate, named, root):
+    """A call of the compiler for a crate that uses the named ones, without what says how it works."""
     lower = below(read_uses(), named)
     place = {name: TOP / "crates" / name / "out" / "rlib" / f"{name}.rlib" for name in lower}
-    words = [kit() / "bin" / "rattle", "build", "--crate-name", crate, *root]
+    words = [kit() / "bin" / "rattle", verb, "--crate-name", crate, *root]
     for name in ["std", *named]:
         words += ["--extern", f"{name}={place.get(name, kit() / 'rlibs' / f'{name}.rlib')}"]
     for libraries in [kit() / "rlibs", *(rlib.parent for rlib in place.values())]:
         words += ["-L", f"dependency={libraries}"]
     words += ["--antt-project", kit() / "rattle" / "logic" / "antt-project.json", "--logic-built", kit() / "logic_built"]
+    return words
+
+
+def compile_crate(folder, crate, named, root, file):
+    """Proves the crate in this folder, which uses the named ones, and compiles it."""
+    words = words_of("build", crate, named, root)
     kept = folder / "out" / "over_gate"
     kept.mkdir(parents=True, exist_ok=True)
     words += ["--jobs", "4", "--links", f"{crate}=", "--incremental", kept]

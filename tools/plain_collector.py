@@ -1,4 +1,4 @@
-"""A plain collector, to compare with `collector_rows`: it keeps its records in a dictionary and its missing numbers in
+"""A plain collector, to compare with `rows`: it keeps its records in a dictionary and its missing numbers in
 a list, and works out from them what the rules say: those of docs/FORMATS.md, in "Page image", "Parcel bytes" and
 "Printed text", and those of docs/PROVED.md, in "`collector`".
 """

@@ -1,4 +1,4 @@
-"""A plain ring, to compare with `ring_rows`: it keeps whole lists, and works out from them what the rules of
+"""A plain ring, to compare with `rows`: it keeps whole lists, and works out from them what the rules of
 docs/FORMATS.md, "The ring", say. The program asks the ring as a value and the two ends of a running ring, so there are two
 plain rings: the second makes a take whole with the step that ends it.
 """

@@ -1,4 +1,4 @@
-"""A plain reader of the files of trace-cmd, to compare with `trace_dat_rows`: it steps through the bytes by offsets, as
+"""A plain reader of the files of trace-cmd, to compare with `rows`: it steps through the bytes by offsets, as
 docs/FORMATS.md says, and tells what a file holds in the same words."""
 
 
@@ -183,7 +183,7 @@ def spelled(text):
 
 
 def answer(file):
-    """The lines that `trace_dat_rows` writes of a file."""
+    """The lines that `rows` writes of a file."""
     try:
         found, buffers, counters = reading(file)
     except Fault as fault:

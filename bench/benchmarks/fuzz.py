@@ -16,6 +16,8 @@ from lib.programs import Failure, rival, tracering
 NEEDS = ("rt", "rustc")
 # How many programs are run at a time.
 AT_A_TIME = 4
+# How many page images are made for each script.
+IMAGES = 4
 
 
 def ran(program, words, data):
@@ -37,10 +39,10 @@ def compare_scripts(pool, rng, programs, count, seed):
 
 
 def compare_images(pool, rng, program, count, seed):
-    made = [images.made_image(rng) for _ in range(count)]
+    made = [images.made_image(rng) for _ in range(IMAGES * count)]
     wanted = [images.dumped(image) for image in made]
     found = list(pool.map(lambda image: ran(program, ["dump"], image), made))
-    differ = [kept(f"{seed}-{at}.page", made[at]) for at in range(count) if found[at] != wanted[at]]
+    differ = [kept(f"{seed}-{at}.page", made[at]) for at in range(len(made)) if found[at] != wanted[at]]
     return "page images", sum(answer[0] == 1 for answer in wanted), differ
 
 

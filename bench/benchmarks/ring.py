@@ -5,19 +5,21 @@ each page is taken when it is closed.
 """
 
 from lib import count, tables
-from lib.programs import TOP, Failure, rival, staged
+from lib.programs import Failure, rival, staged
+from row_texts import TEXT, rows_of
 
 NEEDS = ("rt", "rustc", "valgrind")
-ROWS = TOP / "crates/ring_rows/stdout"
 RECORDS, LENGTH = 1_000_000, 16
 
 
 def run(folder):
     plain, ours = rival(folder, "ring"), staged("ring")
-    rows = ROWS.read_bytes()
-    if count.output([plain, "answer"], ROWS) != rows:
-        raise Failure(f"the rival's answers aren't those of {ROWS.relative_to(TOP)}")
-    yield f"The rival, a plain ring of the same rules in Rust, answers {rows.count(b' -> '):,} worked events rightly."
+    rows = folder / "rows"
+    rows.write_text("".join(rows_of("rings")))
+    if count.output([plain, "answer"], rows) != rows.read_bytes():
+        raise Failure(f"the rival's answers aren't those of {TEXT}")
+    events = rows.read_text().count(" -> ")
+    yield f"The rival, a plain ring of the same rules in Rust, answers {events:,} worked events rightly."
     yield ""
     bulk = ["bulk", str(RECORDS), str(LENGTH)]
     taken = {count.output([program, *bulk]) for program in (ours, plain)}

@@ -116,7 +116,9 @@ SCRIPTS = (
 
 
 def made_script(rng):
-    """A small script of all kinds of lines, a third of them cut or with a few bytes changed."""
+    """A small script of all kinds of lines, a third of them cut or with a few bytes changed, or a few bytes of any kind."""
+    if rng.random() < 0.05:
+        return rng.randbytes(rng.randrange(64))
     pages, size = rng.choice([2, 2, 2, 3, 3, 4, 5, 7]), rng.choice([32, 32, 32, 36, 40, 48, 64, 64, 128, 256, 4080])
     cpus, collectors = rng.choice([1, 1, 1, 2, 3, 5]), rng.choice([1, 1, 2, 3, 16])
     first = 0

@@ -198,6 +198,8 @@ static void *read_pages(void *given)
             return NULL;
         if (code != TRACERING_DONE) {
             seen->faults += code != TRACERING_EMPTY && code != TRACERING_MOVING;
+            // Wishes amid the writer's calls, which close the page that is written sooner.
+            seen->faults += tracering_wish(&seen->reader) != TRACERING_DONE;
             sched_yield();
         }
     }

@@ -2,6 +2,7 @@
 
 import asyncio
 import json
+import re
 import shutil
 import signal
 import socket
@@ -245,11 +246,17 @@ class Nats:
                     owed[consumer["name"]] = consumer["num_pending"] + consumer["num_ack_pending"]
         return owed
 
-    async def drained(self, logs):
-        """Waits until all consumers have acknowledged all, or, if a node's sum is wrong, nothing comes any more."""
+    async def drained(self, readers, logs):
+        """Waits until all readers have acknowledged all, or, if a node's sum is wrong, nothing comes any more."""
+        for _ in range(240):
+            if readers <= (await self.owed()).keys():
+                break
+            await asyncio.sleep(0.25)
+        else:
+            raise Failure(f"a minute later {readers - (await self.owed()).keys()} aren't consumers")
         async for _ in growing(logs):
             owed = await self.owed()
-            if owed and not any(owed.values()):
+            if readers <= owed.keys() and not any(owed.values()):
                 return
 
     async def trouble(self, rng):
@@ -315,8 +322,9 @@ class Kafka:
         self.child.start(self.program, stdin=subprocess.PIPE)
         for _ in range(200):
             await asyncio.sleep(0.05)
-            if text := self.child.output.read_text().split("\n")[:-1]:
-                self.words = ["--servers", text[-1]]
+            # (Warnings of the library go to the same file, also before the addresses.)
+            if found := re.search("^([0-9.:,]+)\n", self.child.output.read_text(), re.M):
+                self.words = ["--servers", found[1]]
                 return
         raise Failure("there are no brokers")
 
@@ -330,9 +338,24 @@ class Kafka:
     async def stored(self):
         return {}
 
-    async def drained(self, logs):
-        async for _ in growing(logs):
-            pass
+    async def owed(self, reader):
+        """How many messages a group hasn't committed."""
+        before = len(self.child.output.read_text())
+        self.tell(f"owed {reader}")
+        for _ in range(1200):
+            await asyncio.sleep(0.05)
+            if found := re.search(f"^owed {reader} (-?[0-9]+)\n", self.child.output.read_text()[before:], re.M):
+                return int(found[1])
+        raise Failure("the brokers don't answer what a group hasn't committed")
+
+    async def drained(self, readers, logs):
+        """Waits until all groups have committed all. One whose member was killed has to wait for its session to end."""
+        for _ in range(120):
+            owed = {reader: await self.owed(reader) for reader in sorted(readers)}
+            if not any(owed.values()):
+                return
+            await asyncio.sleep(0.5)
+        raise Failure(f"groups don't get what is left: {owed}")
 
     async def trouble(self, rng):
         """One fault: a broker that is away, or answers that come late. Answers its name."""

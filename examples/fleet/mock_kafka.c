@@ -1,26 +1,52 @@
 // Three brokers of librdkafka's mock cluster, for `test`: they speak the Kafka protocol on 127.0.0.1 and keep all in
-// memory, up to 5 MB a partition. It prints their addresses, and carries out `down N`, `up N` and `delay MILLISECONDS`,
-// a line each; it ends with its input.
+// memory, up to 5 MB a partition. It prints their addresses, and carries out `down N`, `up N`, `delay MILLISECONDS` and
+// `owed GROUP` (it prints how many messages the group hasn't committed), a line each; it ends with its input.
 #include "kafka_bus.h"
 
 #include <librdkafka/rdkafka_mock.h>
 
 enum { BROKERS = 3, PARTITIONS = 8 };
 
+// How many messages of the topic a group hasn't committed, or -1 if the brokers don't answer in time.
+static int64_t owed(const char *servers, const char *group)
+{
+    rd_kafka_conf_t *conf = rd_kafka_conf_new();
+    configure(conf, "bootstrap.servers", servers);
+    configure(conf, "group.id", group);
+    rd_kafka_t *kafka = connected(RD_KAFKA_CONSUMER, conf);
+    rd_kafka_topic_partition_list_t *places = rd_kafka_topic_partition_list_new(PARTITIONS);
+    rd_kafka_topic_partition_list_add_range(places, "trace", 0, PARTITIONS - 1);
+    int64_t sum = rd_kafka_committed(kafka, places, 5000) ? -1 : 0;
+    for (int k = 0; k < PARTITIONS && sum >= 0; k++) {
+        int64_t first, end, place = places->elems[k].offset;
+        if (places->elems[k].err || rd_kafka_query_watermark_offsets(kafka, "trace", k, &first, &end, 5000))
+            sum = -1;
+        else
+            sum += end - (place < first ? first : place); // (it is negative if nothing was committed)
+    }
+    rd_kafka_topic_partition_list_destroy(places);
+    rd_kafka_destroy(kafka);
+    return sum;
+}
+
 int main(void)
 {
     rd_kafka_t *kafka = connected(RD_KAFKA_PRODUCER, rd_kafka_conf_new());
     rd_kafka_mock_cluster_t *cluster = rd_kafka_mock_cluster_new(kafka, BROKERS);
-    char line[64], what[16];
-    int number;
+    char line[64], what[16], word[32];
     if (!cluster || rd_kafka_mock_topic_create(cluster, "trace", PARTITIONS, BROKERS))
         die("rd_kafka_mock_cluster_new", "it fails");
-    printf("%s\n", rd_kafka_mock_cluster_bootstraps(cluster));
+    const char *servers = rd_kafka_mock_cluster_bootstraps(cluster);
+    printf("%s\n", servers);
     (void)fflush(stdout);
     while (fgets(line, sizeof line, stdin)) {
-        if (sscanf(line, "%15s %d", what, &number) != 2)
+        if (sscanf(line, "%15s %31s", what, word) != 2)
             die("mock_kafka", line);
-        if (!strcmp(what, "down"))
+        int number = atoi(word);
+        if (!strcmp(what, "owed")) {
+            printf("owed %s %" PRId64 "\n", word, owed(servers, word));
+            (void)fflush(stdout);
+        } else if (!strcmp(what, "down"))
             (void)rd_kafka_mock_broker_set_down(cluster, number);
         else if (!strcmp(what, "up"))
             (void)rd_kafka_mock_broker_set_up(cluster, number);

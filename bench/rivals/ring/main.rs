@@ -2,7 +2,7 @@
 //! events and answers. Nothing is proved, and where memory is refused it stops.
 //!
 //!     ring bulk RECORDS LENGTH    writes RECORDS records of LENGTH bytes, with a take after each page
-//!     ring answer                 answers the events on standard input: the form is that of crates/ring_rows/stdout
+//!     ring answer                 answers the events on standard input: the form is that of crates/rows/stdout
 
 mod event;
 mod page;

@@ -1,4 +1,4 @@
-//! Events as text, and what the ring answers to them: the form of crates/ring_rows/stdout.
+//! Events as text, and what the ring answers to them: the form of crates/rows/stdout.
 
 use crate::event::{Answer, Ended, Event};
 use crate::page::{Body, Page};

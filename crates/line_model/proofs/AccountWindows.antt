@@ -1,6 +1,6 @@
 -- The window that events lead to, by the events alone: runs lead to it, and the events of an account are a run.
-use Rattle.std.proofs.Common.{◌≡◌, ℕ, zero, suc, ◌<◌, ◌⊎◌, List, [], ◌∷◌, ◌++◌, length, Some, refl, sym, ap, ◌∙◌, subst}
-use Rattle.std.proofs.Common.{inl, inr, ⊎_elim, arith, append_assoc, append-nil}
+use Rattle.std.proofs.Common.{◌≡◌, ℕ, zero, suc, ◌+◌, ◌<◌, ◌⊎◌, List, [], ◌∷◌, ◌++◌, length, Some, refl, sym, ap, ◌∙◌}
+use Rattle.std.proofs.Common.{subst, inl, inr, ⊎_elim, arith, append_assoc, append-nil}
 use Rattle.std.specs.Prelude.{IsTrue, fold}
 use Rattle.std.specs.List.{slice_get}
 use Rattle.std.proofs.lemmas.List.Sums.{fold-append}
@@ -15,7 +15,8 @@ use Rattle.text_model.specs.Script.{take_page, wish, deliver, Script}
 use Rattle.line_model.specs.Due.{window_at, situation_after, IsDue}
 use Rattle.line_model.specs.Accounts.{CpuState, IsIdle, Begins, refuses_frame, pushes_frame, stays_on, is_gone}
 use Rattle.line_model.specs.Accounts.{StepsTop, lacks_to_step, steps_on, FinishesTop, lacks_to_finish, finishes_it}
-use Rattle.line_model.specs.Accounts.{WritesWhole, refuses_whole, writes_it, TakesPage, ReadsOn, Asks, Adds, IsAccount}
+use Rattle.line_model.specs.Accounts.{WritesWhole, refuses_whole, writes_it, TakesPage, TakeSteps, finds_head, finds_none}
+use Rattle.line_model.specs.Accounts.{finds_one, takes_one, ReadsOn, goes_on, may_take, may_wait, Asks, Adds, IsAccount}
 use Rattle.line_model.proofs.Standing.{AreDue}
 
 act_moves : (w : Window) (a : HistoryEvent) → window_after w (acts a) ≡ window_after w (acts a)
@@ -180,6 +181,42 @@ asks_adds before after own (none, is) =
     ∙ sym (append-nil before.events)
     ∙ ap (λ (l : List RingEvent). before.events ++ l) (sym none)
 
+-- no event, or these: what the reader knows is no event
+adds_none : (before after : CpuState) (own : List RingEvent)
+    → own ≡ []
+    → after.events ≡ before.events
+    → IsBehind before own after
+adds_none before after own none same =
+    same ∙ sym (append-nil before.events) ∙ ap (λ (l : List RingEvent). before.events ++ l) (sym none)
+
+adds_one : (before after : CpuState) (own : List RingEvent)
+    → own ≡ takes ∷ []
+    → after.events ≡ before.events ++ takes ∷ []
+    → IsBehind before own after
+adds_one before after own one same = same ∙ ap (λ (l : List RingEvent). before.events ++ l) (sym one)
+
+take_adds : (start made total : ℕ) (before after : CpuState) (own : List RingEvent)
+    → TakeSteps start made total before own after
+    → IsBehind before own after
+take_adds start made total before after own (finds_head few none is) =
+    adds_none before after own none (ap (λ (s : CpuState). s.events) is)
+take_adds start made total before after own (finds_none two up none is) =
+    adds_none before after own none (ap (λ (s : CpuState). s.events) is)
+take_adds start made total before after own (finds_one two few low none is) =
+    adds_none before after own none (ap (λ (s : CpuState). s.events) is)
+take_adds start made total before after own (takes_one four one is) =
+    adds_one before after own one (ap (λ (s : CpuState). s.events) is)
+
+reads_add : (start count : ℕ) (before after : CpuState) (own : List RingEvent)
+    → ReadsOn start count before own after
+    → IsBehind before own after
+reads_add start count before after own (goes_on made is apart part) =
+    take_adds start made (made + count) before after own part
+reads_add start count before after own (may_take why seen seen_is one is) =
+    adds_one before after own one (ap (λ (s : CpuState). s.events) is)
+reads_add start count before after own (may_wait why seen seen_is none is) =
+    adds_none before after own none (ap (λ (s : CpuState). s.events) is)
+
 pub line_adds : (script : Script) (cpu : ℕ) (command : Command) (before after : CpuState) (own : List RingEvent)
     → Adds script cpu command before own after
     → after.events ≡ before.events ++ own
@@ -194,8 +231,7 @@ line_adds script cpu (write at moment payload) before after own adds =
 line_adds script cpu (close at) before after own adds =
     at_adds before after own (writes_add script _ _ _ before after own) adds
 line_adds script cpu (step_reader at count) before after own adds =
-    at_adds before after own (λ (r : ReadsOn script.start before own after). ap (λ (s : CpuState). s.events) r.after_is)
-    adds
+    at_adds before after own (reads_add script.start count before after own) adds
 line_adds script cpu (take_page at) before after own adds =
     at_adds before after own
     (λ (t : TakesPage script.start before own after). ap (λ (s : CpuState). s.events) t.after_is) adds

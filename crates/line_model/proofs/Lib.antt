@@ -26,6 +26,7 @@ pub mod RunCalls
 pub mod ReplayedLines
 -- a ring beside an account
 pub mod Standing
+pub mod TakesCounted
 -- what the frame on top does
 pub mod WishesKept
 pub mod DueRuns
@@ -38,12 +39,15 @@ pub mod TopsDo
 -- whole scripts have one account
 pub mod OneAccount
 pub mod OneText
+-- what is printed of the log
+pub mod LogLines
 -- what an account is
 pub mod AccountWindows
 pub mod NestedFrames
 -- worlds have accounts
 pub mod StandingKept
 pub mod ReaderLines
+pub mod CountedTakes
 pub mod ReaderStands
 pub mod PushCases
 pub mod RecordsStand

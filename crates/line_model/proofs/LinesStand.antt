@@ -99,7 +99,7 @@ module _ (script : Script) (cpu : ℕ) (lane next : Lane) (state : CpuState)
       (close_stands script lane next state xs stands run)
   line_stands (step_reader at count) on within run =
       as_line (step_reader at count) (λ own after part. inl (on, part))
-      (reads_stand script lane next state stands xs (step_reader at count) run run.0)
+      (reads_stand script lane next state stands xs (step_reader at count) run run.0 count run.1)
   line_stands (take_page at) on within run =
       as_line (take_page at) (λ own after part. inl (on, part))
       (takes_stand script lane next state stands xs (take_page at) run run.0 run.1)

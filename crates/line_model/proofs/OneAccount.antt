@@ -1,7 +1,7 @@
 -- A script whose lines ask for no single steps has one account of each CPU: of what a frame may do, at most one event
 -- is due at a time.
 use Rattle.std.proofs.Common.{◌≡◌, ◌≢◌, ℕ, zero, suc, ◌+◌, ◌<◌, ◌≤◌, ◌⊎◌, IsTrue, Bool, true, false, List, [], ◌∷◌}
-use Rattle.std.proofs.Common.{◌++◌, length, Some, None, get_or, refl, sym, ap, ◌∙◌, subst, inl, inr, append_assoc}
+use Rattle.std.proofs.Common.{◌++◌, length, Option, Some, None, get_or, refl, sym, ap, ◌∙◌, subst, inl, inr, append_assoc}
 use Rattle.std.proofs.Common.{append-nil, arith}
 use Rattle.std.specs.Prelude.{⊤}
 use Rattle.std.proofs.lemmas.List.Sums.{fold-append}
@@ -531,6 +531,16 @@ module _ (script : Script) (before : CpuState) (whole : IsWhole script.start bef
   seen_now own seen (inr (is, inl amid)) = absurd (let both : true ≡ false = sym amid ∙ whole.at_rest in cc)
   seen_now own seen (inr (is, inr (none, moving))) = absurd (moves_nothing moving)
 
+  made_now : (own : List RingEvent) (made : Option ℕ)
+      → (made ≡ Some 0) ⊎ ((made ≡ None) × (own ≡ []) × IsMoving before.frames)
+      → made ≡ Some 0
+  made_now own made (inl is) = is
+  made_now own made (inr (is, none, moving)) = absurd (moves_nothing moving)
+
+  abbrev after_take : List RingEvent → ℕ → Option ℕ → CpuState
+  after_take own seen made =
+      record before { events = before.events ++ own; seen = seen; in_take = false; made = made }
+
   one_take : (own other : List RingEvent) (one two : CpuState)
       → AllDue script before.wish before.events own
       → AllDue script before.wish before.events other
@@ -539,10 +549,12 @@ module _ (script : Script) (before : CpuState) (whole : IsWhole script.start bef
       → one ≡ two
   one_take own other one two due dues first second =
       first.after_is
-      ∙ ap (λ (l : List RingEvent). record before { events = before.events ++ l; seen = first.seen; in_take = false })
+      ∙ ap (λ (l : List RingEvent). after_take l first.seen first.made)
       (one_taken own other due dues first.own_is second.own_is)
-      ∙ ap (λ (n : ℕ). record before { events = before.events ++ other; seen = n; in_take = false })
+      ∙ ap (λ (n : ℕ). after_take other n first.made)
       (seen_now own first.seen first.seen_is ∙ sym (seen_now other second.seen second.seen_is))
+      ∙ ap (after_take other second.seen)
+      (made_now own first.made first.made_is ∙ sym (made_now other second.made second.made_is))
       ∙ sym second.after_is
 
   whole_take : (own : List RingEvent) (after : CpuState)

@@ -1,5 +1,5 @@
 -- What the steps of a reader's lines make of its ring: whether a page is taken, and what the reader then knows.
-use Rattle.std.proofs.Common.{◌≡◌, ◌≢◌, ℕ, ◌+◌, ◌<◌, ◌⊎◌, List, [], ◌∷◌, ◌++◌, length, refl, sym, ap, ◌∙◌, subst, inl}
+use Rattle.std.proofs.Common.{◌≡◌, ◌≢◌, ℕ, suc, ◌+◌, ◌<◌, ◌⊎◌, List, [], ◌∷◌, ◌++◌, length, refl, sym, ap, ◌∙◌, subst, inl}
 use Rattle.std.proofs.Common.{inr, ⊎_elim, arith}
 use Rattle.std.specs.Prelude.{⊤}
 use Rattle.trace_model.specs.Frames.{Frame}
@@ -14,12 +14,14 @@ use Rattle.trace_model.proofs.steps.StepCases.{push_refused, close_step, close_r
 use Rattle.trace_model.proofs.steps.StepCases.{end_step, end_lacks, end_early, read_step, store_wish_step}
 use Rattle.trace_model.proofs.steps.StepSound.{cases_of}
 use Rattle.trace_model.proofs.steps.EventKinds.{IsReads, IsWishes}
+use Rattle.ring_model.specs.KeptLinks.{ReaderKept}
 use Rattle.ring_model.specs.RingKept.{IsRingKept}
 use Rattle.ring_model.specs.Reached.{IsReached}
 use Rattle.ring_model.proofs.frames.AnswersRight.{empty_right, moving_right, swapped_right}
 use Rattle.ring_model.proofs.partition.RingsKept.{reached_kept, reached_further}
 use Rattle.ring_model.proofs.seats.SeatSteps.{reader_leaves_writer}
 use Rattle.world_model.specs.Lanes.{Lane, lane_behind, ReaderRun, HasTakeAnswer}
+use Rattle.line_model.proofs.Standing.{steps_of, IsAtHead}
 use Rattle.line_model.proofs.StandingKept.{all_left}
 
 -- ---- one step
@@ -46,6 +48,7 @@ pub record TakesOne (c after : Core) : Type 0 where
   pub closed : c.head < c.done
   pub head : after.head ≡ c.head + 1
   pub taken : after.reader.taken ≡ c.reader.taken ++ page ∷ []
+  pub rests : IsAtHead after 0
 
 -- the reader has seen which fills are closed, or knows what it knew
 abbrev pub Sees : Core → Core → Type 0
@@ -70,9 +73,10 @@ pub record Answers (c after : Core) : Type 0 where
   pub knows : Knows c
       → (after.reader.seen ≡ c.done) ⊎ ((after.reader.seen ≡ c.reader.seen) × TakesNone c after × IsInTheWay c)
   pub at_rest : after.reader.phase ≡ loading_head
+  pub at_head : (after.reader.hint ≡ after.head) ⊎ (TakesNone c after × IsInTheWay c)
 
 -- a step of a take that goes on
-record GoesOn (c after : Core) : Type 0 where
+pub record GoesOn (c after : Core) : Type 0 where
   pub none : TakesNone c after
   pub sees : Sees c after
   pub knows : Knows c → HasLooked after.reader.phase after.reader.seen c.done
@@ -116,8 +120,14 @@ module _ (n size start : ℕ) (c : Core) (answer : Answer) (after : Core) (kept 
           sees = inr seen;
           knows = λ looked. inr (seen, record { head = head; taken = taken }, stops);
           at_rest = phase;
+          at_head = inr (record { head = head; taken = taken }, stops);
         },
       )
+
+  -- what is asked whether it is closed is the hint
+  hint_of : (page fill : ℕ) → c.reader.phase ≡ loading_done page fill → fill ≡ c.reader.hint
+  hint_of page fill at =
+      (subst (ReaderKept n c.links c.order c.spare_link c.head c.done c.reader.hint) at kept.links.reader).fill_is
 
   reads_of : (phase : ReaderPhase) → c.reader.phase ≡ phase → ReadStep n c phase answer after → Reads
   reads_of loading_head at (loads_header page fill link a is) = goes_on _ a is refl refl (inr refl) (λ looked. tt)
@@ -135,6 +145,7 @@ module _ (n size start : ℕ) (c : Core) (answer : Answer) (after : Core) (kept 
           sees = inl refl;
           knows = λ looked. inl refl;
           at_rest = refl;
+          at_head = inl (let at = hint_of page fill at in let low = kept.links.hint_le in omega (arith, at, low, le, up));
         },
       )
   reads_of (loading_done page fill) at (finds_closed closed a is) =
@@ -147,13 +158,27 @@ module _ (n size start : ℕ) (c : Core) (answer : Answer) (after : Core) (kept 
       inr (
         λ on. (let both : page_taken _ ≡ reading = sym a ∙ on in cc),
         record {
-          takes = inl record { page = _; fill = here; closed = closed; head = head; taken = taken };
+          takes = inl record {
+            page = _;
+            fill = here;
+            closed = closed;
+            head = head;
+            taken = taken;
+            rests = record {
+              steps = ap (λ (d : Core). steps_of d.reader.phase) is;
+              hint = ap (λ (d : Core). d.reader.hint) is ∙ next_is here ∙ sym head;
+            };
+          };
           sees = inr (ap (λ (d : Core). d.reader.seen) is);
           knows = λ looked. inl (ap (λ (d : Core). d.reader.seen) is
               ∙ subst (λ (p : ReaderPhase). HasLooked p c.reader.seen c.done) at looked);
           at_rest = ap (λ (d : Core). d.reader.phase) is;
+          at_head = inl (ap (λ (d : Core). d.reader.hint) is ∙ next_is here ∙ sym head);
         },
       )
+    where
+      next_is : fill ≡ c.head → suc fill ≡ c.head + 1
+      next_is here = omega (arith, here)
   reads_of (swapping page fill) at (swap_fails link a is) = goes_on _ a is refl refl (inr refl) (λ looked. tt)
 
   read_wish : (phase : ReaderPhase) → ReadStep n c phase answer after → after.wish ≡ c.wish
@@ -167,7 +192,7 @@ module _ (n size start : ℕ) (c : Core) (answer : Answer) (after : Core) (kept 
   read_wish (swapping page fill) (swaps link a is) = ap (λ (d : Core). d.wish) is
   read_wish (swapping page fill) (swap_fails link a is) = ap (λ (d : Core). d.wish) is
 
-  by_case : StepCases n size c reads answer after → ReadStep n c c.reader.phase answer after
+  pub by_case : StepCases n size c reads answer after → ReadStep n c c.reader.phase answer after
   by_case (push_step moment len e few short early a is) = absurd (subst IsReads e tt)
   by_case (push_refused moment len why e denied a is) = absurd (subst IsReads e tt)
   by_case (close_step e few a is) = absurd (subst IsReads e tt)
@@ -180,10 +205,10 @@ module _ (n size start : ℕ) (c : Core) (answer : Answer) (after : Core) (kept 
   by_case (read_step e made) = made
   by_case (store_wish_step e a is) = absurd (subst IsReads e tt)
 
-  one_reads : Reads
+  pub one_reads : Reads
   one_reads = reads_of c.reader.phase refl (by_case (cases_of step))
 
-  one_stays : Stays c after
+  pub one_stays : Stays c after
   one_stays =
       let w = reader_leaves_writer n size c reads answer after tt (cases_of step) in record {
         frames = w.frames;
@@ -223,6 +248,7 @@ module _ (c between after : Core) (first : GoesOn c between) (stays : Stays c be
         (let low = t.closed in let head = first.none.head in let done = stays.done in omega (arith, low, head, done));
     head = t.head ∙ ap (λ (k : ℕ). k + 1) first.none.head;
     taken = t.taken ∙ ap (λ (l : List TakenFill). l ++ t.page ∷ []) first.none.taken;
+    rests = t.rests;
   }
 
   sees_behind : Sees between after → Sees c after
@@ -252,6 +278,7 @@ module _ (c between after : Core) (first : GoesOn c between) (stays : Stays c be
         (λ old. inr (same ∙ old, none_behind none, way_behind way)) first.sees)
         (a.knows (knows_behind looked));
     at_rest = a.at_rest;
+    at_head = ⊎_elim (λ here. inl here) (λ (none, way). inr (none_behind none, way_behind way)) a.at_head;
   }
 
 -- ---- the steps of a line

@@ -5,7 +5,7 @@ use Rattle.std.specs.Prelude.{⊤}
 use Rattle.trace_model.specs.Window.{RingEvent, acts, history_events_of}
 use Rattle.trace_model.specs.History.{reserve}
 use Rattle.trace_model.specs.Frames.{for_close, waiting, left, idle, noted_fill, owned_update, Frame}
-use Rattle.trace_model.specs.Ring.{loading_head, Core}
+use Rattle.trace_model.specs.Ring.{ReaderPhase, loading_head, loading_done, storing_spare_link, swapping, Core}
 use Rattle.trace_model.specs.Steps.{Exchange}
 use Rattle.text_model.specs.Script.{Script}
 use Rattle.ring_model.specs.RunsAsEvents.{AreEventsOfRun}
@@ -32,6 +32,18 @@ FramesStand (frame ∷ below) (payload ∷ payloads) [] = ⊥
 FramesStand (frame ∷ below) (payload ∷ payloads) (line ∷ lines) =
     FrameStands frame payload lines line × FramesStand below payloads lines
 
+-- how many steps a take in this phase has made
+abbrev pub steps_of : ReaderPhase → ℕ
+steps_of loading_head = 0
+steps_of (loading_done page fill) = 1
+steps_of (storing_spare_link page fill) = 2
+steps_of (swapping page fill) = 3
+
+-- the reader knows where the head is, and its take has made this many steps
+pub record IsAtHead (c : Core) (made : ℕ) : Type 0 where
+  pub steps : steps_of c.reader.phase ≡ made
+  pub hint : c.reader.hint ≡ c.head
+
 -- the ring, its payloads and what its reader knows, beside the state
 pub record Stands (script : Script) (lane : Lane) (state : CpuState) : Type 0 where
   pub reached : IsReached script.pages script.size script.start lane.core
@@ -40,6 +52,7 @@ pub record Stands (script : Script) (lane : Lane) (state : CpuState) : Type 0 wh
   pub frames : FramesStand lane.core.frames lane.payloads state.frames
   pub seen : state.seen ≡ lane.core.reader.seen
   pub at_rest : state.in_take ≡ false → lane.core.reader.phase ≡ loading_head
+  pub counted : (made : ℕ) → state.made ≡ Some made → IsAtHead lane.core made
   pub wish : state.wish ≡ lane.core.wish
 
 -- The frame on top, if it is a close frame that waits and has noted a fill to begin: it is the next one. No other frame

@@ -2,6 +2,7 @@
 -- is still there or has gone.
 use Rattle.std.proofs.Common.{◌≡◌, ◌≢◌, ℕ, suc, ◌+◌, ◌<◌, ◌≤◌, Bool, List, [], ◌∷◌, ◌++◌, length, Option, Some}
 use Rattle.std.proofs.Common.{None, refl, sym, ap, ◌∙◌, subst, inl, inr, arith, append-nil}
+use Rattle.std.specs.List.{fold}
 use mathlib.Core.Logic.{dite}
 use native.Mathlib.Decide.{dec_le}
 use Rattle.trace_model.specs.declared.limits.TheConstants.{LINK_FILLS}
@@ -9,7 +10,7 @@ use Rattle.trace_model.specs.History.{reserve, leave, Reservation, PushedFrame, 
 use Rattle.trace_model.specs.History.{reservation_for}
 use Rattle.trace_model.specs.Packing.{opens_of, tail_of, fill_len, is_wished}
 use Rattle.trace_model.specs.Fitting.{NeedsFill}
-use Rattle.trace_model.specs.Window.{RingEvent, acts, history_events_of, WindowRunFrom}
+use Rattle.trace_model.specs.Window.{Window, RingEvent, acts, history_events_of, window_after, WindowRunFrom}
 use Rattle.trace_model.specs.Frames.{Purpose, for_record, for_close, Progress, waiting, reserved, left, idle}
 use Rattle.trace_model.specs.Frames.{noted_fill, pushed_frame, pushed_onto, Frame, pushed_frames}
 use Rattle.trace_model.specs.Ring.{Reader, Core, window_of}
@@ -31,7 +32,9 @@ use Rattle.world_model.proofs.LanePayloads.{fit_moved}
 use Rattle.line_model.specs.CallEvents.{IsRecordOnTop}
 use Rattle.line_model.specs.Due.{Situation, situation_after, IsFillNeededFor, IsFillNeeded, HasNoFill, Leaves, IsDue}
 use Rattle.line_model.specs.Accounts.{LineFrame, IsThere, IsOwn, Does, with_own}
-use Rattle.line_model.proofs.Standing.{FrameStands, FramesStand, Stands}
+use Rattle.line_model.proofs.AccountWindows.{run_leads}
+use Rattle.line_model.proofs.Standing.{FrameStands, FramesStand, steps_of, IsAtHead, Stands}
+use Rattle.line_model.proofs.TakesCounted.{made_before, none_added}
 use Rattle.line_model.proofs.DueRuns.{situation_of, situation_is, run_on, DueFrom}
 use Rattle.line_model.proofs.StepDoes.{line, IsNew, TopStep, Made, stand_counted, kept_payloads, popped_payloads}
 use Rattle.line_model.proofs.StepDoes.{first_frame}
@@ -153,8 +156,24 @@ module _ (t : TopStep) where
     frames = stack;
     seen = t.stands.seen ∙ sym (ap (λ (r : Reader). r.seen) stays.reader);
     at_rest = λ e. ap (λ (r : Reader). r.phase) stays.reader ∙ t.stands.at_rest e;
+    counted = λ made is. counted_after made (made_before c.head (window_of c) own t.state.made made none_taken is);
     wish = t.stands.wish ∙ sym stays.wish;
   }
+    where
+      none_taken : fills_taken c.head own ≡ []
+      none_taken = none_added (numbers_of c.reader.taken) (fills_taken c.head own)
+          (sym (ap (λ (r : Reader). numbers_of r.taken) stays.reader) ∙ are.took)
+
+      counted_after : (made : ℕ)
+          → (t.state.made ≡ Some made) × ((fold window_after (window_of c) own).head ≡ c.head)
+          → IsAtHead t.after made
+      counted_after made (known, same) =
+          let at = t.stands.counted made known in
+          let window = run_leads t.script.pages c.history (window_of c) (window_of t.after) own are.window in record {
+            steps = ap (λ (r : Reader). steps_of r.phase) stays.reader ∙ at.steps;
+            hint = ap (λ (r : Reader). r.hint) stays.reader ∙ at.hint ∙ sym same
+                ∙ ap (λ (w : Window). w.head) window;
+          }
 
   -- at most one history event of a record frame, which is a reserve if it has made no step and needs no page
   abbrev pub Brief : List RingEvent → Type 0

@@ -2,6 +2,8 @@
 use Rattle.std.proofs.Common.{◌≡◌, ◌≢◌, ℕ, ◌<◌, ◌≤◌, Bool, true, false, List, [], ◌∷◌, ◌++◌, length, Option, Some, None}
 use Rattle.std.proofs.Common.{refl, sym, ap, ◌∙◌, subst, inl, inr, ⊎_elim, arith, append_assoc, append-nil}
 use Rattle.std.proofs.Common.{length-append}
+use Rattle.std.specs.List.{fold}
+use Rattle.std.proofs.lemmas.List.Sums.{fold-append}
 use Rattle.trace_model.specs.History.{HistoryEvent, reserve}
 use Rattle.trace_model.specs.Window.{RingEvent, acts, history_events_of}
 use Rattle.trace_model.specs.Frames.{Progress, waiting, reserved, left, Frame}
@@ -15,7 +17,7 @@ use Rattle.world_model.proofs.FramesMove.{PushesNone}
 use Rattle.world_model.proofs.LanePayloads.{pushes_none}
 use Rattle.line_model.specs.CallEvents.{IsRecordOnTop}
 use Rattle.line_model.specs.Due.{situation_after, IsFillNeeded}
-use Rattle.line_model.specs.Accounts.{LineFrame, CpuState, IsThere, frame_after, Does, HasGone}
+use Rattle.line_model.specs.Accounts.{LineFrame, CpuState, IsThere, frame_after, Does, HasGone, made_after, with_own}
 use Rattle.line_model.proofs.Standing.{FrameStands, FramesStand, Stands, IsFresh, StaysOrGoes, TopsDo}
 use Rattle.line_model.proofs.DueRuns.{DueFrom, due_append, are_due}
 use Rattle.line_model.proofs.StepDoes.{line, IsNew, StepDoes}
@@ -159,7 +161,16 @@ module _ (script : Script) (below : List LineFrame) (depth : ℕ) where
   module _ (before : Lane) (state : CpuState) (payload : Option (List ℕ)) (losing : Bool) (x : Exchange) (core : Core)
       (d : StepDoes script before state payload losing below (lane_behind before core)) where
     abbrev later : CpuState
-    later = record state { events = state.events ++ d.own }
+    later = record state { events = state.events ++ d.own; made = fold made_after state.made d.own }
+
+    -- the state after these events and those
+    after_both : (more : List RingEvent) (frames : List LineFrame)
+        → with_own later more frames ≡ with_own state (d.own ++ more) frames
+    after_both more frames = λ i. record state {
+      events = append_assoc state.events d.own more i;
+      frames = frames;
+      made = sym (fold-append made_after state.made d.own more) i;
+    }
 
     -- it is still there after the step
     goes_on : (exchanges : List Exchange) (after : Lane)
@@ -185,17 +196,14 @@ module _ (script : Script) (below : List LineFrame) (depth : ℕ) where
           (λ (there, same, stands). inl (
             there,
             same ∙ long,
-            subst (λ (xs : List RingEvent). Stands script after
-                (record state { events = xs; frames = line r.payload_after r.losing_after ∷ below }))
-                (append_assoc state.events d.own r.own) stands,
+            subst (Stands script after) (after_both r.own (line r.payload_after r.losing_after ∷ below)) stands,
           ))
           (λ (gone, fewer, stands). inr (
             subst (λ (xs : List RingEvent).
                 HasGone (situation_after script state.wish xs) below (line r.payload_after r.losing_after))
                 (append_assoc state.events d.own r.own) gone,
             omega (arith, fewer, long),
-            subst (λ (xs : List RingEvent). Stands script after (record state { events = xs; frames = below }))
-                (append_assoc state.events d.own r.own) stands,
+            subst (Stands script after) (after_both r.own below) stands,
           ))
           r.ends;
     }
@@ -257,7 +265,8 @@ module _ (script : Script) (below : List LineFrame) (depth : ℕ) where
       }) event in
       ⊎_elim
       (λ (there, long, on). goes_on before state payload losing x core d exchanges after long
-      (run_does exchanges (lane_behind before core) (record state { events = state.events ++ d.own }) d.payload_after
+      (run_does exchanges (lane_behind before core)
+      (record state { events = state.events ++ d.own; made = fold made_after state.made d.own }) d.payload_after
       d.losing_after after on (d.fresh long) (long ∙ count) run))
       (λ (gone, fewer, on). has_gone before state payload losing x core d exchanges after fewer count run)
       d.ends
@@ -274,6 +283,7 @@ tops_do script before state top below exchanges after stands is fresh run =
       frames = stepped_stand before.core.frames before.payloads top below stack;
       seen = stands.seen;
       at_rest = stands.at_rest;
+      counted = stands.counted;
       wish = stands.wish;
     } fresh refl run in
     record {

@@ -1,6 +1,7 @@
 -- The lines of a writer, from a ring that stands beside an account: they are lines of the account, and it stands again.
 use Rattle.std.proofs.Common.{◌≡◌, ◌≢◌, ℕ, ◌≤◌, Bool, true, false, List, [], ◌∷◌, ◌++◌, length, Some, None, refl, sym}
 use Rattle.std.proofs.Common.{ap, ◌∙◌, subst, inl, inr, ⊎_elim, arith, append_assoc}
+use Rattle.std.specs.List.{fold}
 use Rattle.trace_model.specs.declared.limits.TheConstants.{MAX_FRAMES}
 use Rattle.trace_model.specs.History.{HistoryEvent, push, push_close, open_fill, reserve, leave, wished}
 use Rattle.trace_model.specs.Frames.{Purpose, for_record, for_close, idle, noted_fill, Frame, WriteFault}
@@ -15,7 +16,8 @@ use Rattle.text_model.specs.Script.{Script}
 use Rattle.world_model.specs.Lanes.{Lane, FitsKind, lane_with, FrameRun, IsGone, StepsFrame, lacks_to_step, steps_on}
 use Rattle.world_model.specs.Lanes.{FinishesFrame, lacks_to_finish, finishes, PushesFrame, FinishesPushed, WritesFrame}
 use Rattle.line_model.specs.Due.{Situation, situation_after, IsDue}
-use Rattle.line_model.specs.Accounts.{LineFrame, CpuState, IsOwn, frame_after, Does, HasGone, with_own, IsIdle}
+use Rattle.line_model.specs.Accounts.{LineFrame, CpuState, IsOwn, frame_after, Does, HasGone, made_after, with_own}
+use Rattle.line_model.specs.Accounts.{IsIdle}
 use Rattle.line_model.specs.Accounts.{new_frame, IsRefused, Begins, refuses_frame, pushes_frame, MayGo, stays_on}
 use Rattle.line_model.specs.Accounts.{is_gone, StepsTop, FinishesTop, finishes_it, WritesWhole, refuses_whole}
 use Rattle.line_model.specs.Accounts.{writes_it}
@@ -110,6 +112,8 @@ module _ (script : Script) (lane : Lane) (state : CpuState) (stands : Stands scr
     );
     seen = stands.seen;
     at_rest = stands.at_rest;
+    counted = λ made is.
+        let at = stands.counted made is in record { steps = at.steps; hint = at.hint };
     wish = stands.wish;
   }
 
@@ -384,7 +388,8 @@ module _ (script : Script) (lane : Lane) (state : CpuState) (stands : Stands scr
           due = more_due script state.wish state.events g.own (acts event)
               (any (situation_after script state.wish state.events)) g.due;
           stands = subst
-              (λ (l : List RingEvent). Stands script next (record state { events = l; frames = state.frames })) same
+              (λ (l : List RingEvent). Stands script next
+              (record state { events = l; frames = state.frames; made = fold made_after state.made g.own })) same
               g.again;
         }
 

@@ -1,8 +1,8 @@
 -- What the lines of a script do to one CPU, by events of its ring alone: each line adds events of its own, of its frame
 -- or of the reader, and each of them is due. docs/MODEL.md, "What is printed, by histories alone"; tools/account
 -- computes it.
-use Rattle.std.specs.Prelude.{◌≡◌, ◌≢◌, ℕ, suc, ◌+◌, ◌<◌, ◌≤◌, ◌⊎◌, Bool, true, false, List, [], ◌∷◌, ◌++◌, length}
-use Rattle.std.specs.Prelude.{Option, Some, None, Contains}
+use Rattle.std.specs.Prelude.{◌≡◌, ◌≢◌, ℕ, suc, ◌+◌, ◌<◌, ◌≤◌, ◌⊎◌, nat_lt, Bool, true, false, if◌then◌else◌, fold}
+use Rattle.std.specs.Prelude.{List, [], ◌∷◌, ◌++◌, length, Option, Some, None, Contains}
 use Rattle.std.specs.List.{slice_get}
 use Rattle.trace_model.specs.declared.limits.TheConstants.{MAX_FRAMES, MOMENT_LIMIT}
 use Rattle.trace_model.specs.Words.{padded, encoded_len}
@@ -24,18 +24,21 @@ pub record LineFrame : Type 0 where
   pub losing : Bool
 
 -- events: what was done to the ring so far, in one order. frames: the stack, the top first. seen: the reader knows the
--- fills below this one to be closed. in_take: an `r` line may have left a take under way. wish: one more than the
--- number of the fill that the reader asks for, 0 before its first wish.
+-- fills below this one to be closed. in_take: an `r` line may have left a take under way. made: how many steps that
+-- take has made, 0 if none is under way; not known if the reader may have to look for the head: a fill was lost since
+-- it found that, or a frame was amid a move. wish: one more than the number of the fill that the reader asks for, 0
+-- before its first wish.
 pub record CpuState : Type 0 where
   pub events : List RingEvent
   pub frames : List LineFrame
   pub seen : ℕ
   pub in_take : Bool
+  pub made : Option ℕ
   pub wish : ℕ
 
 -- before the first line
 abbrev pub new_cpu : (start : ℕ) → CpuState
-new_cpu start = record { events = []; frames = []; seen = start; in_take = false; wish = 0 }
+new_cpu start = record { events = []; frames = []; seen = start; in_take = false; made = Some 0; wish = 0 }
 
 -- ---- what a frame does
 
@@ -81,9 +84,15 @@ HasGone s below frame = (frame.payload ≡ None) × ((event : RingEvent) → IsO
 
 -- ---- what a line adds
 
--- these events are added, and then these frames are on the stack
+-- what is known of the steps of a take, after an event of a frame
+abbrev pub made_after : Option ℕ → RingEvent → Option ℕ
+made_after made loses = None
+made_after made _ = made
+
+-- these events of a frame are added, and then these frames are on the stack
 abbrev pub with_own : CpuState → List RingEvent → List LineFrame → CpuState
-with_own before own frames = record before { events = before.events ++ own; frames = frames }
+with_own before own frames =
+    record before { events = before.events ++ own; frames = frames; made = fold made_after before.made own }
 
 -- nothing is done
 abbrev pub IsIdle : CpuState → List RingEvent → CpuState → Type 0
@@ -159,7 +168,7 @@ IsMoving frames = (frame : LineFrame) × Contains frames frame × (frame.losing 
 
 -- `t`: the oldest fill is taken; nothing only if no closed fill is unread, or a frame may be amid a move of the head,
 -- in which a fill may be taken or not. The reader then knows which fills are closed; or no more than before, only if
--- nothing was taken in such a move, or an `r` line came before.
+-- nothing was taken in such a move, or an `r` line came before. It has found the head, if not in such a move.
 pub record TakesPage (start : ℕ) (before : CpuState) (own : List RingEvent) (after : CpuState) : Type 0 where
   pub own_is : (own ≡ takes ∷ [])
       ⊎ ((own ≡ []) × (IsMoving before.frames
@@ -167,14 +176,73 @@ pub record TakesPage (start : ℕ) (before : CpuState) (own : List RingEvent) (a
   pub seen : ℕ
   pub seen_is : (seen ≡ (window_at start before.events).done)
       ⊎ ((seen ≡ before.seen) × ((before.in_take ≡ true) ⊎ ((own ≡ []) × IsMoving before.frames)))
-  pub after_is : after ≡ record before { events = before.events ++ own; seen = seen; in_take = false }
+  pub made : Option ℕ
+  pub made_is : (made ≡ Some 0) ⊎ ((made ≡ None) × (own ≡ []) × IsMoving before.frames)
+  pub after_is : after ≡ record before {
+    events = before.events ++ own;
+    seen = seen;
+    in_take = false;
+    made = made;
+  }
 
--- `r`: a fill may be taken, and the reader may see which fills are closed
-pub record ReadsOn (start : ℕ) (before : CpuState) (own : List RingEvent) (after : CpuState) : Type 0 where
-  pub own_is : (own ≡ takes ∷ []) ⊎ (own ≡ [])
-  pub seen : ℕ
-  pub seen_is : (seen ≡ (window_at start before.events).done) ⊎ (seen ≡ before.seen)
-  pub after_is : after ≡ record before { events = before.events ++ own; seen = seen; in_take = true }
+-- what the reader knows to be closed after the second step of a take that had made so many before this line
+abbrev pub seen_by : (start made : ℕ) → CpuState → ℕ
+seen_by start made before = if nat_lt made 2 then (window_at start before.events).done else before.seen
+
+-- A take with nothing in its way had made so many steps before this line, and has made `total` in all: the first finds
+-- the head, the second which fills are closed, and the fourth takes the oldest. It ends after the second if that isn't
+-- closed.
+pub data TakeSteps (start made total : ℕ) (before : CpuState) (own : List RingEvent) (after : CpuState) : Type 0 where
+  finds_head : total < 2
+      → own ≡ []
+      → after ≡ record before { in_take = true; made = Some total }
+      → TakeSteps start made total before own after
+  finds_none : 2 ≤ total
+      → (window_at start before.events).head ≡ (window_at start before.events).done
+      → own ≡ []
+      → after ≡ record before { seen = seen_by start made before; in_take = false; made = Some 0 }
+      → TakeSteps start made total before own after
+  finds_one : 2 ≤ total
+      → total < 4
+      → (window_at start before.events).head < (window_at start before.events).done
+      → own ≡ []
+      → after ≡ record before { seen = seen_by start made before; in_take = true; made = Some total }
+      → TakeSteps start made total before own after
+  takes_one : 4 ≤ total
+      → own ≡ takes ∷ []
+      → after ≡ record before {
+        events = before.events ++ takes ∷ [];
+        seen = seen_by start made before;
+        in_take = false;
+        made = Some 0;
+      }
+      → TakeSteps start made total before own after
+
+-- `r`: the take makes this many steps. If the reader may have to look for the head, a fill may be taken or not, and
+-- the reader may see which fills are closed or not.
+pub data ReadsOn (start count : ℕ) (before : CpuState) (own : List RingEvent) (after : CpuState) : Type 0 where
+  goes_on : (made : ℕ)
+      → before.made ≡ Some made
+      → (IsMoving before.frames → ⊥)
+      → TakeSteps start made (made + count) before own after
+      → ReadsOn start count before own after
+  may_take : (before.made ≡ None) ⊎ IsMoving before.frames
+      → (seen : ℕ)
+      → (seen ≡ (window_at start before.events).done) ⊎ (seen ≡ before.seen)
+      → own ≡ takes ∷ []
+      → after ≡ record before {
+        events = before.events ++ takes ∷ [];
+        seen = seen;
+        in_take = false;
+        made = Some 0;
+      }
+      → ReadsOn start count before own after
+  may_wait : (before.made ≡ None) ⊎ IsMoving before.frames
+      → (seen : ℕ)
+      → (seen ≡ (window_at start before.events).done) ⊎ (seen ≡ before.seen)
+      → own ≡ []
+      → after ≡ record before { seen = seen; in_take = true; made = None }
+      → ReadsOn start count before own after
 
 -- `a`: the reader asks for the first fill that it doesn't know to be closed; its wish is one more than that one's
 -- number
@@ -201,7 +269,7 @@ Adds script cpu (write at moment payload) before own after =
     before own after
 Adds script cpu (close at) before own after =
     At cpu at (WritesWhole script (MAX_FRAMES ≤ length before.frames) push_close []) before own after
-Adds script cpu (step_reader at count) before own after = At cpu at (ReadsOn script.start) before own after
+Adds script cpu (step_reader at count) before own after = At cpu at (ReadsOn script.start count) before own after
 Adds script cpu (take_page at) before own after = At cpu at (TakesPage script.start) before own after
 Adds script cpu (wish at) before own after = At cpu at Asks before own after
 Adds script cpu (deliver collector at fill) before own after = IsIdle before own after

@@ -1,16 +1,18 @@
 -- What is printed of a script, by the accounts of its CPUs alone: which records, under which numbers, and which numbers
 -- are missing. docs/THEOREM.md.
-use Rattle.std.specs.Prelude.{◌≡◌, ℕ, ◌<◌, ◌↔◌, Bool, List, [], length, Some, Contains, slice_index_or}
+use Rattle.std.specs.Prelude.{◌≡◌, ℕ, ◌<◌, ◌↔◌, IsTrue, Bool, if◌then◌else◌, List, [], ◌∷◌, ◌++◌, length, flat_map}
+use Rattle.std.specs.Prelude.{Some, All, Contains, slice_index_or}
+use Rattle.std.specs.Char.{is_digit}
 use Rattle.std.specs.List.{slice_get, AllZip}
 use Rattle.trace_model.specs.History.{committed_records}
 use Rattle.trace_model.specs.Window.{RingEvent, history_events_of}
 use Rattle.trace_model.specs.Runs.{AreRuns}
 use Rattle.trace_model.specs.Listing.{Line, IsTimeOrdered}
 use Rattle.ring_model.specs.RunsAsEvents.{fills_taken}
-use Rattle.text_model.specs.Log.{LogLine}
 use Rattle.text_model.specs.Script.{deliver, Script}
+use Rattle.text_model.specs.Text.{line_feed}
 use Rattle.world_model.specs.GenuineWorlds.{StandsIn, IsOverwrittenBefore}
-use Rattle.world_model.specs.Printing.{Shown, printed_world}
+use Rattle.world_model.specs.Printing.{Shown, printed_collectors}
 use Rattle.line_model.specs.Accounts.{CpuState, IsAccount}
 
 -- What is shown of a collector, by the fills that were delivered to it, each with its CPU. A line is a committed
@@ -31,7 +33,15 @@ pub record IsShownOf (start : ℕ) (events : ℕ → List RingEvent) (fills : Li
       × IsOverwrittenBefore start (events cpu) fill number)
       (slice_index_or shown.runs cpu [])
 
--- These bytes are the collectors of the script, each as it is shown, after the lines of some log, if that is asked for.
+-- A line of the log, without its end. Of what it says nothing is said here; but it begins with a digit, as no line does
+-- that names a collector, so where the log ends can be seen.
+pub record IsLogLine (line : List ℕ) : Type 0 where
+  pub first : ℕ
+  pub begins : slice_get line 0 ≡ Some first
+  pub digit : IsTrue (is_digit first 10)
+  pub one_line : Contains line line_feed → ⊥
+
+-- These bytes are the collectors of the script, each as it is shown; before them, if it is asked for, lines of a log.
 -- Of each CPU there is an account: `states cpu k` is that CPU after the first k lines. A fill is delivered to a
 -- collector exactly if a line of the script delivers it, before which it was taken.
 pub record IsAccounted (script : Script) (asked : Bool) (bytes : List ℕ) : Type 0 where
@@ -47,5 +57,7 @@ pub record IsAccounted (script : Script) (asked : Bool) (bytes : List ℕ) : Typ
       × Contains (fills_taken script.start (states cpu k).events) fill)
   pub shown : List Shown
   pub each : AllZip (IsShownOf script.start (λ cpu. (states cpu (length script.commands)).events)) fills shown
-  pub log : List LogLine
-  pub printed : bytes ≡ printed_world asked log shown
+  pub log : List (List ℕ)
+  pub logged : All IsLogLine log
+  pub printed : bytes
+      ≡ (if asked then flat_map (λ line. line ++ line_feed ∷ []) log else []) ++ printed_collectors shown

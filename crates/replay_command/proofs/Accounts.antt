@@ -1,7 +1,7 @@
 -- The printing of a script's world is an account of it.
-use Rattle.std.proofs.Common.{◌≡◌, ◌⊎◌, ℕ, zero, suc, ◌<◌, ◌≤◌, Bool, List, [], ◌∷◌, length, map, Some, refl, sym, ap}
-use Rattle.std.proofs.Common.{◌∙◌, subst, inl, inr, arith}
-use Rattle.std.specs.Prelude.{Contains, slice_index_or, ◌↔◌, ◌==◌}
+use Rattle.std.proofs.Common.{◌≡◌, ◌⊎◌, ℕ, zero, suc, ◌<◌, ◌≤◌, Bool, true, false, List, [], ◌∷◌, ◌++◌, length, map}
+use Rattle.std.proofs.Common.{flat_map, Some, refl, sym, ap, ◌∙◌, subst, inl, inr, arith}
+use Rattle.std.specs.Prelude.{Contains, slice_index_or, ◌↔◌, ◌==◌, if◌then◌else◌}
 use Rattle.std.specs.List.{slice_get, AllZip}
 use Rattle.std.proofs.lemmas.List.{length-map}
 use Rattle.std.proofs.lemmas.Bool.{eq-eqb, eqb-true}
@@ -14,6 +14,9 @@ use Rattle.trace_model.specs.Parcel.{Parcel}
 use Rattle.trace_model.specs.Collection.{Has, Misses}
 use Rattle.trace_model.proofs.collections.Elements.{some_is}
 use Rattle.ring_model.specs.RunsAsEvents.{fills_taken}
+use Rattle.text_model.specs.Text.{line_feed}
+use Rattle.text_model.specs.Log.{LogLine}
+use Rattle.text_model.specs.Printing.{printed_log_line}
 use Rattle.text_model.specs.Script.{deliver, Script}
 use Rattle.text_model.specs.ScriptLimits.{IsWithinLimits}
 use Rattle.replay_command.proofs.OneOutput.{script_in-within, cases_given}
@@ -24,7 +27,7 @@ use Rattle.collector_text.specs.Prints.{IsPrintOf}
 use Rattle.world_model.specs.World.{World, WorldOf, IsFill}
 use Rattle.world_model.specs.GenuineWorlds.{StandsIn, IsOverwrittenBefore, parcels_from, IsOneOf, IsExact}
 use Rattle.world_model.specs.GenuineWorlds.{IsGenuineWorld}
-use Rattle.world_model.specs.Printing.{Shown}
+use Rattle.world_model.specs.Printing.{Shown, printed_collectors}
 use Rattle.world_model.proofs.Lookups.{element_at, contains_at, get_map, get_from_map, kept_by}
 use Rattle.world_model.proofs.KeptElements.{kept_from}
 use Rattle.world_model.proofs.WorldsKept.{IsWorldKept, new_kept}
@@ -35,6 +38,7 @@ use Rattle.world_model.proofs.GenuineWorlds.{world_genuine}
 use Rattle.line_model.specs.Accounts.{CpuState, new_cpu, IsAccount}
 use Rattle.line_model.specs.Shown.{IsShownOf, IsAccounted}
 use Rattle.line_model.proofs.AccountsOfWorlds.{states_behind, account_behind, taken_behind, last_reported}
+use Rattle.line_model.proofs.LogLines.{log_lines, are_log_lines, log_printed}
 use Rattle.replay_command.specs.Commands.{AccountGives, IsPrinting, PrintsReplay, PrintsFault, ReplayGives}
 
 -- a parcel's CPU and fill
@@ -285,6 +289,13 @@ module _ (script : Script) (w : World) (limits : IsWithinLimits script) (of : Wo
     all_shown delivered shown (λ k parcels there. places (suc k) parcels there) all.1,
   )
 
+-- the log before the collectors, as lines
+same_log : (asked : Bool) (log : List LogLine) (rest : List ℕ)
+    → (if asked then flat_map printed_log_line log else []) ++ rest
+    ≡ (if asked then flat_map (λ line. line ++ line_feed ∷ []) (log_lines log) else []) ++ rest
+same_log false log rest = refl
+same_log true log rest = ap (λ (text : List ℕ). text ++ rest) (log_printed log)
+
 pub accounted : (script : Script) (asked : Bool) (bytes : List ℕ) → IsWithinLimits script
     → IsPrinting script asked bytes → IsAccounted script asked bytes
 accounted script asked bytes limits p =
@@ -301,8 +312,9 @@ accounted script asked bytes limits p =
       );
       shown = p.shown;
       each = all_shown script w limits of genuine w.delivered p.shown (λ k parcels at. (k, at)) p.reported;
-      log = w.log;
-      printed = p.printed;
+      log = log_lines w.log;
+      logged = are_log_lines w.log;
+      printed = p.printed ∙ same_log asked w.log (printed_collectors p.shown);
     }
 
 -- what `replay` gives with the status 0 is an account

@@ -12,7 +12,7 @@ use Rattle.line_model.specs.Shown.{IsAccounted}
 use Rattle.collector_text.specs.Prints.{IsPrintOf}
 use Rattle.command_io.specs.declared.status.TheConstants.{DONE, REFUSED}
 
--- The text spells a script, and these bytes are an account of it, whatever they print of its log.
+-- the text spells a script, and these bytes are an account of it
 abbrev pub AccountGives : (asked : Bool) (text bytes : List ℕ) (status : ℕ) → Type 0
 AccountGives asked text bytes status = (script : Script) × (script_in text ≡ Ok script) × IsAccounted script asked bytes
 

@@ -25,6 +25,7 @@ nothing_yet part =
       observed_is = refl;
       expected_is = refl;
       wish_is = refl;
+      told_is = refl;
       hint_le = omega arith;
       seen_le = omega arith;
     }
@@ -37,6 +38,7 @@ nothing_more before mid after a b =
       observed_is = b.observed_is ∙ a.observed_is;
       expected_is = b.expected_is ∙ a.expected_is;
       wish_is = b.wish_is ∙ a.wish_is;
+      told_is = b.told_is ∙ a.told_is;
       hint_le = omega arith;
       seen_le = omega arith;
     }
@@ -57,6 +59,7 @@ answered shape before mid after body had (Page page missed) a same t =
       hint_is = t.hint_is;
       seen_le = omega arith;
       wish_is = t.wish_is ∙ a.wish_is;
+      told_is = t.told_is ∙ a.told_is;
       lost = t.lost;
       lost_are = t.lost_are;
       observed_is = t.observed_is ∙ ap (λ (l : List Record). l ++ t.lost ++ records_of_page page) a.observed_is;
@@ -72,6 +75,7 @@ answered shape before mid after body had (Empty done back) a same (given, t) =
         seen_is = t.seen_is;
         known = t.known;
         all = t.all;
+        in_time = t.in_time;
         passed = t.passed;
       },
     )
@@ -114,6 +118,7 @@ wish_stays shape before after sees answer r =
       order_is = r.after_is.order_is ∙ (ap (λ (d : ring.Core). d.order) is ∙ sym r.before_is.order_is);
       spare_is = r.after_is.spare_is ∙ (ap (λ (d : ring.Core). d.spare) is ∙ sym r.before_is.spare_is);
       wish_is = refl;
+      told_is = r.told_is;
       observed_is = r.after_is.observed_is
           ∙ (ap
           (λ (d : ring.Core). let observed : List Record =

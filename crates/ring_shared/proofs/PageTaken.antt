@@ -63,6 +63,7 @@ module _ (shape : Shape) (before : Reading) (page fill : ℕ) (after : Reading)
           hint_is = ap (λ (x : ring.Reader). x.hint) h.reader_is ∙ ap (λ (f : ℕ). f + 1) (sym h.fill_is);
           seen_le = omega arith;
           wish_is = h.wish_is;
+          told_is = h.step.told_is;
           lost = h.lost;
           lost_are = h.lost_are ∙ h.skipped_is;
           observed_is = h.observed_is;

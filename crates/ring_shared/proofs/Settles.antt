@@ -67,6 +67,7 @@ one_run shape writing part p = record {
   is_new = p.reached.is_new;
   run = p.reached.run;
   made = record { by_writer_are = ap (λ (w : Writing). w.made) p.writing_is; by_reader_are = sym p.reader_made_is };
+  in_time = p.in_time;
   writing_is = part_here (writer_made_of p.reached) p.core writing p.writing_is;
   reading_is = p.reading_is;
 }

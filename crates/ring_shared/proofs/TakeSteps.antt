@@ -1,6 +1,6 @@
 -- What each step of a take makes of what the reader knows.
 use Rattle.std.specs.Prelude.{⊤, false}
-use Rattle.std.proofs.Common.{◌≡◌, ℕ, ◌≤◌, Bool, List, refl, ap, ◌∙◌, arith}
+use Rattle.std.proofs.Common.{◌≡◌, ℕ, ◌≤◌, Bool, List, refl, sym, ap, ◌∙◌, subst, arith}
 use Rattle.trace_model.specs.Links.{Link}
 use Rattle.trace_model.specs.Ring.{Core, Reader, ReaderPhase, loading_head}
 use Rattle.trace_model.specs.Steps as model
@@ -9,11 +9,13 @@ use Rattle.ring_model.proofs.frames.AnswersRight.{passed_below}
 use Rattle.ring_model.proofs.partition.RingsKept.{reached_kept}
 use Rattle.ring_model.proofs.seats.SeatSteps.{reader_leaves_writer}
 use Rattle.ring_steps.specs.declared.rule.Shape.{Shape}
-use Rattle.ring_steps.specs.Made.{ReaderMade}
+use Rattle.ring_steps.specs.Made.{ReaderMade, trace_to}
+use Rattle.ring_steps.specs.Receipts.{AreInTime}
 use Rattle.ring_steps.specs.Views.{Reading}
 use Rattle.ring_steps.specs.Seats.{IsReaderStep}
 use Rattle.ring_steps.specs.Taking.{LinkLoaded, DoneLoaded}
 use Rattle.ring_steps.proofs.Made.{reached_on}
+use Rattle.ring_steps.proofs.InTime.{in_time_more}
 use Rattle.ring_steps.proofs.ReaderSteps.{step_read}
 use Rattle.ring_steps.proofs.TakeSteps.{seen_as}
 use Rattle.ring_shared.specs.Takes.{IsReaderPart, ArePassedBelow, TakesNothing, IsEmptyFound, ReadsSo}
@@ -33,6 +35,7 @@ pub record Stays (shape : Shape) (before after : Reading) (reader : Reader) : Ty
   pub order_is : after.order ≡ before.order
   pub spare_is : after.spare ≡ before.spare
   pub wish_is : after.wish ≡ before.wish
+  pub told_is : after.told ≡ before.told
   pub observed_is : after.observed ≡ before.observed
   pub reader_is : after.reader ≡ reader
 
@@ -48,6 +51,7 @@ nothing shape before after reader s taken expected hint seen =
       observed_is = s.observed_is;
       expected_is = ap (λ (x : Reader). x.expected) s.reader_is ∙ expected;
       wish_is = s.wish_is;
+      told_is = s.told_is;
       hint_le = omega arith;
       seen_le = omega arith;
     }
@@ -62,6 +66,14 @@ module _ (shape : Shape) (before after : Reading) (sees : Core → Type 0) (answ
     made_is = step_read shape before sees model.reads answer after r;
   }
 
+  -- what the reader was told is before what it did later
+  pub time_after : AreInTime (trace_to known_after.reached) after.told
+  unfolding known_after
+  time_after =
+      subst (AreInTime (trace_to known_after.reached)) (sym r.told_is)
+      (in_time_more shape.pages shape.size shape.start r.core model.reads answer r.next r.reached r.step before.told
+      r.in_time)
+
   -- the model answers the step so
   pub so : ReadsSo shape before answer after
   so = seen_as shape before sees (λ core. ⊤) model.reads answer answer after r tt refl
@@ -74,6 +86,7 @@ module _ (shape : Shape) (before after : Reading) (sees : Core → Type 0) (answ
     order_is = ap (λ (part : Reading). part.order) is;
     spare_is = ap (λ (part : Reading). part.spare) is;
     wish_is = ap (λ (part : Reading). part.wish) is;
+    told_is = ap (λ (part : Reading). part.told) is;
     observed_is = ap (λ (part : Reading). part.observed) is;
     reader_is = ap (λ (part : Reading). part.reader) is;
   }
@@ -113,5 +126,6 @@ none_found shape before done reported after h hint =
       seen_is = ap (λ (x : Reader). x.seen) s.reader_is;
       known = known_after shape before after (λ core. core.done ≡ done) reported r;
       all = left.done ∙ r.seen;
+      in_time = time_after shape before after (λ core. core.done ≡ done) reported r;
       passed = passed_below_hint shape after done hint_done;
     }

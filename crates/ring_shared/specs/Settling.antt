@@ -14,6 +14,7 @@ use Rattle.page_image.specs.Contents.{Contents, records_of_page}
 use Rattle.nested_writer.specs.Released.{IsWrittenPage}
 use Rattle.ring_steps.specs.declared.rule.Shape.{Shape}
 use Rattle.ring_steps.specs.Made.{trace_of, AreMadeByBoth}
+use Rattle.ring_steps.specs.Receipts.{AreInTime}
 use Rattle.ring_steps.specs.Views.{Writing, writing_of, Reading}
 use Rattle.ring_steps.specs.Shown.{IsReading}
 use Rattle.ring_steps.specs.Seats.{AreParts}
@@ -46,7 +47,8 @@ pub record AreEndsOf (writing : Writing) (reading : Reading) (settled : Settled)
   pub reading_is : reading_of_settled settled ≡ reading
 
 -- All that both ends asked of the ring, each end in its own order, with all that it answered, is one run of the model
--- from a new ring: it leads to a state of which these are the two parts.
+-- from a new ring: it leads to a state of which these are the two parts. In it what the reader was told is before what it
+-- did later.
 pub record IsOneRun (shape : Shape) (writing : Writing) (reading : Reading) : Type 0 where
   pub from : Core
   pub exchanges : List Exchange
@@ -55,6 +57,7 @@ pub record IsOneRun (shape : Shape) (writing : Writing) (reading : Reading) : Ty
   pub is_new : IsStart shape.pages shape.start from
   pub run : Run shape.pages shape.size from exchanges last
   pub made : AreMadeByBoth writing.made reading.made (trace_of shape.pages shape.size from exchanges last run)
+  pub in_time : AreInTime (trace_of shape.pages shape.size from exchanges last run) reading.told
   pub writing_is : writing_of writing.made last ≡ writing
   pub reading_is : IsReading last reading
 

@@ -17,7 +17,8 @@ use Rattle.ring_frames.specs.declared.reader.ReaderPhase.{ReaderPhase}
 use Rattle.ring_frames.specs.declared.reader.ReaderPhase.TheVariants.{LoadingHead, LoadingDone, StoringSpareLink}
 use Rattle.ring_frames.specs.declared.reader.ReaderPhase.TheVariants.{Swapping}
 use Rattle.ring_steps.specs.declared.rule.Shape.{Shape}
-use Rattle.ring_steps.specs.Made.{reader_made_of}
+use Rattle.ring_steps.specs.Made.{trace_to, reader_made_of}
+use Rattle.ring_steps.specs.Receipts.{AreInTime}
 use Rattle.ring_steps.specs.Views.{Reading}
 use Rattle.ring_steps.specs.Shown.{IsReading}
 use Rattle.ring_steps.specs.Seats.{IsReaderStep}
@@ -73,12 +74,13 @@ pub record IsReader (v : ReaderValue) : Type 0 where
 
 -- ---- takes
 
--- What was taken and observed stays, and the wish; and the reader knows at least as much.
+-- What was taken and observed stays, the wish, and what the reader was told; and it knows at least as much.
 pub record TakesNothing (before after : Reading) : Type 0 where
   pub taken_is : after.reader.taken ≡ before.reader.taken
   pub observed_is : after.observed ≡ before.observed
   pub expected_is : after.reader.expected ≡ before.reader.expected
   pub wish_is : after.wish ≡ before.wish
+  pub told_is : after.told ≡ before.told
   pub hint_le : before.reader.hint ≤ after.reader.hint
   pub seen_le : before.reader.seen ≤ after.reader.seen
 
@@ -92,7 +94,7 @@ ArePassedBelow shape part fill = (core : Core)
 -- The page is one more fill that was taken, no earlier one than the reader knew, and `missed` records were lost before
 -- it. It and the pages before it are a partition of what the reader has observed. Its numbers follow those of the last
 -- page and of what was lost, and fit a parcel. The reader continues after this fill, has seen at least as many closed
--- fills, and wishes as before.
+-- fills, wishes as before, and was told no more.
 pub record IsPageTaken (shape : Shape) (before : Reading) (page : Contents) (missed : ℕ) (after : Reading)
     : Type 0 where
   pub taken : TakenFill
@@ -106,13 +108,14 @@ pub record IsPageTaken (shape : Shape) (before : Reading) (page : Contents) (mis
   pub hint_is : after.reader.hint ≡ taken.fill + 1
   pub seen_le : before.reader.seen ≤ after.reader.seen
   pub wish_is : after.wish ≡ before.wish
+  pub told_is : after.told ≡ before.told
   pub lost : List Record
   pub lost_are : length lost ≡ missed
   pub observed_is : after.observed ≡ before.observed ++ lost ++ records_of_page page
   pub partition : IsPartition after.observed (pieces_of after.reader.taken) []
 
 -- All closed fills, which are those below `done`, are taken or lost, and the reader knows exactly that; they are no
--- fewer than it had seen.
+-- fewer than it had seen. They are so in a run in which what the reader was told is before what it did later.
 pub record IsEmptyFound (shape : Shape) (before : Reading) (done : ℕ) (after : Reading) : Type 0 where
   pub nothing : TakesNothing before after
   pub seen_le : before.reader.seen ≤ done
@@ -120,6 +123,7 @@ pub record IsEmptyFound (shape : Shape) (before : Reading) (done : ℕ) (after :
   pub seen_is : after.reader.seen ≡ done
   pub known : IsReaderPart shape after
   pub all : known.core.done ≡ done
+  pub in_time : AreInTime (trace_to known.reached) after.told
   pub passed : ArePassedBelow shape after done
 
 -- Each fill below this one is taken or lost, and the reader knows exactly that; it knew of no later one.

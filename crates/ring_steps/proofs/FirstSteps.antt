@@ -94,6 +94,7 @@ module _ (shape : Shape) (first_w : Writing) (first_r : Reading) where
                 h.shown.is_reading.spare_is (ap (λ (w : Writing). get_or w.open_pages 0 0) w_is) h.shown.are_homes;
             is_reading = h.shown.is_reading;
             reader_made_is = h.shown.reader_made_is;
+            in_time = h.shown.in_time;
           };
           seats =
               subst (AreSeated (writing_of (writer_made_of h.shown.reached) h.core) h.reader h.core.head)
@@ -120,7 +121,7 @@ cut n size start id view is s h at =
           subst (AreSeated (writing_of (writer_made_of h.shown.reached) h.core) h.reader h.core.head)
           (λ i.
           set (sym views i) (sym first i) (writes (sym w_is i) (passed (sym is i))) ++ reads (sym r_is i) ∷ [])
-          (running 0 (omega arith));
+          (running 0 (omega arith) [] tt);
       tail =
           λ u v e. let there : writes (writing view) (passed view) ∷ reads (reading view) ∷ [] ≡ laid u v ∷ [] =
           sym (λ i. set (views i) (first i) (writes (writing view) (passed view)) ++ reads (reading view) ∷ [])

@@ -5,35 +5,41 @@ use mathlib.Core.Option.{some}
 use lib.ListN.{get_elem?}
 use Rattle.atomic_table.specs.Table.{keeps, Allows, Joins}
 use Rattle.ring_steps.specs.declared.rule.Shape.{Shape}
-use Rattle.ring_steps.specs.Made.{writer_made_of}
+use Rattle.ring_steps.specs.Made.{trace_to, writer_made_of}
+use Rattle.ring_steps.specs.Receipts.{AreInTime}
 use Rattle.ring_steps.specs.Views.{Writing, writing_of, Reading, SeatView, laid, writes, reads, joined, spent, writing}
-use Rattle.ring_steps.specs.Views.{passed, reading, AreSeated, settled}
+use Rattle.ring_steps.specs.Views.{passed, reading, AreReceipts, AreSeated, settled}
 use Rattle.ring_steps.specs.Shown.{AreWords, IsReading, Shows}
 use Rattle.ring_steps.specs.Words.{done_word}
 use Rattle.ring_steps.specs.Seats.{SeatState, without_slot, AreParts}
 use Rattle.ring_steps.proofs.Placed.{writer_at, joined_at}
+use Rattle.ring_steps.proofs.InTime.{receipt_at}
 
--- the other seat of two is the second
-second : (w : Writing) (r v : Reading) (u : Writing) (other : ℕ) → (other ≡ 0 → ⊥)
-    → get_elem? (joined u v ∷ reads r ∷ []) other ≡ some (reads v) → (other ≡ 1) × (v ≡ r)
-second w r v u zero ne at = absurd (ne refl)
-second w r v u (suc zero) ne at = (refl, cc)
-second w r v u (suc (suc i)) ne at = absurd (cc)
+-- the other seat with a view of the reader is the second
+second : (w : Writing) (r v : Reading) (u : Writing) (receipts : List SeatView) (other : ℕ)
+    → AreReceipts w.made receipts → (other ≡ 0 → ⊥)
+    → get_elem? (joined u v ∷ reads r ∷ receipts) other ≡ some (reads v) → (other ≡ 1) × (v ≡ r)
+second w r v u receipts zero are ne at = absurd (ne refl)
+second w r v u receipts (suc zero) are ne at = (refl, cc)
+second w r v u receipts (suc (suc i)) are ne at = absurd (receipt_at w.made receipts i (reads v) are at)
 
 pub joins : (n size start id : ℕ) (view : SeatView) (other : ℕ) (with : SeatView)
     → view ≡ writes (writing view) (passed view) → with ≡ reads (reading with)
     → Joins (Shows n size start) id view other with (joined (writing view) (reading with)) spent
 joins n size start id view other with is its s h at ne there =
     let w : Writing = writing view in let r : Reading = reading with in
-    let (views, first, w_is, low) =
+    let (running, first, w_is) =
     writer_at (writing_of (writer_made_of h.shown.reached) h.core) h.reader h.core.head s.views id w (passed view)
     h.seats (at ∙ ap some is) in
-    let front : set s.views id (joined w r) ≡ joined w r ∷ reads h.reader ∷ [] =
+    let receipts : List SeatView = running.receipts in
+    let views = running.views_are in
+    let front : set s.views id (joined w r) ≡ joined w r ∷ reads h.reader ∷ receipts =
     λ i. set (views i) (first i) (joined w r) in
     let (place, r_is) =
-    second w h.reader r w other (λ e. ne (e ∙ sym first))
+    second (writing_of (writer_made_of h.shown.reached) h.core) h.reader r w receipts other running.are
+    (λ e. ne (e ∙ sym first))
     (sym (ap (λ (vs : List SeatView). get_elem? vs other) front) ∙ (there ∙ ap some its)) in
-    let whole : set (set s.views id (joined w r)) other spent ≡ joined w r ∷ spent ∷ [] =
+    let whole : set (set s.views id (joined w r)) other spent ≡ joined w r ∷ spent ∷ receipts =
     λ i. set (front i) (place i) spent in
     record {
       core = h.core;
@@ -41,19 +47,21 @@ joins n size start id view other with is its s h at ne there =
       shown = h.shown;
       seats =
           subst (AreSeated (writing_of (writer_made_of h.shown.reached) h.core) h.reader h.core.head)
-          ((λ i. joined (sym w_is i) (sym r_is i) ∷ spent ∷ []) ∙ sym whole) settled;
-      tail = λ u v e. let there : joined w r ∷ spent ∷ [] ≡ laid u v ∷ [] = sym whole ∙ e in absurd (cc);
+          ((λ i. joined (sym w_is i) (sym r_is i) ∷ spent ∷ receipts) ∙ sym whole)
+          (settled receipts running.are);
+      tail = λ u v e. let there : joined w r ∷ spent ∷ receipts ≡ laid u v ∷ [] = sym whole ∙ e in absurd (cc);
     }
 
 pub looks : (shape : Shape) (slots id : ℕ) (me : SeatState) → me.0 ≡ joined (writing me.0) (reading me.0)
     → Allows (Shows shape.pages shape.size shape.start) slots id me done_word (λ n. n)
     (λ _ after. (after.0 ≡ me.0) × AreParts shape (writing me.0) (reading me.0))
 looks shape slots id me is s h deep at range =
-    let (views, first, w_is, r_is) =
+    let (receipts, views, first, w_is, r_is, are) =
     joined_at (writing_of (writer_made_of h.shown.reached) h.core) h.reader h.core.head s.views id (writing me.0)
     (reading me.0) h.seats (at ∙ ap some is) in
-    let same : set s.views id me.0 ≡ joined (writing_of (writer_made_of h.shown.reached) h.core) h.reader ∷ spent ∷ [] =
-    (λ i. set (views i) (first i) (is i)) ∙ (λ i. joined (w_is i) (r_is i) ∷ spent ∷ []) in (
+    let same : set s.views id me.0
+    ≡ joined (writing_of (writer_made_of h.shown.reached) h.core) h.reader ∷ spent ∷ receipts =
+    (λ i. set (views i) (first i) (is i)) ∙ (λ i. joined (w_is i) (r_is i) ∷ spent ∷ receipts) in (
       me.0,
       keeps,
       tt,
@@ -67,13 +75,14 @@ looks shape slots id me is s h deep at range =
           are_homes = h.shown.are_homes;
           is_reading = h.shown.is_reading;
           reader_made_is = h.shown.reader_made_is;
+          in_time = h.shown.in_time;
         };
         seats =
             subst (AreSeated (writing_of (writer_made_of h.shown.reached) h.core) h.reader h.core.head) (sym same)
-            settled;
+            (settled receipts are);
         tail =
             λ u v e.
-            let there : joined (writing_of (writer_made_of h.shown.reached) h.core) h.reader ∷ spent ∷ []
+            let there : joined (writing_of (writer_made_of h.shown.reached) h.core) h.reader ∷ spent ∷ receipts
             ≡ laid u v ∷ [] =
             sym same ∙ e in
             absurd (cc);
@@ -86,6 +95,7 @@ looks shape slots id me is s h deep at range =
           writing_is = sym w_is;
           reading_is = subst (IsReading h.core) (sym r_is) h.shown.is_reading;
           reader_made_is = ap (λ (r : Reading). r.made) r_is ∙ h.shown.reader_made_is;
+          in_time = subst (λ (r : Reading). AreInTime (trace_to h.shown.reached) r.told) (sym r_is) h.shown.in_time;
         },
       ),
     )

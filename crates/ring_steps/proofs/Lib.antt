@@ -1,4 +1,5 @@
 pub mod Made
+pub mod InTime
 pub mod Placed
 pub mod Observed
 pub mod Private
@@ -12,6 +13,7 @@ pub mod FirstParts
 pub mod Starts
 pub mod FirstSteps
 pub mod Joins
+pub mod ReceiptSeats
 pub mod WriterParts
 pub mod Paging
 pub mod Linking

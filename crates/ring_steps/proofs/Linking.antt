@@ -45,6 +45,7 @@ use Rattle.ring_steps.specs.Linking.{after_lost_in, SeesLink, LinkReported, Clai
 use Rattle.ring_steps.proofs.Made.{reached_on, writer_then, reader_same}
 use Rattle.ring_steps.proofs.LinkWords.{with_link_word}
 use Rattle.ring_steps.proofs.Private.{stays_shown}
+use Rattle.ring_steps.proofs.InTime.{in_time_more}
 use Rattle.ring_steps.proofs.Allowing.{IsShownBy, WriterMoves}
 use Rattle.ring_steps.proofs.Paging.{top_of}
 
@@ -147,7 +148,7 @@ module _ (shape : Shape) (me : SeatState) (is : IsWriting me) (now : Writing) (c
       → c.head ≤ head
       → sees (slice_index ws i) c
       → AreWords shape.pages (moved c frames links head) (slice_set ws i (f (slice_index ws i)))
-      → WriterMoves shape r me ws homes i f
+      → WriterMoves shape now r me ws homes i f
       (λ found after. WriterReported shape now (passed me.0) (sees found) going after)
   moves_on i f sees frames links head step low seen words = record {
     next = moved c frames links head;
@@ -179,8 +180,11 @@ module _ (shape : Shape) (me : SeatState) (is : IsWriting me) (now : Writing) (c
           ∙ sym
           (reader_same shape.pages shape.size shape.start c steps going (moved c frames links head) s.reached
           step refl);
+      in_time =
+          in_time_more shape.pages shape.size shape.start c steps going (moved c frames links head) s.reached step r.told
+          s.in_time;
     };
-    made = now.made ++ writer_made record { event = steps; answer = going } (moved c frames links head) ∷ [];
+    later = writer_made record { event = steps; answer = going } (moved c frames links head) ∷ [];
     made_is =
         writer_then shape.pages shape.size shape.start c steps going (moved c frames links head) s.reached step now refl
         now_is;
@@ -205,7 +209,7 @@ module _ (shape : Shape) (me : SeatState) (is : IsWriting me) (now : Writing) (c
       → Step shape.pages shape.size c steps going (moved c frames c.links c.head)
       → sees (slice_index ws i) c
       → f (slice_index ws i) ≡ slice_index ws i
-      → WriterMoves shape r me ws homes i f
+      → WriterMoves shape now r me ws homes i f
       (λ found after. WriterReported shape now (passed me.0) (sees found) going after)
   stays_on i f sees frames step seen same =
       let a = s.are_words in
@@ -279,7 +283,7 @@ module _ (shape : Shape) (me : SeatState) (is : IsWriting me) (now : Writing) (c
 
   abbrev LoadMoves : (page fill : ℕ) → Type 0
   LoadMoves page fill =
-      WriterMoves shape r me ws homes (page_word page) (λ n. n)
+      WriterMoves shape now r me ws homes (page_word page) (λ n. n)
       (λ found after. LinkReported shape now (passed me.0) fill found after)
 
   loads : (page fill : ℕ) (frame : Frame) (below : List Frame) (phase : Phase) (answer : Answer) (after : Core)
@@ -350,7 +354,7 @@ module _ (shape : Shape) (me : SeatState) (is : IsWriting me) (now : Writing) (c
 
   asks : (answer : Answer) (after next : Core) → Step shape.pages shape.size c steps answer after → after ≡ next
       → IsPrivateOf c next → ((page : ℕ) → contents_of next page ≡ contents_of c page) → next.open_pages ≡ c.open_pages
-      → WriterMoves shape r me ws homes wish_word (λ n. n)
+      → WriterMoves shape now r me ws homes wish_word (λ n. n)
       (λ found after. WishReported shape now (passed me.0) found after)
   asks answer after next step after_is own holds same =
       let shown =
@@ -370,8 +374,9 @@ module _ (shape : Shape) (me : SeatState) (is : IsWriting me) (now : Writing) (c
           are_homes = shown.are_homes;
           is_reading = shown.is_reading;
           reader_made_is = shown.reader_made_is;
+          in_time = shown.in_time;
         };
-        made = now.made ++ writer_made record { event = steps; answer = answer } next ∷ [];
+        later = writer_made record { event = steps; answer = answer } next ∷ [];
         made_is =
             writer_then shape.pages shape.size shape.start c steps answer next s.reached
             (subst (λ (d : Core). Step shape.pages shape.size c steps answer d) after_is step) now refl now_is;
@@ -393,7 +398,7 @@ module _ (shape : Shape) (me : SeatState) (is : IsWriting me) (now : Writing) (c
 
   wishes_at : (frame : Frame) (below : List Frame) (answer : Answer) (after : Core)
       → Step shape.pages shape.size c steps answer after → LoadWishStep shape.pages c frame below answer after
-      → WriterMoves shape r me ws homes wish_word (λ n. n)
+      → WriterMoves shape now r me ws homes wish_word (λ n. n)
       (λ found after. WishReported shape now (passed me.0) found after)
   wishes_at frame below answer after step (grants alone granted a after_is) =
       asks answer after _ step after_is refl (λ page. refl) refl
@@ -403,7 +408,7 @@ module _ (shape : Shape) (me : SeatState) (is : IsWriting me) (now : Writing) (c
       asks answer after _ step after_is refl (λ page. refl) refl
 
   pub load_wish_moves : IsTopIn now.frames wishing
-      → WriterMoves shape r me ws homes wish_word (λ n. n)
+      → WriterMoves shape now r me ws homes wish_word (λ n. n)
       (λ found after. WishReported shape now (passed me.0) found after)
   load_wish_moves phase =
       let top = top_of c.frames wishing (top_now wishing phase) in
@@ -415,7 +420,7 @@ module _ (shape : Shape) (me : SeatState) (is : IsWriting me) (now : Writing) (c
 
   abbrev ExchangeMoves : (page fill from to : ℕ) → Type 0
   ExchangeMoves page fill from to =
-      WriterMoves shape r me ws homes (page_word page) (λ n. either (n == from) to n)
+      WriterMoves shape now r me ws homes (page_word page) (λ n. either (n == from) to n)
       (λ found after. LinkReported shape now (passed me.0) fill found after)
 
   done_on : (page fill from to : ℕ) (old new : Link) (frames : List Frame) (head : ℕ)
@@ -445,7 +450,7 @@ module _ (shape : Shape) (me : SeatState) (is : IsWriting me) (now : Writing) (c
 
   abbrev ClaimMoves : (page from to : ℕ) → Type 0
   ClaimMoves page from to =
-      WriterMoves shape r me ws homes (page_word page) (λ n. either (n == from) to n)
+      WriterMoves shape now r me ws homes (page_word page) (λ n. either (n == from) to n)
       (λ found after. ClaimReported shape now (passed me.0) found after)
 
   -- the lost fill is passed after the claim, and the writer knows it
@@ -461,7 +466,7 @@ module _ (shape : Shape) (me : SeatState) (is : IsWriting me) (now : Writing) (c
         act = m.act;
         valid = m.valid;
         shown = m.shown;
-        made = m.made;
+        later = m.later;
         made_is = m.made_is;
         reported = record {
           reported =

@@ -6,7 +6,8 @@ use Rattle.trace_model.specs.Steps.{Run}
 use Rattle.ring_model.specs.Reached.{MayStart, IsReached}
 use Rattle.ring_model.specs.Seats.{IsOfReader, IsPrivate}
 use Rattle.ring_steps.specs.declared.rule.Shape.{Shape}
-use Rattle.ring_steps.specs.Made.{WriterMade, writer_made, reader_made, trace_of, is_by_reader, is_by_writer, kept_if}
+use Rattle.ring_steps.specs.Made.{WriterMade, writer_made, reader_made, Trace, trace_of, is_by_reader, is_by_writer}
+use Rattle.ring_steps.specs.Made.{kept_if}
 use Rattle.ring_steps.specs.Made.{made_by, writer_made_of, reader_made_of}
 use Rattle.ring_steps.specs.Views.{Writing, writing_of, writing_after, Reading, reading_made}
 use Rattle.ring_steps.specs.Shown.{IsReading}
@@ -38,6 +39,26 @@ run_as shape other from c (x ∷ exchanges) same (between, step, run) = (
   run_as shape other between c exchanges same run,
 )
 
+-- ---- what a run goes through
+
+-- one step more
+pub trace_on : (n size : ℕ) (from c : Core) (exchanges : List Exchange) (x : Exchange) (after : Core)
+    (run : Run n size from exchanges c) (step : Step n size c x.event x.answer after)
+    → trace_of n size from (exchanges ++ x ∷ []) after (run_on n size from c exchanges x after run step)
+    ≡ trace_of n size from exchanges c run ++ (x, after) ∷ []
+trace_on n size from c [] x after run step = refl
+trace_on n size from c (y ∷ exchanges) x after (between, first, run) step =
+    ap (λ (trace : Trace). (y, between) ∷ trace) (trace_on n size between c exchanges x after run step)
+
+-- the same
+pub trace_at : (n size : ℕ) (from c d : Core) (exchanges : List Exchange) (same : c ≡ d)
+    (run : Run n size from exchanges c)
+    → trace_of n size from exchanges d (run_at n size from c d exchanges same run)
+    ≡ trace_of n size from exchanges c run
+trace_at n size from c d [] same run = refl
+trace_at n size from c d (x ∷ exchanges) same (between, step, run) =
+    ap (λ (trace : Trace). (x, between) ∷ trace) (trace_at n size between c d exchanges same run)
+
 -- ---- what one end made
 
 module _ {M : Type 0} (is : Event → Bool) (made : Exchange → Core → M) where
@@ -45,17 +66,23 @@ module _ {M : Type 0} (is : Event → Bool) (made : Exchange → Core → M) whe
   kept_append true one xs ys = refl
   kept_append false one xs ys = refl
 
+  -- in one part of a trace, and then in the other
+  pub made_append : (front rest : Trace)
+      → made_by is made (front ++ rest) ≡ made_by is made front ++ made_by is made rest
+  made_append [] rest = refl
+  made_append ((x, after) ∷ front) rest =
+      ap (kept_if (is x.event) (made x after)) (made_append front rest)
+      ∙ kept_append (is x.event) (made x after) (made_by is made front) (made_by is made rest)
+
   -- by one step more
   made_on_run : (n size : ℕ) (from c : Core) (exchanges : List Exchange) (x : Exchange) (after : Core)
       (run : Run n size from exchanges c) (step : Step n size c x.event x.answer after)
       → made_by is made
       (trace_of n size from (exchanges ++ x ∷ []) after (run_on n size from c exchanges x after run step))
       ≡ made_by is made (trace_of n size from exchanges c run) ++ kept_if (is x.event) (made x after) []
-  made_on_run n size from c [] x after run step = refl
-  made_on_run n size from c (y ∷ exchanges) x after (between, first, run) step =
-      ap (kept_if (is y.event) (made y between)) (made_on_run n size between c exchanges x after run step)
-      ∙ kept_append (is y.event) (made y between) (made_by is made (trace_of n size between exchanges c run))
-      (kept_if (is x.event) (made x after) [])
+  made_on_run n size from c exchanges x after run step =
+      ap (made_by is made) (trace_on n size from c exchanges x after run step)
+      ∙ made_append (trace_of n size from exchanges c run) ((x, after) ∷ [])
 
   -- which is this end's, or the other's
   pub made_more : (n size : ℕ) (from c : Core) (exchanges : List Exchange) (x : Exchange) (after : Core)

@@ -10,7 +10,7 @@ use Rattle.ring_steps.specs.declared.rule.Shape.{Shape}
 use Rattle.ring_steps.specs.Made.{WriterMade, writer_made, writer_made_of, privately_made}
 use Rattle.ring_steps.specs.Views.{Writing, writing_of, Reading}
 use Rattle.ring_steps.specs.Seats.{Leads, IsWriterStep, AreParts}
-use Rattle.ring_steps.proofs.Private.{private_reached, private_read, made_reached}
+use Rattle.ring_steps.proofs.Private.{private_reached, private_read, made_reached, private_in_time}
 
 -- ---- private steps after private steps
 
@@ -48,7 +48,7 @@ made_on n size c mid aside (x ∷ first) second (own, between, step, run) on =
     ap (λ (made : List WriterMade). writer_made x between ∷ made) (made_on n size between mid aside first second run on)
 
 -- the part of the state after them
-part_reached : (shape : Shape) (before now : Writing) (c aside : Core) (exchanges : List Exchange)
+pub part_reached : (shape : Shape) (before now : Writing) (c aside : Core) (exchanges : List Exchange)
     (reached : IsReached shape.pages shape.size shape.start c) → writing_of (writer_made_of reached) c ≡ before
     → (run : PrivateRun shape.pages shape.size c exchanges aside)
     → writing_of (before.made ++ privately_made shape.pages shape.size c exchanges aside run) aside ≡ now
@@ -101,6 +101,9 @@ parts_now shape before now r leads parts =
       reading_is =
           private_read shape.pages shape.size shape.start parts.core aside exchanges r parts.reached run
           parts.reading_is;
+      in_time =
+          private_in_time shape.pages shape.size shape.start parts.core aside exchanges parts.reached run r.told
+          parts.in_time;
     }
 
 -- ---- after a step on a word the noted part is the one that the seat knows

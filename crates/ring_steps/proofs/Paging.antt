@@ -30,7 +30,8 @@ use Rattle.ring_model.proofs.partition.RingsKept.{reached_kept}
 use Rattle.page_image.specs.Contents.{Contents}
 use Rattle.nested_writer.specs.Released.{IsWrittenPage}
 use Rattle.ring_steps.specs.declared.rule.Shape.{Shape}
-use Rattle.ring_steps.specs.Made.{writer_made, writer_made_of, reader_made_of}
+use Rattle.ring_steps.specs.Made.{writer_made, trace_to, writer_made_of, reader_made_of}
+use Rattle.ring_steps.specs.Receipts.{AreInTime}
 use Rattle.ring_steps.specs.Views.{Writing, writing_of, Reading, writing, passed}
 use Rattle.ring_steps.specs.Shown.{Homes, IsHome, HasBody, AreWords, AreHomes, IsReading, Shows}
 use Rattle.ring_steps.specs.Words.{opened_word, done_word}
@@ -40,6 +41,7 @@ use Rattle.ring_steps.proofs.Made.{reached_on, writer_then, reader_same}
 use Rattle.ring_steps.proofs.CountWords as words
 use Rattle.ring_steps.proofs.Observed.{first_records, observed_stays}
 use Rattle.ring_steps.proofs.Allowing.{IsShownBy, WriterMoves, writer_allows}
+use Rattle.ring_steps.proofs.InTime.{in_time_more}
 
 -- ---- the writer's hand
 
@@ -104,6 +106,11 @@ module _ (shape : Shape) (c : Core) (r : Reading) (ws : List ℕ) (homes : Homes
       → r.made ≡ reader_made_of (reached_on shape.pages shape.size shape.start c steps answer after s.reached step)
   reads_stay answer after step =
       s.reader_made_is ∙ sym (reader_same shape.pages shape.size shape.start c steps answer after s.reached step refl)
+
+  time_stays : (answer : Answer) (after : Core) (step : Step shape.pages shape.size c steps answer after)
+      → AreInTime (trace_to (reached_on shape.pages shape.size shape.start c steps answer after s.reached step)) r.told
+  time_stays answer after step =
+      in_time_more shape.pages shape.size shape.start c steps answer after s.reached step r.told s.in_time
 
   reading_stays : (answer : Answer) (after : Core) → Step shape.pages shape.size c steps answer after
       → IsReading after r
@@ -234,6 +241,7 @@ module _ (shape : Shape) (c : Core) (r : Reading) (ws : List ℕ) (homes : Homes
           };
           is_reading = reading_stays going (released_in frames) step;
           reader_made_is = reads_stay going (released_in frames) step;
+          in_time = time_stays going (released_in frames) step;
         }
 
   -- the frame on top is alone, and goes on in one of two phases
@@ -337,6 +345,7 @@ module _ (shape : Shape) (c : Core) (r : Reading) (ws : List ℕ) (homes : Homes
               (begun_homes begun.frames begun.history begun.held others_hold);
           is_reading = reading_stays _ begun opened_step;
           reader_made_is = reads_stay _ begun opened_step;
+          in_time = time_stays _ begun opened_step;
         }
 
 -- ---- the steps
@@ -356,7 +365,7 @@ module _ (shape : Shape) (me : SeatState) (now : Writing) (c : Core) (r : Readin
   release_moves : (number fill : ℕ) (page : Contents) → rest me.1 ≡ emptied (drop 1 c.open_pages)
       → IsTopIn now.frames releasing → number ≡ slice_index_or now.open_pages 0 0
       → IsWrittenPage shape.size now.done (fill_of now.history shape.start now.done) page → fill ≡ now.done
-      → WriterMoves shape r (me.0, (number, Some page) ∷ rest me.1) ws homes done_word (λ _. fill + 1)
+      → WriterMoves shape now r (me.0, (number, Some page) ∷ rest me.1) ws homes done_word (λ _. fill + 1)
       (λ _. WriterReported shape now (passed me.0) (λ _. ⊤) going)
   unfolding released_shown
   release_moves number fill page hand phase oldest written fill_is =
@@ -373,9 +382,8 @@ module _ (shape : Shape) (me : SeatState) (now : Writing) (c : Core) (r : Readin
         act = gives;
         valid = tt;
         shown = released_shown shape c r ws homes s number page oldest_is written_is fill frames done_is step;
-        made =
-            now.made ++ writer_made record { event = steps; answer = going } (released_in shape c r ws homes s frames)
-            ∷ [];
+        later =
+            writer_made record { event = steps; answer = going } (released_in shape c r ws homes s frames) ∷ [];
         made_is = made_is going (released_in shape c r ws homes s frames) step;
         reported = record {
           seat = record { view = refl; hand = hand };
@@ -395,7 +403,7 @@ module _ (shape : Shape) (me : SeatState) (now : Writing) (c : Core) (r : Readin
 
   open_moves : (number fill : ℕ) → me.1 ≡ emptied c.open_pages → IsTopIn now.frames (opening fill number)
       → fill ≡ now.opened
-      → WriterMoves shape r me ws homes opened_word (λ _. fill + 1) (λ _. OpenReported shape now (passed me.0))
+      → WriterMoves shape now r me ws homes opened_word (λ _. fill + 1) (λ _. OpenReported shape now (passed me.0))
   unfolding begun_shown
   open_moves number fill hand phase fill_is =
       let now_opened : fill ≡ c.opened = fill_is ∙ ap (λ (w : Writing). w.opened) (sym now_is) in
@@ -417,7 +425,7 @@ module _ (shape : Shape) (me : SeatState) (now : Writing) (c : Core) (r : Readin
         act = takes number (Some body);
         valid = lies;
         shown = begun_shown shape c r ws homes s top.frame top.below top.is number phase_is fill now_opened;
-        made = now.made ++ writer_made record { event = steps; answer = begun_answer now.frames } next ∷ [];
+        later = writer_made record { event = steps; answer = begun_answer now.frames } next ∷ [];
         made_is =
             made_is (begin_answer top.frame.kind top.frame.state top.below) next
             (opened_step shape c r ws homes s top.frame top.below top.is number phase_is)

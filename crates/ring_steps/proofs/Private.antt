@@ -11,12 +11,14 @@ use Rattle.ring_model.proofs.contents.PageChanges.{pages_differ}
 use Rattle.ring_model.proofs.seats.PrivateSteps.{private_result, changes_privately, IsPrivateOf}
 use Rattle.ring_model.proofs.seats.SeatPages.{private_leaves_other_pages}
 use Rattle.ring_model.proofs.partition.RingsKept.{reached_kept}
-use Rattle.ring_steps.specs.Made.{WriterMade, writer_made, reader_made, is_by_reader, is_by_writer, writer_made_of}
-use Rattle.ring_steps.specs.Made.{reader_made_of, privately_made}
+use Rattle.ring_steps.specs.Made.{WriterMade, writer_made, reader_made, is_by_reader, is_by_writer, trace_to}
+use Rattle.ring_steps.specs.Made.{writer_made_of, reader_made_of, privately_made}
+use Rattle.ring_steps.specs.Receipts.{Told, AreInTime}
 use Rattle.ring_steps.specs.Views.{Reading}
 use Rattle.ring_steps.specs.Shown.{Homes, IsHome, AreWords, AreHomes, IsReading, IsShown}
 use Rattle.ring_steps.proofs.Made.{made_at, of_writer, reached_on, reached_at, writer_more, reader_same}
 use Rattle.ring_steps.proofs.Observed.{first_records, observed_stays}
+use Rattle.ring_steps.proofs.InTime.{in_time_more, in_time_at}
 
 -- the page of a closed fill is none of the writer's
 pub closed_is_other : (n size start : ℕ) (c : Core) (f : ℕ) → IsRingKept n size start c → c.head ≤ f → f < c.done
@@ -103,6 +105,7 @@ stays_shown n size start c event answer after r words homes s step is own holds 
       };
       is_reading = stays_read n size start c event answer after r s.reached step is s.is_reading;
       reader_made_is = s.reader_made_is ∙ sym (reader_same n size start c event answer after s.reached step own);
+      in_time = in_time_more n size start c event answer after s.reached step r.told s.in_time;
     }
 
 pub private_shown : (n size start : ℕ) (c aside : Core) (exchanges : List Exchange) (r : Reading) (words : List ℕ)
@@ -117,6 +120,7 @@ private_shown n size start c aside [] r words homes s run = record {
   reader_made_is =
       s.reader_made_is
       ∙ sym (made_at is_by_reader reader_made n size s.reached.from c aside s.reached.exchanges run s.reached.run);
+  in_time = in_time_at n size start c aside run s.reached r.told s.in_time;
 }
 private_shown n size start c aside (x ∷ exchanges) r words homes s (own, between, step, run) =
     let k = reached_kept n size start c s.reached in
@@ -152,6 +156,17 @@ private_reached n size start c aside [] reached run = reached_at n size start c 
 private_reached n size start c aside (x ∷ exchanges) reached (own, between, step, run) =
     private_reached n size start between aside exchanges
     (reached_on n size start c x.event x.answer between reached step) run
+
+pub private_in_time : (n size start : ℕ) (c aside : Core) (exchanges : List Exchange) (reached : IsReached n size start c)
+    (run : PrivateRun n size c exchanges aside) (told : List Told)
+    → AreInTime (trace_to reached) told
+    → AreInTime (trace_to (private_reached n size start c aside exchanges reached run)) told
+unfolding private_reached
+private_in_time n size start c aside [] reached run told are = in_time_at n size start c aside run reached told are
+private_in_time n size start c aside (x ∷ exchanges) reached (own, between, step, run) told are =
+    private_in_time n size start between aside exchanges
+    (reached_on n size start c x.event x.answer between reached step) run told
+    (in_time_more n size start c x.event x.answer between reached step told are)
 
 -- ---- what the ends made: the writer these steps more, the reader nothing
 

@@ -16,6 +16,7 @@ use Rattle.ring_steps.specs.Shown.{Homes, IsReading}
 use Rattle.ring_steps.specs.Words.{wish_word}
 use Rattle.ring_steps.specs.Seats.{SeatState, IsSeatOfReader, IsReaderWithin, IsReaderStep, ReaderReported}
 use Rattle.ring_steps.proofs.Made.{of_reader, reached_on, writer_same, reader_then}
+use Rattle.ring_steps.proofs.InTime.{in_time_more}
 use Rattle.ring_steps.proofs.CountWords as words
 use Rattle.ring_steps.proofs.Allowing.{IsShownBy, ReaderMoves}
 
@@ -106,6 +107,9 @@ module _ (shape : Shape) (me : SeatState) (is : IsSeatOfReader me) (c : Core) (w
           reader_made_is =
               reader_then shape.pages shape.size shape.start c wishes (wished_for (reading me.0).reader.seen) next
               s.reached step (reading me.0) after refl s.reader_made_is is_reading;
+          in_time =
+              in_time_more shape.pages shape.size shape.start c wishes (wished_for (reading me.0).reader.seen) next
+              s.reached step (reading me.0).told s.in_time;
         };
         writer_is =
             ap (λ (made : List WriterMade). writing_of made next)
@@ -128,6 +132,8 @@ module _ (shape : Shape) (me : SeatState) (is : IsSeatOfReader me) (c : Core) (w
                 after_is = is_reading;
                 made_is = s.reader_made_is;
                 one_more = refl;
+                in_time = s.in_time;
+                told_is = refl;
               };
           keeps = refl;
         };

@@ -170,6 +170,7 @@ module _ (shape : Shape) (is : IsShape shape) (ws : List ℕ) (first_ws : AreFir
       are_homes = first_are_homes c s;
       is_reading = first_is_reading c s;
       reader_made_is = refl;
+      in_time = tt;
     };
     seats =
         subst

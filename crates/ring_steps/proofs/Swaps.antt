@@ -98,6 +98,8 @@ module _ (shape : Shape) (me : SeatState) (c : Core) (ws : List ℕ) (homes : Ho
         };
     made_is = s.reader_made_is;
     one_more = refl;
+    in_time = s.in_time;
+    told_is = refl;
   }
 
   -- ---- it fails
@@ -145,6 +147,7 @@ module _ (shape : Shape) (me : SeatState) (c : Core) (ws : List ℕ) (homes : Ho
                     observed = sym s.is_reading.observed_is i;
                     keeps_spare = sym keeps_slot i;
                     made = [];
+                    told = (reading me.0).told;
                   });
             },
           );

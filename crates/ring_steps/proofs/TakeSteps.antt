@@ -55,6 +55,8 @@ seen_as shape before sees other event answer reported after r seen e = record {
   one_more =
       r.one_more
       ∙ ap (λ (a : model.Answer). before.made ++ reading_made record { event = event; answer = a } after ∷ []) e;
+  in_time = r.in_time;
+  told_is = r.told_is;
 }
 
 module _ (shape : Shape) (before after : Reading) (sees : Core → Type 0) (answer : model.Answer)
@@ -128,6 +130,7 @@ module _ (shape : Shape) (before after : Reading) (sees : Core → Type 0) (answ
         observed = observed i;
         keeps_spare = slot i;
         made = [];
+        told = r.told_is i;
       })
       ∙ ap
       (λ (a : model.Answer).

@@ -41,6 +41,7 @@ use Rattle.ring_steps.specs.Taking.{ReadReported, SeatReported, IsWordInto}
 use Rattle.ring_steps.proofs.Made.{reached_on, writer_same, reader_then}
 use Rattle.ring_steps.proofs.Allowing.{IsShownBy, ReaderMoves}
 use Rattle.ring_steps.proofs.ReaderSteps.{reader_within}
+use Rattle.ring_steps.proofs.InTime.{in_time_more}
 
 -- the reader's part of a state
 abbrev pub reading_of : Core → Bool → Reading
@@ -53,12 +54,14 @@ reading_of c keeps_spare = record {
   observed = take c.reader.expected (map as_record (reserved_records c.history));
   keeps_spare = keeps_spare;
   made = [];
+  told = [];
 }
 
 -- and after a step of a take
 abbrev pub reading_on : Reading → Core → Bool → model.Answer → Reading
 reading_on before c keeps_spare answer =
-    reading_after before.made record { event = model.reads; answer = answer } (reading_of c keeps_spare)
+    reading_after before.made record { event = model.reads; answer = answer }
+    (record (reading_of c keeps_spare) { told = before.told })
 
 -- the reader goes on, and the link of its page may be set
 abbrev pub gone_on : Core → Reader → Link → Core
@@ -238,6 +241,9 @@ module _ (shape : Shape) (me : SeatState) (c : Core) (ws : List ℕ) (homes : Ho
           reader_made_is =
               reader_then shape.pages shape.size shape.start c model.reads answer next s.reached step (reading me.0)
               (reading_on (reading me.0) next b answer) refl s.reader_made_is is_reading;
+          in_time =
+              in_time_more shape.pages shape.size shape.start c model.reads answer next s.reached step (reading me.0).told
+              s.in_time;
         };
         writer_is =
             λ k.
@@ -271,6 +277,8 @@ module _ (shape : Shape) (me : SeatState) (c : Core) (ws : List ℕ) (homes : Ho
               after_is = is_reading;
               made_is = s.reader_made_is;
               one_more = refl;
+              in_time = s.in_time;
+              told_is = refl;
             },
           );
         };

@@ -36,7 +36,7 @@ pub writer_move : (shape : Shape) (me : SeatState) (now : Writing) (word : ℕ) 
     → ((found : ℕ) (after : SeatState) → reports found after → StaysWriting shape after)
     → ((c : Core) (r : Reading) (words : List ℕ) (homes : Homes) (s : IsShownBy shape c r words homes)
     → writing_of (writer_made_of s.reached) c ≡ now → c.open_pages ≡ (writing me.0).open_pages → passed me.0 ≤ c.head
-    → WriterMoves shape r me words homes word f reports)
+    → WriterMoves shape now r me words homes word f reports)
     → IsWriterMove shape me word f reports
 writer_move shape me now word f reports is leads stays moves = record {
   allowed = λ slots id. writer_allows shape slots id me now word f reports is.view leads moves;

@@ -1,4 +1,5 @@
 pub mod Made
+pub mod Receipts
 pub mod Views
 pub mod Words
 pub mod Shown

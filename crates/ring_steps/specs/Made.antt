@@ -103,14 +103,16 @@ pub record AreMadeByBoth (writers : List WriterMade) (readers : List ReaderMade)
 
 -- ---- states that steps reach
 
--- what each end made of the run by which a state is reached
+-- what the run goes through by which a state is reached
+abbrev pub trace_to : {n size start : ℕ} {c : Core} → IsReached n size start c → Trace
+trace_to {n} {size} {start} {c} reached = trace_of n size reached.from reached.exchanges c reached.run
+
+-- what each end made of it
 abbrev pub writer_made_of : {n size start : ℕ} {c : Core} → IsReached n size start c → List WriterMade
-writer_made_of {n} {size} {start} {c} reached =
-    by_writer (trace_of n size reached.from reached.exchanges c reached.run)
+writer_made_of reached = by_writer (trace_to reached)
 
 abbrev pub reader_made_of : {n size start : ℕ} {c : Core} → IsReached n size start c → List ReaderMade
-reader_made_of {n} {size} {start} {c} reached =
-    by_reader (trace_of n size reached.from reached.exchanges c reached.run)
+reader_made_of reached = by_reader (trace_to reached)
 
 -- what the writer made by private steps
 abbrev pub privately_made : (n size : ℕ) (before : Core) (exchanges : List Exchange) (after : Core)

@@ -46,6 +46,7 @@ first_reading shape = record {
   observed = [];
   keeps_spare = false;
   made = [];
+  told = [];
 }
 
 -- the word of a page's link in a new ring: it leads into the position after the page's own

@@ -9,9 +9,10 @@ use Rattle.ring_model.specs.Reached.{IsReached}
 use Rattle.ring_model.specs.Seats.{IsOfReader, PrivateRun}
 use Rattle.page_image.specs.Contents.{Contents}
 use Rattle.ring_steps.specs.declared.rule.Shape.{Shape}
-use Rattle.ring_steps.specs.Made.{writer_made_of, reader_made_of, privately_made}
+use Rattle.ring_steps.specs.Made.{trace_to, writer_made_of, reader_made_of, privately_made}
+use Rattle.ring_steps.specs.Receipts.{AreInTime}
 use Rattle.ring_steps.specs.Views.{Writing, writing_of, writing_after, Reading, reading_made, SeatView, writes, reads}
-use Rattle.ring_steps.specs.Views.{writing, passed, reading}
+use Rattle.ring_steps.specs.Views.{writing, passed, reading, saw, made_seen}
 use Rattle.ring_steps.specs.Shown.{IsReading}
 use Rattle.ring_steps.specs.Words.{word_count}
 
@@ -56,6 +57,11 @@ pub record IsSeatOfReader (me : SeatState) : Type 0 where
 abbrev pub without_slot : Reading → Reading
 without_slot r = record r { keeps_spare = false }
 
+-- a receipt's seat has no slot
+pub record IsSeatOfReceipt (me : SeatState) : Type 0 where
+  pub view : me.0 ≡ saw (made_seen me.0)
+  pub hand : me.1 ≡ []
+
 -- ---- steps
 
 -- The numbers that the reader goes by have room in a word: pages of the ring, and fills that have a number.
@@ -82,6 +88,8 @@ pub record IsReaderStep (shape : Shape) (before : Reading) (sees : Core → Type
   pub after_is : IsReading next after
   pub made_is : before.made ≡ reader_made_of reached
   pub one_more : after.made ≡ before.made ++ reading_made record { event = event; answer = answer } after ∷ []
+  pub in_time : AreInTime (trace_to reached) before.told
+  pub told_is : after.told ≡ before.told
 
 -- what a step of the reader by which it neither takes nor gives back a slot shows of its seat: a store of the wish
 -- (those of a take: Taking)
@@ -133,3 +141,4 @@ pub record AreParts (shape : Shape) (w : Writing) (r : Reading) : Type 0 where
   pub writing_is : writing_of (writer_made_of reached) core ≡ w
   pub reading_is : IsReading core r
   pub reader_made_is : r.made ≡ reader_made_of reached
+  pub in_time : AreInTime (trace_to reached) r.told

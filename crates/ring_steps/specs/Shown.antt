@@ -14,7 +14,8 @@ use Rattle.trace_model.specs.Steps.{contents_of}
 use Rattle.ring_model.specs.Reached.{IsReached}
 use Rattle.page_image.specs.Contents.{Contents}
 use Rattle.nested_writer.specs.Released.{IsWrittenPage}
-use Rattle.ring_steps.specs.Made.{writer_made_of, reader_made_of}
+use Rattle.ring_steps.specs.Made.{trace_to, writer_made_of, reader_made_of}
+use Rattle.ring_steps.specs.Receipts.{AreInTime}
 use Rattle.ring_steps.specs.Views.{Writing, writing_of, Reading, SeatView, laid, AreSeated}
 use Rattle.ring_steps.specs.Words.{opened_word, done_word, wish_word, page_word, word_count}
 
@@ -81,6 +82,7 @@ pub record IsShown (n size start : ℕ) (c : Core) (r : Reading) (words : List �
   pub are_homes : AreHomes n size c r homes
   pub is_reading : IsReading c r
   pub reader_made_is : r.made ≡ reader_made_of reached
+  pub in_time : AreInTime (trace_to reached) r.told
 
 -- Some state is shown, and its two parts are what the seats know. The tail's slot is empty, while no seat has it.
 pub record Shows (n size start : ℕ) (s : State (Option Contents) SeatView) : Type 0 where

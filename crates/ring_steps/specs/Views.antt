@@ -1,6 +1,6 @@
 -- What the two ends of a running ring know, each of its own part.
 -- docs/MODEL.md, "The running ring".
-use Rattle.std.specs.Prelude.{ℕ, ◌≤◌, List, [], ◌∷◌, ◌++◌, Bool, false}
+use Rattle.std.specs.Prelude.{◌≡◌, ℕ, ◌≤◌, List, [], ◌∷◌, ◌++◌, length, Bool, false}
 use Rattle.trace_model.specs.Steps.{Exchange}
 use Rattle.trace_model.specs.Record.{Record}
 use Rattle.trace_model.specs.History.{HistoryEvent}
@@ -8,6 +8,7 @@ use Rattle.trace_model.specs.Links.{Link, normal_link}
 use Rattle.trace_model.specs.Frames.{Frame}
 use Rattle.trace_model.specs.Ring.{Core, Reader, first_reader}
 use Rattle.ring_steps.specs.Made.{WriterMade, ReaderMade}
+use Rattle.ring_steps.specs.Receipts.{Told}
 
 -- The writer's part of a ring: its frames, the pages of the fills that are begun and not closed, the oldest first, what
 -- the frames did, and the two counts that it alone stores; made: its steps so far.
@@ -47,7 +48,8 @@ writing_after made x w = record w { made = made ++ writing_made x w ∷ [] }
 
 -- The reader's part: the page at each position, the page outside the ring and its link, how far its take has come and
 -- what it took, and the wish, which it alone stores. observed: the committed records up to the last one that it took,
--- those that were lost before it among them. keeps_spare: the spare's slot is out with it. made: its steps so far.
+-- those that were lost before it among them. keeps_spare: the spare's slot is out with it. made: its steps so far; told:
+-- what it learned by receipts.
 pub record Reading : Type 0 where
   pub order : List ℕ
   pub spare : ℕ
@@ -57,6 +59,7 @@ pub record Reading : Type 0 where
   pub observed : List Record
   pub keeps_spare : Bool
   pub made : List ReaderMade
+  pub told : List Told
 
 -- the reader's step that led to this part
 abbrev pub reading_made : Exchange → Reading → ReaderMade
@@ -73,14 +76,19 @@ reading_made x r = record {
 abbrev pub reading_after : List ReaderMade → Exchange → Reading → Reading
 reading_after made x r = record r { made = made ++ reading_made x r ∷ [] }
 
+-- it learns that the writer had made these steps
+abbrev pub told_of : Reading → List WriterMade → Reading
+told_of r made = record r { told = r.told ++ record { steps = length r.made; made = made } ∷ [] }
+
 -- What a seat knows. laid: the first one, before it has the tail's slot; whole: and then, before it is split. writes:
--- the writer's, with a number below which each fill is passed. joined: the one that both became, and spent is what it
--- left.
+-- the writer's, with a number below which each fill is passed. saw: a receipt, of the steps that the writer had made.
+-- joined: the one that both ends became. spent: what is left of one that was joined to another.
 pub data SeatView : Type 0 where
   laid : Writing → Reading → SeatView
   whole : Writing → Reading → SeatView
   writes : Writing → (passed : ℕ) → SeatView
   reads : Reading → SeatView
+  saw : (made : List WriterMade) → SeatView
   joined : Writing → Reading → SeatView
   spent : SeatView
 
@@ -97,6 +105,7 @@ no_reading = record {
   observed = [];
   keeps_spare = false;
   made = [];
+  told = [];
 }
 
 -- the writer's part of what a seat knows, if it has one
@@ -105,6 +114,7 @@ writing (laid w r) = w
 writing (whole w r) = w
 writing (writes w passed) = w
 writing (reads r) = no_writing
+writing (saw made) = no_writing
 writing (joined w r) = w
 writing spent = no_writing
 
@@ -114,6 +124,7 @@ passed (laid w r) = 0
 passed (whole w r) = 0
 passed (writes w number) = number
 passed (reads r) = 0
+passed (saw made) = 0
 passed (joined w r) = 0
 passed spent = 0
 
@@ -123,14 +134,45 @@ reading (laid w r) = r
 reading (whole w r) = r
 reading (writes w passed) = no_reading
 reading (reads r) = r
+reading (saw made) = no_reading
 reading (joined w r) = r
 reading spent = no_reading
 
+-- the steps that a receipt has, if it is one
+abbrev pub made_seen : SeatView → List WriterMade
+made_seen (laid w r) = []
+made_seen (whole w r) = []
+made_seen (writes w passed) = []
+made_seen (reads r) = []
+made_seen (saw made) = made
+made_seen (joined w r) = []
+made_seen spent = []
+
+-- A receipt that isn't spent has a front of the steps that the writer has made by now.
+abbrev pub IsReceipt : List WriterMade → SeatView → Type 0
+IsReceipt made (laid w r) = ⊥
+IsReceipt made (whole w r) = ⊥
+IsReceipt made (writes w passed) = ⊥
+IsReceipt made (reads r) = ⊥
+IsReceipt made (saw earlier) = (later : List WriterMade) × (made ≡ earlier ++ later)
+IsReceipt made (joined w r) = ⊥
+IsReceipt made spent = Unit {0}
+
+abbrev pub AreReceipts : List WriterMade → List SeatView → Type 0
+AreReceipts made [] = Unit {0}
+AreReceipts made (view ∷ views) = IsReceipt made view × AreReceipts made views
+
 -- The views of a ring's seats: at first one knows both parts; then the writer's is the first and the reader's the
--- second; at the end both are one again. The number below which the writer knows each fill to be passed is at most the
--- head.
+-- second; at the end both are one again. Those after the second are receipts. The number below which the writer knows
+-- each fill to be passed is at most the head.
 pub data AreSeated (w : Writing) (r : Reading) (head : ℕ) : List SeatView → Type 0 where
   begun : AreSeated w r head (laid w r ∷ [])
   made : AreSeated w r head (whole w r ∷ [])
-  running : (passed : ℕ) → passed ≤ head → AreSeated w r head (writes w passed ∷ reads r ∷ [])
-  settled : AreSeated w r head (joined w r ∷ spent ∷ [])
+  running : (passed : ℕ)
+      → passed ≤ head
+      → (receipts : List SeatView)
+      → AreReceipts w.made receipts
+      → AreSeated w r head (writes w passed ∷ reads r ∷ receipts)
+  settled : (receipts : List SeatView)
+      → AreReceipts w.made receipts
+      → AreSeated w r head (joined w r ∷ spent ∷ receipts)

@@ -1,8 +1,8 @@
-//! The two seats of a ring.
+//! The two seats of a ring, and its receipts.
 ghost use Rattle.std.specs.Prelude.{◌≡◌};
 ghost use Rattle.std.specs.Arc.{arc_value};
 ghost use Rattle.ring_steps.specs.Views.{writing, reading};
-ghost use Rattle.ring_steps.specs.Seats.{IsTableOf, IsWriting, IsSeatOfReader, IsReaderWithin, Leads};
+ghost use Rattle.ring_steps.specs.Seats.{IsTableOf, IsWriting, IsSeatOfReader, IsSeatOfReceipt, IsReaderWithin, Leads};
 ghost use Rattle.ring_steps.specs.Paging.{IsWriterReached};
 
 use crate::ghost_part::GhostPart;
@@ -54,5 +54,18 @@ impl fmt::Debug for ReaderSeat {
         f.debug_struct("ReaderSeat")
             .field("shape", &self.shape)
             .finish_non_exhaustive()
+    }
+}
+
+/// A receipt, which has no bytes: contracts see the steps that the writer had made when it gave it.
+#[derive(Drop)]
+pub struct ReceiptSeat {
+    pub(crate) seat: TableSeat,
+    ghost is_receipt: { IsSeatOfReceipt seat.me },
+}
+
+impl fmt::Debug for ReceiptSeat {
+    fn fmt<W: fmt::Write>(&self, f: &mut fmt::Formatter<W>) -> fmt::Result {
+        f.debug_struct("ReceiptSeat").finish_non_exhaustive()
     }
 }

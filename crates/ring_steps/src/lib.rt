@@ -14,6 +14,7 @@ mod making;
 mod noting;
 mod plays;
 mod reader;
+mod receipts;
 mod rule;
 mod settling;
 mod swapping;
@@ -21,7 +22,7 @@ mod views;
 mod words;
 mod writer;
 
-pub use ends::{ReaderSeat, WriterSeat};
+pub use ends::{ReaderSeat, ReceiptSeat, WriterSeat};
 pub use making::{seats, seats_at};
 pub use noting::ChosenPart;
 pub use rule::Shape;

@@ -4,7 +4,7 @@ use Rattle.std.proofs.Common.{drop, append_assoc, refl, sym, ap, ◌∙◌, arit
 use Rattle.std.specs.List.{list_all, enumerate_from}
 use Rattle.std.specs.Str.{bytes_eq}
 use Rattle.std.proofs.lemmas.Bool.{and_parts}
-use Rattle.std.proofs.lemmas.List.{take_rest}
+use Rattle.std.proofs.lemmas.List.{take-append-drop, take_rest}
 use Rattle.std.proofs.lemmas.Slice.Eq.{bytes_eq-Decides}
 use Rattle.text_values.specs.Digits.{pair_of, pairs_of}
 use Rattle.text_values.specs.declared.values.TheConstants.{PAIRS}
@@ -111,6 +111,10 @@ pub part_more : (left part behind text so_far out : List ℕ) → left ≡ part 
 part_more left part behind text so_far out cut before put =
     let whole : pairs_of left ≡ pairs_of part ++ pairs_of behind = ap pairs_of cut ∙ pairs_append part behind in
     rw put (rw append_assoc (sym (ap (λ (ds : List ℕ). so_far ++ ds) whole) ∙ before))
+
+-- the first bytes, and the rest after them
+pub part_and_rest : (left part rest : List ℕ) (n : ℕ) → part ≡ take n left → rest ≡ drop n left → left ≡ part ++ rest
+part_and_rest left part rest n first last = rw (first, last) (sym (take-append-drop n left))
 
 -- eight bytes, and the rest after them, in the code's words
 pub eight_and_rest : (left : List ℕ) → 8 ≤ length left

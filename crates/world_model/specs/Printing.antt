@@ -32,8 +32,11 @@ abbrev pub printed_collector : ℕ → Shown → List ℕ
 printed_collector collector shown =
     codes "collector " ++ decimal collector ++ line_feed ∷ flat_map printed_line shown.lines ++ printed_runs shown.runs
 
--- what a replay prints: its log, if it is asked for, and then its collectors, numbered from 0
+-- collectors, numbered from 0
+abbrev pub printed_collectors : List Shown → List ℕ
+printed_collectors collectors = flat_map (λ pair. printed_collector pair.0 pair.1) (enumerate_from 0 collectors)
+
+-- what a replay prints: its log, if it is asked for, and then its collectors
 abbrev pub printed_world : Bool → List LogLine → List Shown → List ℕ
 printed_world asked log collectors =
-    (if asked then flat_map printed_log_line log else [])
-    ++ flat_map (λ pair. printed_collector pair.0 pair.1) (enumerate_from 0 collectors)
+    (if asked then flat_map printed_log_line log else []) ++ printed_collectors collectors

@@ -1,3 +1,0 @@
-//! Running rings: their seats, and their ends in threads.
-mod seats;
-mod threads;
