@@ -36,3 +36,6 @@ pub mod Learning
 pub mod DoneSeen
 pub mod ReturnedBefore
 pub mod OneRun
+pub mod Stops
+pub mod FewSteps
+pub mod CallSteps

@@ -57,7 +57,7 @@ with_unread records pieces settled is counted = elim (cases_Bool (settled.tail.c
 ]
 
 -- what both ends made is one run
-pub one_run : (shape : Shape) (writing : Writing) (part : Reading) → AreParts shape writing part
+abbrev pub one_run : (shape : Shape) (writing : Writing) (part : Reading) → AreParts shape writing part
     → IsOneRun shape writing part
 one_run shape writing part p = record {
   from = p.reached.from;

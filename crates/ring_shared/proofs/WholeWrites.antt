@@ -59,7 +59,7 @@ not_refused result none (fault, is) = none fault (ap (met_behind None) is)
 
 module _ (shape : Shape) (before : Writing) (result : Answer) (after : Writing) (frame : Frame) (below : List Frame)
     (top : before.frames ≡ frame ∷ below) (f : Finishes shape before result after) where
-  finishes_top : FinishesFrame shape frame.kind frame.state below before result after
+  pub finishes_top : FinishesFrame shape frame.kind frame.state below before result after
   finishes_top = subst (λ (frames : List Frame). FinishesTop shape frames before result after) top f
 
   reserves_so : (kind : Purpose) (state : frames_model.Progress) → IsReserving kind state

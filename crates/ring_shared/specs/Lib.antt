@@ -9,6 +9,7 @@ pub mod Receipts
 pub mod Settling
 pub mod Nearer
 pub mod Finishing
+pub mod FewSteps
 pub mod Promises
 pub mod Covering
 pub mod WholeWrites

@@ -1,7 +1,10 @@
 -- What is left of a ring whose two ends were joined.
-use Rattle.std.specs.Prelude.{◌≡◌, ℕ, ◌+◌, ◌<◌, ◌≤◌, ◌⊎◌, ◌==◌, if◌then◌else◌, List, [], ◌∷◌, ◌++◌, Option, Some, None}
+use Rattle.std.specs.Prelude.{◌≡◌, ℕ, ◌+◌, ◌<◌, ◌≤◌, ◌⊎◌, ◌==◌, if◌then◌else◌, List, [], ◌∷◌, ◌++◌, length, map, Option}
+use Rattle.std.specs.Prelude.{Some, None}
 use Rattle.std.specs.List.{slice_get}
-use Rattle.trace_model.specs.History.{committed_records}
+use Rattle.trace_model.specs.Record.{Record}
+use Rattle.trace_model.specs.History.{reserved_records, as_record, committed_records}
+use Rattle.trace_model.specs.Packing.{first_of_fill}
 use Rattle.trace_model.specs.Partition.{Piece, IsPartition}
 use Rattle.trace_model.specs.Ring.{Core, IsStart, TakenFill, fill_of, AreFillsOf}
 use Rattle.trace_model.specs.Steps.{Exchange, Run}
@@ -57,6 +60,24 @@ pub record IsOneRun (shape : Shape) (writing : Writing) (reading : Reading) : Ty
   pub in_time : AreInTime (trace_of shape.pages shape.size from exchanges last run) reading.lessons
   pub writing_is : writing_of writing.made last ≡ writing
   pub reading_is : IsReading last reading
+
+-- What holds of both ends at any moment. All that they asked is one run (`one_run`). The committed records are what the
+-- reader took, with what it reports as missed; then those that were overwritten since; and then those that are unread
+-- in the ring, which are all from the first number of the run's head on. After the committed ones come those that are
+-- reserved by frames that stand, or that have ended above one that does; none if no frame stands. Each page that was
+-- taken is a whole fill of this writer's history, under that fill's number.
+pub record IsStopped (shape : Shape) (writing : Writing) (reading : Reading) : Type 0 where
+  pub one_run : IsOneRun shape writing reading
+  pub overwritten : List Record
+  pub unread : List Record
+  pub partition : IsPartition (committed_records writing.history) (pieces_of reading.reader.taken)
+      (overwritten ++ unread)
+  pub unread_from : length (committed_records writing.history)
+      ≡ first_of_fill writing.history shape.start one_run.last.head + length unread
+  pub pending : List Record
+  pub reserved_are : map as_record (reserved_records writing.history) ≡ committed_records writing.history ++ pending
+  pub none_stands : writing.frames ≡ [] → pending ≡ []
+  pub fills : AreFillsOf shape.start writing.history reading.reader.taken
 
 -- The committed records are what the reader took, with what it reports as missed, and then the unread page's, and
 -- nothing else. That page is the tail. Each closed fill was taken, or is lost: the fill one round of the ring's pages

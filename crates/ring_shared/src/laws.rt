@@ -1,4 +1,5 @@
 //! What holds of any call on an end of a running ring, and of all calls on both ends.
+ghost use Rattle.ring_shared.specs.FewSteps.{FramesMakeFewSteps};
 ghost use Rattle.ring_shared.specs.Laws.{CallsAppend, ClosesAppend, EndsAppend, NumbersAreReportedAgain, PushesAppend};
 ghost use Rattle.ring_shared.specs.Laws.{RefusalsAppend, ReservationsAppend};
 ghost use Rattle.ring_shared.specs.Receipts.{WhatReturnedIsSeen, WhatReturnedStandsBefore};
@@ -87,4 +88,10 @@ pub fn both_ends_made_one_run()
 pub fn calls_end_runs()
     ensures writer { WriterCallsEndRuns }
     ensures reader { ReaderStepsEndRuns }
+{}
+
+/// Of the steps that a writer's end has made by now, at most 3N + 52 stand in a row at the end of which each brought the
+/// same frame nearer to being gone, its record's end among them: whatever the reader did in between.
+pub fn frames_make_few_steps()
+    ensures { FramesMakeFewSteps }
 {}

@@ -54,6 +54,6 @@ pub use making::{ring, ring_at};
 pub use reader::Reader;
 pub use receipts::Receipt;
 pub use ring_frames::Answer;
-pub use settling::{SettleFault, Settled, settle};
+pub use settling::{SettleFault, Settled, settle, stop};
 pub use take::Take;
 pub use writer::Writer;

@@ -37,7 +37,7 @@ pub enum SettleFault {
 ghost use Rattle.std.specs.Prelude.{◌≡◌, [], Some, IfOk, IfErr};
 ghost use Rattle.ring_shared.specs.Calls.{IsWriter};
 ghost use Rattle.ring_shared.specs.Takes.{IsReader};
-ghost use Rattle.ring_shared.specs.Settling.{AreEndsOf, IsSettled};
+ghost use Rattle.ring_shared.specs.Settling.{AreEndsOf, IsSettled, IsStopped};
 
 /// Joins the two ends of a ring: the pages that its reader took, and then the unread one if there is one, are all
 /// records that its writer committed, except those that are reported as missed. The writer has no frame on its stack,
@@ -60,4 +60,16 @@ pub fn settle(alloc: Global, writer: Writer, reader: Reader) -> Result<Settled, 
         tail: frames.into_tail(),
         seats,
     })
+}
+
+/// Joins the two ends of a ring at any moment: whatever frames stand, whatever is unread, and amid a take that is to go
+/// on. Each committed record is on a page that was taken, is counted as missed before one, was overwritten since, or is
+/// unread in the ring; and all that both ends asked so far, with all that was answered, is one run of the model.
+pub fn stop(writer: Writer, reader: Reader) -> SettledSeats
+    requires one_ring { reader.table ≡ writer.table }
+    ensures { IsStopped writer.shape writer.part reader.part }
+{
+    let Writer { seat, .. } = writer;
+    let Reader { seat: other, .. } = reader;
+    ring_steps::settle(seat, other)
 }

@@ -33,6 +33,7 @@ impl Writer {
     ghost use Rattle.ring_shared.specs.Calls.{IsWriter};
     ghost use Rattle.ring_frames.specs.declared.phase.Phase.TheVariants.{Wishing};
     ghost use Rattle.ring_frames.specs.Answers.{KeepsPayloads, ZerosSlot};
+    ghost use Rattle.ring_shared.specs.FewSteps.{MakesAtMost, most_to_finish};
     ghost use Rattle.ring_shared.specs.Promises.{HasLeavingTop, KeepsSlots, LeavesTop};
     ghost use Rattle.ring_shared.specs.Finishing.{Finishes, IsFinished, ZerosFinished, Reserves, Leaves, Closes};
     ghost use Rattle.ring_shared.specs.Finishing.{IsGoneOrRefused, met_behind};
@@ -40,11 +41,13 @@ impl Writer {
     /// Steps a close frame, or one that was ended or refused, until it is gone, and a record frame that waits until its
     /// record is reserved, in a slot that holds only zeros, or it is refused; one that has reserved gets its number
     /// again, and its slot stays. It answers the refusal that it met, if any, else as its last step does. Each of its
-    /// steps is one of `step`; if there is no frame, it is refused with `NoFrame`.
+    /// steps is one of `step`; in a ring of N pages they are at most 3N + 53, whatever the reader does. If there is no
+    /// frame, it is refused with `NoFrame`.
     #[inline(always)]
     pub fn finish_top(&mut self) -> Answer
         requires writer { IsWriter self.old }
         ensures finished { Finishes self.old.shape self.old.part result self.new.part }
+        ensures few { MakesAtMost (most_to_finish self.old.shape) self.old.part self.new.part }
         ensures slots { KeepsSlots self.old result self.new }
         ensures ring { SameWriter self.old self.new }
         ensures writer { IsWriter self.new }

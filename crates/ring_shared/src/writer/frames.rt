@@ -24,6 +24,7 @@ impl Writer {
     ghost use Rattle.ring_shared.specs.Calls.{IsWriter, MakesSome};
     ghost use Rattle.ring_shared.specs.Nearer.{IsNearer};
     ghost use Rattle.ring_shared.specs.Rooms.{rooms};
+    ghost use Rattle.ring_shared.specs.FewSteps.{MakesAtMost};
     ghost use Rattle.ring_shared.specs.Promises.{HasFrame};
 
     /// A writer begins: a frame is pushed for a record of this moment, and of a payload of `len` bytes. `Pushed`; or
@@ -33,6 +34,7 @@ impl Writer {
     pub fn begin(&mut self, moment: u64, len: usize) -> Answer
         requires writer { IsWriter self.old }
         ensures makes { MakesSome self.old (model.pushes moment len) result self.new }
+        ensures few { MakesAtMost 1 self.old.part self.new.part }
         ensures payloads { KeepsPayloads self.old.frames.stack self.new.frames.stack }
         ensures room { result ≡ Answer.Pushed → rooms self.new ≡ Some (slot_len len) ∷ rooms self.old }
         ensures refused { (fault : WriteFault) → result ≡ Answer.Refused fault → rooms self.new ≡ rooms self.old }
@@ -48,6 +50,7 @@ impl Writer {
     pub fn begin_close(&mut self) -> Answer
         requires writer { IsWriter self.old }
         ensures makes { MakesSome self.old model.pushes_close result self.new }
+        ensures few { MakesAtMost 1 self.old.part self.new.part }
         ensures payloads { KeepsPayloads self.old.frames.stack self.new.frames.stack }
         ensures room { result ≡ Answer.Pushed → rooms self.new ≡ None ∷ rooms self.old }
         ensures refused { (fault : WriteFault) → result ≡ Answer.Refused fault → rooms self.new ≡ rooms self.old }
@@ -65,6 +68,7 @@ impl Writer {
         requires writer { IsWriter self.old }
         ensures makes { MakesSome self.old (model.ends (top_bytes self.old.frames.stack self.old.frames.stack.frames))
             result self.new }
+        ensures few { MakesAtMost 1 self.old.part self.new.part }
         ensures payloads { EndsPayload self.old.frames.stack self.new.frames.stack }
         ensures rooms { result ≡ Answer.Ended Pending → IsOneMore (rooms self.old) (rooms self.new) }
         ensures refused { (fault : WriteFault) → result ≡ Answer.Refused fault → rooms self.new ≡ rooms self.old }

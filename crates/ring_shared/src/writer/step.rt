@@ -14,6 +14,7 @@ impl Writer {
     ghost use Rattle.ring_shared.specs.Calls.{IsWriter, MakesSome};
     ghost use Rattle.ring_shared.specs.Nearer.{IsNearer};
     ghost use Rattle.ring_shared.specs.Rooms.{rooms};
+    ghost use Rattle.ring_shared.specs.FewSteps.{MakesAtMost};
     ghost use Rattle.ring_shared.specs.Promises.{HasFrame, KeepsSlots};
 
     /// One step of the frame on top, in its phase: a step on one word, or one that touches none. `Going` if it is on
@@ -25,6 +26,7 @@ impl Writer {
     pub fn step(&mut self) -> Answer
         requires writer { IsWriter self.old }
         ensures makes { MakesSome self.old model.steps result self.new }
+        ensures few { MakesAtMost 1 self.old.part self.new.part }
         ensures nearer { IsNearer self.old self.new }
         ensures slots { KeepsSlots self.old result self.new }
         ensures going { result ≡ Going → rooms self.new ≡ rooms self.old }

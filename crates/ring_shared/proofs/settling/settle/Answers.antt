@@ -1,4 +1,5 @@
-use Rattle.std.proofs.Common.{ap, ◌∙◌}
+use Rattle.std.proofs.Common.{Bool, sym, ap, ◌∙◌}
+use Rattle.ring_steps.specs.Seats.{without_slot}
 use Rattle.ring_shared.proofs.Settles.{ends_settle}
 use Rattle.ring_shared.specs.Value.{WriterValue, ReaderValue}
 use Rattle.ring_shared.specs.Calls.{IsWriter}
@@ -7,7 +8,10 @@ use Rattle.ring_shared.proofs.settling.settle.Goals as goal
 pub returns-clause-ends : goal.returns-clause-ends
 returns-clause-ends c = record {
   writing_is = c.settle-seats.ensures.writing ∙ ap (λ (w : WriterValue). w.part) c.writer.view_is;
-  reading_is = c.settle-seats.ensures.reading ∙ ap (λ (r : ReaderValue). r.part) c.reader.view_is;
+  reading_is =
+      c.settle-seats.ensures.reading ∙ ap (λ (r : ReaderValue). without_slot r.part) c.reader.view_is
+      ∙ ap (λ (keeps : Bool). record c.args.reader.part { keeps_spare = keeps })
+      (sym (c.requires.reader.empty c.args.writer.part.done c.requires.all_read).no_spare);
 }
 
 pub returns-clause-settled : goal.returns-clause-settled

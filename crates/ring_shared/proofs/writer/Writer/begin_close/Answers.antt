@@ -5,6 +5,7 @@ use Rattle.ring_steps.proofs.PartAfter.{close_leads}
 use Rattle.ring_shared.proofs.Privately.{seen_call}
 use Rattle.ring_shared.proofs.Rooms.{close_rooms, close_refused_rooms}
 use Rattle.ring_shared.specs.Calls.{IsWriter}
+use Rattle.ring_shared.proofs.CallSteps.{one_step}
 use Rattle.ring_shared.proofs.writer.Writer.begin_close.Goals as goal
 
 pub note-requires : goal.note-requires
@@ -24,6 +25,10 @@ pub returns-clause-refused : goal.returns-clause-refused
 unfolding IsWriter
 returns-clause-refused c fault refused =
     close_refused_rooms _ _ c.push_close.result _ (returns-clause-makes c).call fault refused
+
+pub returns-clause-few : goal.returns-clause-few
+unfolding IsWriter
+returns-clause-few c = one_step _ _ _ _ _ (returns-clause-makes c).call
 
 pub returns-clause-ring : goal.returns-clause-ring
 unfolding IsWriter

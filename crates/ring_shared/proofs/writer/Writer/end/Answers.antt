@@ -4,6 +4,7 @@ use Rattle.ring_frames.specs.Answers.{top_bytes}
 use Rattle.ring_shared.specs.Calls.{IsWriter}
 use Rattle.ring_shared.proofs.Privately.{end_leads, seen_call}
 use Rattle.ring_shared.proofs.Rooms.{end_rooms, end_refused_rooms}
+use Rattle.ring_shared.proofs.CallSteps.{one_step}
 use Rattle.ring_shared.proofs.writer.Writer.end.Goals as goal
 
 pub note-requires : goal.note-requires
@@ -25,6 +26,10 @@ pub returns-clause-refused : goal.returns-clause-refused
 unfolding IsWriter
 returns-clause-refused c fault refused =
     end_refused_rooms _ _ c.end.result _ _ (returns-clause-makes c).call fault refused
+
+pub returns-clause-few : goal.returns-clause-few
+unfolding IsWriter
+returns-clause-few c = one_step _ _ _ _ _ (returns-clause-makes c).call
 
 pub returns-clause-ring : goal.returns-clause-ring
 unfolding IsWriter

@@ -17,6 +17,7 @@ use Rattle.ring_shared.proofs.Depths.{reserving_top}
 use Rattle.ring_shared.proofs.Finishes.{reserving_first, reserving_ends}
 use Rattle.ring_shared.proofs.Rooms.{reserved_rooms, finished_rooms, finished_gone, finished_refused}
 use Rattle.ring_shared.proofs.TopAnswers.{wishing_on_top}
+use Rattle.ring_shared.proofs.CallSteps.{finishes_few}
 use Rattle.ring_shared.proofs.writer.Writer.finish_top.Goals as goal
 use Rattle.ring_shared.proofs.writer.Writer.finish_top.Goals.{in-Wishing, in_default}
 
@@ -130,3 +131,21 @@ returns-in-Refused-clause-slots c = record {
   gone = search rules;
   refused = λ fault refused. finished_refused _ _ (Refused _) _ c.in-Refused.ensures.finished fault refused;
 }
+
+-- ---- how many steps these are
+
+pub returns-in-Some-clause-few : goal.returns-in-Some-clause-few
+returns-in-Some-clause-few c = finishes_few _ _ _ _ (returns-in-Some-clause-finished c)
+
+pub returns-then-not-is_empty-clause-few : goal.returns-then-not-is_empty-clause-few
+returns-then-not-is_empty-clause-few c = finishes_few _ _ _ _ (returns-then-not-is_empty-clause-finished c)
+
+pub returns-in-Gone-clause-few : goal.returns-in-Gone-clause-few
+returns-in-Gone-clause-few c = finishes_few _ _ Gone _ c.in-Gone.ensures.finished
+
+pub returns-in-Ok-clause-few : goal.returns-in-Ok-clause-few
+returns-in-Ok-clause-few c = let (slot, on_top, finishes) = c.in-Reserved.ensures.finished in
+    finishes_few _ _ _ _ finishes
+
+pub returns-in-Refused-clause-few : goal.returns-in-Refused-clause-few
+returns-in-Refused-clause-few c = finishes_few _ _ _ _ c.in-Refused.ensures.finished

@@ -11,6 +11,7 @@ use Rattle.ring_shared.specs.Calls.{IsWriter}
 use Rattle.ring_shared.proofs.Privately.{seen_call}
 use Rattle.ring_shared.proofs.NoFrame.{refuses_step, none_in_part}
 use Rattle.ring_shared.proofs.Rooms.{going_rooms, reserved_rooms, gone_rooms, refused_rooms, no_rooms}
+use Rattle.ring_shared.proofs.CallSteps.{one_step}
 use Rattle.ring_shared.proofs.writer.Writer.step.Goals as goal
 
 pub returns-in-Idle-clause-slots : goal.returns-in-Idle-clause-slots
@@ -21,6 +22,9 @@ returns-in-Idle-clause-slots c = record {
   gone = λ gone. gone_rooms _ _ c.reserve.result _ c.reserve.ensures.makes.call gone;
   refused = λ fault refused. refused_rooms _ _ c.reserve.result _ c.reserve.ensures.makes.call fault refused;
 }
+
+pub returns-in-Idle-clause-few : goal.returns-in-Idle-clause-few
+returns-in-Idle-clause-few c = one_step _ _ _ _ _ c.reserve.ensures.makes.call
 
 pub returns-in-Idle-clause-going : goal.returns-in-Idle-clause-going
 returns-in-Idle-clause-going c = λ going. going_rooms _ _ c.reserve.result _ c.reserve.ensures.makes.call going
@@ -39,6 +43,9 @@ returns-in-Wishing-clause-slots c = record {
       refused_rooms _ _ (as_answer c.load_wish.result) _ c.load_wish.ensures.makes.call fault
       (sym c.answer.ensures ∙ refused);
 }
+
+pub returns-in-Wishing-clause-few : goal.returns-in-Wishing-clause-few
+returns-in-Wishing-clause-few c = one_step _ _ _ _ _ c.load_wish.ensures.makes.call
 
 pub returns-in-Wishing-clause-going : goal.returns-in-Wishing-clause-going
 returns-in-Wishing-clause-going c =
@@ -60,6 +67,9 @@ returns-in_default-clause-slots c = record {
       refused_rooms _ _ (as_answer c.word_step.result) _ c.word_step.ensures.makes.call fault
       (sym c.answer-in_default.ensures ∙ refused);
 }
+
+pub returns-in_default-clause-few : goal.returns-in_default-clause-few
+returns-in_default-clause-few c = one_step _ _ _ _ _ c.word_step.ensures.makes.call
 
 pub returns-in_default-clause-going : goal.returns-in_default-clause-going
 returns-in_default-clause-going c =
@@ -84,6 +94,10 @@ returns-then-is_empty-clause-makes c =
     seen_call _ _ (λ _. steps) (Refused NoFrame) _ c.self.view_is c.requires.writer c.note_step.ensures.same.shape
     c.note_step.ensures.same.table c.note_step.ensures.noted refl
     (refuses_step c.self.inside.frames (c.is_empty.ensures.0 c.if-is_empty.true))
+
+pub returns-then-is_empty-clause-few : goal.returns-then-is_empty-clause-few
+unfolding IsWriter
+returns-then-is_empty-clause-few c = one_step _ _ _ _ _ (returns-then-is_empty-clause-makes c).call
 
 pub returns-then-is_empty-clause-writer : goal.returns-then-is_empty-clause-writer
 returns-then-is_empty-clause-writer c = (returns-then-is_empty-clause-makes c).writer
