@@ -792,7 +792,9 @@ static inline int32_t tracering_settle(struct tracering_writer *w, struct tracer
 }
 
 // Each frees its end; the ring's memory is released with the second. The handle is all zeros afterwards, a writer's
-// counts of refused records included.
+// counts of refused records included. Whatever is begun or unread then, each record that was complete when last nothing
+// was begun is on a page that was taken, is counted as missed before one, was overwritten since, or is unread in the
+// ring.
 // writer_free: if no frame is begun, the page that is written is closed first, as begin_close and finish do, so that
 // the reader can take all records. (In a full ring that overwrites the oldest page, whose records the reader finds
 // counted as missed.) `lost`, which may be null, is set to how many records are lost: those that are written or
