@@ -25,13 +25,13 @@ impl RingName for Brand {
     ghost use Rattle.std.specs.Prelude.{[]};
 
     ghost table = { record {
-        words = 0;
-        slots = 0;
-        views_name = 0;
-        atom = 0;
-        block = 0;
-        offset = 0;
-        slot_names = [];
+      words = 0;
+      slots = 0;
+      views_name = 0;
+      atom = 0;
+      block = 0;
+      offset = 0;
+      slot_names = [];
     } };
 }
 
