@@ -13,7 +13,7 @@ use Rattle.ring_model.proofs.histories.WindowRuns.{history_events-append, run-ap
 use Rattle.text_model.specs.Script.{Command, begin_frame, step_frame, finish_frame, write, close, step_reader}
 use Rattle.text_model.specs.Script.{take_page, wish, deliver, Script}
 use Rattle.line_model.specs.Due.{window_at, situation_after, IsDue}
-use Rattle.line_model.specs.Accounts.{CpuState, IsIdle, Begins, refuses_frame, pushes_frame, stays_on, is_gone}
+use Rattle.line_model.specs.Accounts.{CpuState, IsIdle, Begins, refuses_frame, pushes_frame}
 use Rattle.line_model.specs.Accounts.{StepsTop, lacks_to_step, steps_on, FinishesTop, lacks_to_finish, finishes_it}
 use Rattle.line_model.specs.Accounts.{WritesWhole, refuses_whole, writes_it, TakesPage, TakeSteps, finds_head, finds_none}
 use Rattle.line_model.specs.Accounts.{finds_one, takes_one, ReadsOn, goes_on, may_take, may_wait, Asks, Adds, IsAccount}
@@ -148,9 +148,7 @@ steps_add : (script : Script) (count : ℕ) (before after : CpuState) (own : Lis
     → StepsTop script count before own after
     → IsBehind before own after
 steps_add script count before after own (lacks_to_step none idle) = idle_adds before after own idle
-steps_add script count before after own (steps_on top next below is few first does (stays_on there after_is)) =
-    ap (λ (s : CpuState). s.events) after_is
-steps_add script count before after own (steps_on top next below is few first does (is_gone gone after_is)) =
+steps_add script count before after own (steps_on made top next below is most all steps after_is) =
     ap (λ (s : CpuState). s.events) after_is
 
 finish_adds : (script : Script) (before after : CpuState) (own : List RingEvent)

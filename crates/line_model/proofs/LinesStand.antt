@@ -1,5 +1,5 @@
 -- Each line of a script, from a ring that stands beside an account: a line of the account, and it stands again.
-use Rattle.std.proofs.Common.{◌≡◌, ◌≢◌, ℕ, List, [], refl, inl, inr, arith}
+use Rattle.std.proofs.Common.{◌≡◌, ◌≢◌, ℕ, List, [], refl, inl, inr}
 use Rattle.std.specs.Prelude.{⊤}
 use Rattle.trace_model.specs.Window.{RingEvent}
 use Rattle.trace_model.specs.Steps.{Exchange}
@@ -85,9 +85,8 @@ module _ (script : Script) (cpu : ℕ) (lane next : Lane) (state : CpuState)
       as_line (begin_frame at moment payload) (λ own after part. inl (on, part))
       (begins_stand script lane state stands moment payload x next p)
   line_stands (step_frame at count) on within run =
-      let least = within.1 in
       as_line (step_frame at count) (λ own after part. inl (on, part))
-      (steps_stand script lane state stands count next xs (omega (arith, least)) are run)
+      (steps_stand script lane state stands count next xs are run)
   line_stands (finish_frame at) on within run =
       as_line (finish_frame at) (λ own after part. inl (on, part))
       (finish_stands script lane state stands next xs are run)

@@ -59,20 +59,23 @@ onto_longer (suc k) n after =
     (sym (cond-false (n / 10 == 0) _ _ on)) (omega (arith, rest)))
     (cases_Bool (n / 10 == 0))
 
-decimal_digits : (n : ℕ) → are_digits (decimal n) ≡ true
-unfolding digits
-decimal_digits n = onto_digits 64 n [] refl
-
-some_digits : (n : ℕ) → 0 < length (decimal n)
-unfolding digits
-some_digits n =
-    let rest = onto_longer 63 (n / 10) (digit_glyph false (n % 10) ∷ []) in
+onto_some : (k n : ℕ) → 0 < length (digits_onto (suc k) 10 false n [])
+onto_some k n =
+    let rest = onto_longer k (n / 10) (digit_glyph false (n % 10) ∷ []) in
     ⊎_elim
     (λ (last : (n / 10 == 0) ≡ true). subst (λ (text : List ℕ). 0 < length text)
     (sym (cond-true (n / 10 == 0) _ _ last)) (omega arith))
     (λ (on : (n / 10 == 0) ≡ false). subst (λ (text : List ℕ). 0 < length text)
     (sym (cond-false (n / 10 == 0) _ _ on)) (omega (arith, rest)))
     (cases_Bool (n / 10 == 0))
+
+decimal_digits : (n : ℕ) → are_digits (decimal n) ≡ true
+unfolding digits
+decimal_digits n = onto_digits 64 n [] refl
+
+some_digits : (n : ℕ) → 0 < length (decimal n)
+unfolding digits
+some_digits n = onto_some 63 n
 
 -- ---- no line feed
 

@@ -1,25 +1,38 @@
 -- The ring of a CPU in a replay, beside that CPU in an account: when the one is as the other says; and what is to be
 -- shown of the frame on top.
-use Rattle.std.proofs.Common.{◌≡◌, ◌≢◌, ℕ, ◌<◌, ◌≤◌, ◌⊎◌, true, false, List, [], ◌∷◌, ◌++◌, length, Some, None}
+use Rattle.std.proofs.Common.{◌≡◌, ◌≢◌, ℕ, ◌<◌, ◌⊎◌, true, false, List, [], ◌∷◌, ◌++◌, length, Some, None}
 use Rattle.std.specs.Prelude.{⊤}
-use Rattle.trace_model.specs.Window.{RingEvent, acts, history_events_of}
-use Rattle.trace_model.specs.History.{reserve}
-use Rattle.trace_model.specs.Frames.{for_close, waiting, left, idle, noted_fill, owned_update, Frame}
+use Rattle.trace_model.specs.Window.{RingEvent}
+use Rattle.trace_model.specs.Frames.{for_close, waiting, left, Phase, idle, looking, claiming, looking_next, marking}
+use Rattle.trace_model.specs.Frames.{clearing, opening, releasing, wishing, noted_fill, owned_update, Frame}
 use Rattle.trace_model.specs.Ring.{ReaderPhase, loading_head, loading_done, storing_spare_link, swapping, Core}
 use Rattle.trace_model.specs.Steps.{Exchange}
 use Rattle.text_model.specs.Script.{Script}
 use Rattle.ring_model.specs.RunsAsEvents.{AreEventsOfRun}
 use Rattle.ring_model.specs.Reached.{IsReached}
 use Rattle.world_model.specs.Lanes.{Lane, HasPayloads, FrameRun}
-use Rattle.line_model.specs.Due.{situation_after, IsFillNeeded, IsDue}
-use Rattle.line_model.specs.Accounts.{LineFrame, CpuState, IsThere, Does, HasGone, with_own}
+use Rattle.line_model.specs.Due.{situation_after, window_at, IsDue}
+use Rattle.line_model.specs.Accounts.{Stage, resting, searching, closing_fills, asking, off, LineFrame, CpuState, IsThere}
+use Rattle.line_model.specs.Accounts.{IsOwn, Does, HasGone, with_own, MayDo, MayPass, stepped, Steps}
 use Rattle.line_model.specs.CallEvents.{IsRecordOnTop}
+
+-- the stage of a frame in this phase
+abbrev pub stage_of : Phase → Stage
+stage_of idle = resting
+stage_of (looking o) = searching
+stage_of (claiming o page) = searching
+stage_of (looking_next role o page) = searching
+stage_of (marking role o page next) = searching
+stage_of (clearing o page) = searching
+stage_of (opening o page) = searching
+stage_of releasing = closing_fills
+stage_of wishing = asking
 
 -- A frame of the ring, with its payload, beside that of an account, with these below it.
 pub record FrameStands (frame : Frame) (payload : List ℕ) (below : List LineFrame) (line : LineFrame) : Type 0 where
   pub unwritten : frame.state ≢ left → line.payload ≡ Some payload
   pub has_left : frame.state ≡ left → (line.payload ≡ None) × (below ≡ [])
-  pub fresh : line.stepped ≡ false → (frame.state ≡ waiting) × (frame.phase ≡ idle)
+  pub stage : line.stage ≡ stage_of frame.phase
   pub moving : (o : ℕ) → owned_update frame.phase ≡ Some o → line.losing ≡ true
 
 -- the stacks, frame by frame
@@ -71,14 +84,30 @@ AreDue script asked before own = (front rest : List RingEvent) (event : RingEven
     → own ≡ front ++ event ∷ rest
     → IsDue (situation_after script asked (before ++ front)) event
 
+-- What a frame does in one step beside an account, after these events: nothing, or one event.
+abbrev pub OneStep : Script → (asked : ℕ) → (below : List LineFrame) → (before : List RingEvent) → LineFrame
+    → (own : List RingEvent) → LineFrame → Type 0
+OneStep script asked below before frame own next =
+    ((own ≡ [])
+    × (stage : Stage)
+    × MayPass (situation_after script asked before) below frame.payload frame.stage stage
+    × (record frame { stage = stage } ≡ next))
+    ⊎ ((event : RingEvent)
+    × (own ≡ event ∷ [])
+    × IsOwn below frame event
+    × MayDo (situation_after script asked before) frame.stage event
+    × (stepped (window_at script.start (before ++ event ∷ [])) below frame event ≡ next))
+
 -- The frame on top is still there, or has gone.
 abbrev pub StaysOrGoes : Script → (before : Lane) → CpuState → (own : List RingEvent) → LineFrame → List LineFrame
     → (after : Lane) → Type 0
 StaysOrGoes script before state own next below after =
     (IsThere below next
+    × (next.stage ≢ off)
     × (length after.core.frames ≡ length before.core.frames)
     × Stands script after (with_own state own (next ∷ below)))
     ⊎ (HasGone (situation_after script state.wish (state.events ++ own)) below next
+    × (next.stage ≡ off)
     × (length after.core.frames < length before.core.frames)
     × Stands script after (with_own state own below))
 
@@ -88,14 +117,10 @@ pub record TopDoes (script : Script) (before : Lane) (state : CpuState) (top : L
     : Type 0 where
   pub own : List RingEvent
   pub next : LineFrame
-  pub does : Does below (record top { stepped = true }) own next
+  pub does : Does below top own (record next { stage = top.stage })
   pub due : AreDue script state.wish state.events own
-  pub few : IsRecordOnTop before.core.frames → length (history_events_of own) ≤ length exchanges
-  pub first : IsRecordOnTop before.core.frames
-      → exchanges ≢ []
-      → top.stepped ≡ false
-      → (IsFillNeeded (situation_after script state.wish state.events) → ⊥)
-      → (rest : List RingEvent) × (own ≡ acts reserve ∷ rest)
+  pub steps : IsRecordOnTop before.core.frames
+      → Steps script state.wish below (length exchanges) state.events top own next
   pub ends : StaysOrGoes script before state own next below after
 
 -- to be shown: it does this, in every run of the frame on top

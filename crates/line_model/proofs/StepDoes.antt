@@ -1,50 +1,97 @@
 -- What the frame on top does in one step, beside an account: what is to be shown, and of which steps.
-use Rattle.std.proofs.Common.{◌≡◌, ◌≢◌, ℕ, suc, ◌+◌, ◌-◌, ◌≤◌, Bool, true, false, List, [], ◌∷◌, length, drop}
+use Rattle.std.proofs.Common.{◌≡◌, ◌≢◌, ℕ, suc, ◌+◌, ◌-◌, Bool, true, false, List, [], ◌∷◌, length, drop, sym, ◌∙◌, subst}
 use Rattle.std.proofs.Common.{Option, Some, None, refl, ap, ⊎_elim, arith}
 use Rattle.std.specs.Prelude.{if◌then◌else◌, ◌==◌}
 use Rattle.trace_model.specs.History.{push, push_close, open_fill, reserve, leave, wished}
-use Rattle.trace_model.specs.Window.{RingEvent, acts, closes, takes, loses, history_events_of}
-use Rattle.trace_model.specs.Frames.{waiting, idle, releasing, wishing, noted_fill, owned_update, Frame}
-use Rattle.trace_model.specs.Ring.{Core}
+use Rattle.trace_model.specs.Window.{Window, RingEvent, acts, closes, takes, loses}
+use Rattle.trace_model.specs.Frames.{Phase, idle, looking, claiming, looking_next, marking, clearing, opening}
+use Rattle.trace_model.specs.Frames.{releasing, wishing, noted_fill, owned_update, Frame}
+use Rattle.trace_model.specs.Ring.{Core, window_of}
 use Rattle.trace_model.specs.Steps.{Event, Answer, Step, closing_phase}
 use Rattle.text_model.specs.Script.{Script}
 use Rattle.ring_model.specs.Seats.{IsOfReader}
 use Rattle.world_model.specs.Lanes.{Lane, lane_behind, payloads_left}
 use Rattle.world_model.proofs.FramesMove.{PushesNone}
 use Rattle.line_model.specs.CallEvents.{IsRecordOnTop}
-use Rattle.line_model.specs.Due.{situation_after, IsFillNeeded}
-use Rattle.line_model.specs.Accounts.{LineFrame, CpuState, IsOwn, Does}
-use Rattle.line_model.proofs.Standing.{FrameStands, FramesStand, Stands, IsFresh, StaysOrGoes}
+use Rattle.line_model.specs.Due.{Situation}
+use Rattle.line_model.specs.Accounts.{Stage, resting, closing_fills, asking, off, at_rest, LineFrame, CpuState, IsOwn}
+use Rattle.line_model.specs.Accounts.{frame_after, Does, HasGone}
+use Rattle.line_model.proofs.Standing.{FrameStands, FramesStand, stage_of, Stands, IsFresh, OneStep, StaysOrGoes}
 use Rattle.line_model.proofs.DueRuns.{DueFrom}
 
--- a frame of an account that has made a step
-abbrev pub line : Option (List ℕ) → Bool → LineFrame
-line payload losing = record { payload = payload; stepped = true; losing = losing }
+-- a frame of an account
+abbrev pub line : Option (List ℕ) → Bool → Stage → LineFrame
+line payload losing stage = record { payload = payload; stage = stage; losing = losing }
 
--- the frame on top has made no step
-abbrev pub IsNew : List Frame → Type 0
-IsNew [] = ⊥
-IsNew (frame ∷ below) = (frame.state ≡ waiting) × (frame.phase ≡ idle)
+-- ---- what a frame does, in whatever stage
+
+module _ (below : List LineFrame) where
+  abbrev with_stage : Stage → LineFrame → LineFrame
+  with_stage made frame = record frame { stage = made }
+
+  own_with : (made other : Stage) (frame : LineFrame) (event : RingEvent)
+      → IsOwn below (with_stage made frame) event
+      → IsOwn below (with_stage other frame) event
+  own_with made other frame (acts (push moment len)) own = own
+  own_with made other frame (acts push_close) own = own
+  own_with made other frame (acts open_fill) own = own
+  own_with made other frame (acts reserve) own = own
+  own_with made other frame (acts (leave None)) own = own
+  own_with made other frame (acts (leave (Some bytes))) own = own
+  own_with made other frame (acts wished) own = own
+  own_with made other frame closes own = own
+  own_with made other frame takes own = own
+  own_with made other frame loses own = own
+
+  after_with : (made : Stage) (frame : LineFrame) (event : RingEvent)
+      → frame_after (with_stage made frame) event ≡ with_stage made (frame_after frame event)
+  after_with made frame (acts (push moment len)) = refl
+  after_with made frame (acts push_close) = refl
+  after_with made frame (acts open_fill) = refl
+  after_with made frame (acts reserve) = refl
+  after_with made frame (acts (leave payload)) = refl
+  after_with made frame (acts wished) = refl
+  after_with made frame closes = refl
+  after_with made frame takes = refl
+  after_with made frame loses = refl
+
+  pub does_with : (made other : Stage) (own : List RingEvent) (frame next : LineFrame)
+      → Does below (with_stage made frame) own next
+      → Does below (with_stage other frame) own (with_stage other next)
+  does_with made other [] frame next same = ap (with_stage other) same
+  does_with made other (event ∷ own) frame next does = (
+    own_with made other frame event does.0,
+    subst (λ (f : LineFrame). Does below f own (with_stage other next)) (sym (after_with other frame event))
+        (does_with made other own (frame_after frame event) next
+        (subst (λ (f : LineFrame). Does below f own next) (after_with made frame event) does.1)),
+  )
+
+  pub gone_with : (other : Stage) (s : Situation) (frame : LineFrame)
+      → HasGone s below frame
+      → HasGone s below (with_stage other frame)
+  gone_with other s frame gone =
+      (gone.0, λ event own due. gone.1 event (own_with other frame.stage frame event own) due)
+
+-- ---- one step
 
 -- What the frame on top does in one step.
 pub record StepDoes (script : Script) (before : Lane) (state : CpuState) (payload : Option (List ℕ)) (losing : Bool)
-    (below : List LineFrame) (after : Lane)
+    (stage : Stage) (below : List LineFrame) (after : Lane)
     : Type 0 where
   pub own : List RingEvent
   pub payload_after : Option (List ℕ)
   pub losing_after : Bool
-  pub does : Does below (line payload losing) own (line payload_after losing_after)
+  pub stage_after : Stage
+  pub does : Does below (line payload losing stage) own (line payload_after losing_after stage)
   pub due : DueFrom script state.wish state.events own
-  pub few : IsRecordOnTop before.core.frames → length (history_events_of own) ≤ 1
-  pub first : IsRecordOnTop before.core.frames
-      → IsNew before.core.frames
-      → (IsFillNeeded (situation_after script state.wish state.events) → ⊥)
-      → own ≡ acts reserve ∷ []
+  pub step : IsRecordOnTop before.core.frames
+      → OneStep script state.wish below state.events (line payload losing stage) own
+      (line payload_after losing_after stage_after)
   pub fresh : length after.core.frames ≡ length before.core.frames → IsFresh after.core
   pub record_kept : length after.core.frames ≡ length before.core.frames
       → IsRecordOnTop before.core.frames
       → IsRecordOnTop after.core.frames
-  pub ends : StaysOrGoes script before state own (line payload_after losing_after) below after
+  pub ends : StaysOrGoes script before state own (line payload_after losing_after stage_after) below after
 
 -- One step of the frame on top: the ring before it and after it, beside the account before it.
 pub record TopStep : Type 0 where
@@ -54,6 +101,7 @@ pub record TopStep : Type 0 where
   -- what the account has of the frame and of those below it
   pub told : Option (List ℕ)
   pub losing : Bool
+  pub stage : Stage
   pub below : List LineFrame
   -- what the ring has of them
   pub frame : Frame
@@ -63,10 +111,10 @@ pub record TopStep : Type 0 where
   pub event : Event
   pub answer : Answer
   pub after : Core
-  pub stands : Stands script before (record state { frames = line told losing ∷ below })
+  pub stands : Stands script before (record state { frames = line told losing stage ∷ below })
   pub top : before.core.frames ≡ frame ∷ under
   pub paid : before.payloads ≡ payload ∷ payloads
-  pub one : FrameStands frame payload below (line told losing)
+  pub one : FrameStands frame payload below (line told losing stage)
   pub others : FramesStand under payloads below
   pub fresh : IsFresh before.core
   pub none : PushesNone event
@@ -75,7 +123,7 @@ pub record TopStep : Type 0 where
 
 -- what it does
 abbrev pub Made : TopStep → Type 0
-Made t = StepDoes t.script t.before t.state t.told t.losing t.below (lane_behind t.before t.after)
+Made t = StepDoes t.script t.before t.state t.told t.losing t.stage t.below (lane_behind t.before t.after)
 
 -- ---- the stacks
 
@@ -120,20 +168,20 @@ first_frame other [] = other
 first_frame other (frame ∷ frames) = frame
 
 -- a nested frame that has left does nothing more
-pub none_own : (below : List LineFrame) (losing : Bool) (event : RingEvent)
+pub none_own : (below : List LineFrame) (losing : Bool) (stage : Stage) (event : RingEvent)
     → below ≢ []
-    → IsOwn below (line None losing) event
+    → IsOwn below (line None losing stage) event
     → ⊥
-none_own below losing (acts (push moment len)) some own = own
-none_own below losing (acts push_close) some own = own
-none_own below losing (acts open_fill) some own = ⊎_elim (λ not. not refl) some own
-none_own below losing (acts reserve) some own = own refl
-none_own below losing (acts (leave None)) some own = own refl
-none_own below losing (acts (leave (Some bytes))) some (other, is, more) = let both : None ≡ Some other = is in cc
-none_own below losing (acts wished) some own = some own.1
-none_own below losing closes some own = some own.1
-none_own below losing takes some own = own
-none_own below losing loses some own = ⊎_elim (λ not. not refl) some own
+none_own below losing stage (acts (push moment len)) some own = own
+none_own below losing stage (acts push_close) some own = own
+none_own below losing stage (acts open_fill) some own = ⊎_elim (λ not. not refl) some own
+none_own below losing stage (acts reserve) some own = own refl
+none_own below losing stage (acts (leave None)) some own = own refl
+none_own below losing stage (acts (leave (Some bytes))) some (other, is, more) = let both : None ≡ Some other = is in cc
+none_own below losing stage (acts wished) some own = some own.1
+none_own below losing stage closes some own = some own.1
+none_own below losing stage takes some own = own
+none_own below losing stage loses some own = ⊎_elim (λ not. not refl) some own
 
 -- a closing frame has noted no fill
 pub closing_notes : (c : Core) (o : ℕ) → noted_fill (closing_phase c) ≡ Some o → ⊥
@@ -149,3 +197,41 @@ closing_owns c o = by_test ((c.done + 1) == c.opened)
     by_test : (b : Bool) → owned_update (if b then wishing else releasing) ≡ Some o → ⊥
     by_test true e = cc
     by_test false e = cc
+
+-- a closing frame is at rest
+pub closing_is : (c : Core) (w : Window) → w ≡ window_of c → stage_of (closing_phase c) ≡ at_rest w [] None
+closing_is c w same = by_test ((c.done + 1) == c.opened)
+    ∙ sym (ap (λ (v : Window). at_rest v [] None) same)
+  where
+    by_test : (b : Bool) → stage_of (if b then wishing else releasing) ≡ (if b then asking else closing_fills)
+    by_test true = refl
+    by_test false = refl
+
+-- and a nested frame that has left is off
+pub off_nested : (w : Window) (below : List LineFrame) → below ≢ [] → off ≡ at_rest w below None
+off_nested w [] some = absurd (some refl)
+off_nested w (frame ∷ below) some = refl
+
+-- a frame of a ring is on the stack
+pub never_off : (phase : Phase) → stage_of phase ≢ off
+never_off idle e = cc
+never_off (looking o) e = cc
+never_off (claiming o page) e = cc
+never_off (looking_next role o page) e = cc
+never_off (marking role o page next) e = cc
+never_off (clearing o page) e = cc
+never_off (opening o page) e = cc
+never_off releasing e = cc
+never_off wishing e = cc
+
+-- and if it rests, it is idle
+pub idle_of : (phase : Phase) → stage_of phase ≡ resting → phase ≡ idle
+idle_of idle e = refl
+idle_of (looking o) e = absurd (cc)
+idle_of (claiming o page) e = absurd (cc)
+idle_of (looking_next role o page) e = absurd (cc)
+idle_of (marking role o page next) e = absurd (cc)
+idle_of (clearing o page) e = absurd (cc)
+idle_of (opening o page) e = absurd (cc)
+idle_of releasing e = absurd (cc)
+idle_of wishing e = absurd (cc)

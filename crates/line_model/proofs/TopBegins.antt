@@ -1,6 +1,6 @@
 -- One step of the frame on top, beside an account, if it begins a fill, or if it is at its first step.
-use Rattle.std.proofs.Common.{◌≡◌, ℕ, ◌+◌, ◌<◌, ◌≤◌, ◌⊎◌, true, false, List, [], ◌∷◌, ◌++◌, length, Some, None}
-use Rattle.std.proofs.Common.{refl, sym, ap, ◌∙◌, subst, inl, inr, arith, append_assoc}
+use Rattle.std.proofs.Common.{◌≡◌, ℕ, ◌+◌, ◌<◌, ◌≤◌, ◌⊎◌, false, List, [], ◌∷◌, ◌++◌, length, Some, None}
+use Rattle.std.proofs.Common.{refl, sym, ap, ◌∙◌, subst, inl, inr, ⊎_elim, arith, append_assoc}
 use Rattle.trace_model.specs.declared.limits.TheConstants.{LINK_FILLS}
 use Rattle.trace_model.specs.History.{open_fill, reserve, leave, Reservation, PushedFrame, close_frame}
 use Rattle.trace_model.specs.History.{reserved_records, reservation_for}
@@ -15,12 +15,15 @@ use Rattle.trace_model.proofs.steps.StepCases.{IdleStep, reserves, finds_nothing
 use Rattle.ring_model.specs.KeptLinks.{PhaseKept}
 use Rattle.ring_model.proofs.links.FrameChanges.{top_kept}
 use Rattle.ring_model.proofs.seats.FrameEnds.{opened_tail}
-use Rattle.line_model.specs.Due.{Situation, situation_after, IsFillNeededFor, IsFillNeeded, HasNoRecord, Leaves, IsDue}
+use Rattle.line_model.specs.Due.{Situation, situation_after, pushed_in, IsFillNeededFor, IsFillNeeded, HasNoRecord}
+use Rattle.line_model.specs.Due.{Leaves, IsDue}
+use Rattle.line_model.specs.Accounts.{resting, searching, LineFrame, at_rest}
+use Rattle.line_model.proofs.Standing.{stage_of}
 use Rattle.line_model.proofs.DueRuns.{situation_of, situation_moved, situation_next}
-use Rattle.line_model.proofs.StepDoes.{TopStep, Made, closing_notes, closing_owns}
+use Rattle.line_model.proofs.StepDoes.{TopStep, Made, closing_notes, closing_owns, closing_is}
 use Rattle.line_model.proofs.TopStays.{kept, sit, needed, can_have, stack_of_kind, needs_there, leave_due, due_one}
-use Rattle.line_model.proofs.TopStays.{events_are, stays_with}
-use Rattle.line_model.proofs.TopMoves.{held, not_left, there, later, in_need, stand_in, goes, leaves_with, leaves_none}
+use Rattle.line_model.proofs.TopStays.{events_are, passes, makes, stays_with}
+use Rattle.line_model.proofs.TopMoves.{held, not_left, there, stand_in, goes, leaves_with, leaves_none}
 
 module _ (t : TopStep) where
   abbrev c : Core
@@ -57,13 +60,14 @@ module _ (t : TopStep) where
           → window_of next ≡ window_after (window_of c) (acts open_fill)
           → ((o : ℕ) → noted_fill to ≡ Some o → ⊥)
           → ((o : ℕ) → owned_update to ≡ Some o → ⊥)
+          → stage_of to ≡ at_rest (window_of t.after) t.below t.told
           → Made t
-      goes_to to next is frames h w unnoted unowned =
+      goes_to to next is frames h w unnoted unowned rests =
           stays_with t (acts open_fill ∷ []) t.told false (record t.frame { phase = to })
           (events_are t (acts open_fill ∷ []) refl (ap (λ (d : Core). d.history) is ∙ h)
           (room, sym (ap window_of is ∙ w)))
           (there t, refl) (due_one t (acts open_fill) due)
-          (later t (acts open_fill ∷ []) (opening noted page) at (λ e. cc) (λ k. omega arith))
+          (makes t (opening noted page) (acts open_fill) t.told (stage_of to) at (inl refl) rests)
           (ap (λ (d : Core). d.frames) is ∙ frames) refl
           (stand_in t to false (λ o e. absurd (unowned o e))) (there t) (λ closing waits o e. absurd (unnoted o e))
 
@@ -75,6 +79,7 @@ module _ (t : TopStep) where
           → Made t
       by_kind (for_record moment len) waiting k w which is =
           goes_to idle _ is refl refl refl (λ o e. cc) (λ o e. cc)
+          (sym (ap (at_rest (window_of t.after) t.below) (t.one.unwritten (not_left t waiting (λ e. cc) w))))
       by_kind for_close waiting k w which is =
           leaves_with t (acts open_fill ∷ acts (leave None) ∷ []) (with_new_tail c page)
           (events_are t (acts open_fill ∷ acts (leave None) ∷ []) refl
@@ -82,7 +87,7 @@ module _ (t : TopStep) where
           (room, (tt, sym (ap window_of is))))
           (there t, (held t (not_left t waiting (λ e. cc) w), refl))
           (subst (λ (x : Situation). IsDue x (acts open_fill)) (sym (sit t)) due, (second, tt))
-          (later t (acts open_fill ∷ acts (leave None) ∷ []) (opening noted page) at (λ e. cc) (λ not. absurd (not k)))
+          (λ to to_is not. absurd (not k)) (ap window_of is)
           (ap (λ (d : Core). d.frames) is)
         where
           afterwards : IsDue (situation_moved s (acts open_fill)) (acts (leave None))
@@ -103,12 +108,17 @@ module _ (t : TopStep) where
       by_kind kind left k w which is =
           goes_to (closing_phase (with_new_tail c page)) _ is refl refl refl (closing_notes (with_new_tail c page))
           (closing_owns (with_new_tail c page))
+          (let (told, bottom) = t.one.has_left w in
+          closing_is (with_new_tail c page) (window_of t.after) (ap window_of is)
+          ∙ sym (ap (λ (lines : List LineFrame). at_rest (window_of t.after) lines None) bottom)
+          ∙ sym (ap (at_rest (window_of t.after) t.below) told))
 
   -- ---- a frame at its first step, or after a fill that another frame began
 
   reserves_one : (moment len : ℕ) (r : Reservation) (next : Core) (number : ℕ)
       → t.frame.kind ≡ for_record moment len
       → t.frame.state ≡ waiting
+      → t.frame.phase ≡ idle
       → r ≡ reservation_for moment len (reserved_records c.history)
       → fill_len (tail_of c.history ++ r ∷ []) ≤ t.script.size
       → t.after ≡ next
@@ -116,25 +126,30 @@ module _ (t : TopStep) where
       → next.history ≡ c.history ++ reserve ∷ []
       → window_of next ≡ window_of c
       → Made t
-  reserves_one moment len r next number k w r_is fits is frames h win =
+  reserves_one moment len r next number k w at r_is fits is frames h win =
       stays_with t (acts reserve ∷ []) t.told false (record t.frame { state = reserved number; phase = idle })
       (events_are t (acts reserve ∷ []) refl (ap (λ (d : Core). d.history) is ∙ h) (tt, sym (ap window_of is ∙ win)))
       (held t (not_left t waiting (λ e. cc) w), refl)
-      (due_one t (acts reserve) (subst (λ (st : List PushedFrame). HasNoRecord st × (IsFillNeededFor s st → ⊥))
-      (sym (stack_of_kind t (for_record moment len) k w)) (
-        tt,
-        λ needs.
-            let low = subst (λ (x : Reservation). fill_len (tail_of c.history ++ x ∷ []) ≤ t.script.size) r_is fits in
-            omega (arith, low, needs),
-      )))
-      ((λ not. omega arith), (λ not waits rests free. refl))
+      (due_one t (acts reserve) due)
+      (makes t idle (acts reserve) t.told resting at (λ needs. absurd (due.1 needs))
+      (sym (ap (at_rest (window_of t.after) t.below) (t.one.unwritten (not_left t waiting (λ e. cc) w)))))
       (ap (λ (d : Core). d.frames) is ∙ frames) refl
       record {
         unwritten = λ not. t.one.unwritten (not_left t waiting (λ e. cc) w);
         has_left = λ e. absurd (let no : ⊥ = cc in no);
-        fresh = λ e. absurd (let both : true ≡ false = e in let no : ⊥ = cc in no);
+        stage = refl;
         moving = λ o e. absurd (let no : ⊥ = cc in no);
       } (inl (held t (not_left t waiting (λ e. cc) w))) (λ closing waits o e. absurd (let no : ⊥ = cc in no))
+    where
+      due : HasNoRecord (pushed_in s) × (IsFillNeeded s → ⊥)
+      due = subst (λ (st : List PushedFrame). HasNoRecord st × (IsFillNeededFor s st → ⊥))
+          (sym (stack_of_kind t (for_record moment len) k w)) (
+            tt,
+            λ needs.
+                let low =
+                subst (λ (x : Reservation). fill_len (tail_of c.history ++ x ∷ []) ≤ t.script.size) r_is fits in
+                omega (arith, low, needs),
+          )
 
   pub idle_does : (st : Progress)
       → t.frame.state ≡ st
@@ -143,22 +158,27 @@ module _ (t : TopStep) where
       → IdleStep t.script.pages t.script.size c t.frame t.under st t.answer t.after
       → Made t
   idle_does waiting w active at (reserves moment len r k r_is fits a is) =
-      reserves_one moment len r _ (length (reserved_records c.history)) k w r_is fits is refl refl refl
+      reserves_one moment len r _ (length (reserved_records c.history)) k w at r_is fits is refl refl refl
   idle_does waiting w active at (finds_nothing k bare a is) =
-      leaves_none t for_close _ k w ((λ not. absurd (not k)), (λ not. absurd (not k)))
+      leaves_none t for_close _ k w (λ to to_is not. absurd (not k))
       (subst (λ (st : List PushedFrame). Leaves s st None) (sym (stack_of_kind t for_close k w))
       (λ needs. absurd (subst (IsFillNeededFor s) (stack_of_kind t for_close k w) needs bare)))
       is refl refl refl
   idle_does waiting w active at (is_crowded needs full a is) =
       let here = needs_there t t.frame.kind refl w needs in
-      leaves_none t t.frame.kind _ refl w (in_need t (acts (leave None) ∷ []) here (λ k. omega arith))
+      leaves_none t t.frame.kind _ refl w (λ to. makes t idle (acts (leave None)) None to at (λ need. inl full))
       (leave_due t t.frame.kind refl w here (inl full)) is refl refl refl
   idle_does waiting w active at (is_worn needs room last a is) =
       let here = needs_there t t.frame.kind refl w needs in
-      leaves_none t t.frame.kind _ refl w (in_need t (acts (leave None) ∷ []) here (λ k. omega arith))
+      leaves_none t t.frame.kind _ refl w (λ to. makes t idle (acts (leave None)) None to at (λ need. inr last))
       (leave_due t t.frame.kind refl w here (inr last)) is refl refl refl
   idle_does waiting w active at (notes needs room small a is) =
-      goes t (looking c.opened) _ (in_need t [] (needs_there t t.frame.kind refl w needs) (λ k. omega arith)) is
+      goes t (looking c.opened) _
+      (passes t idle searching at (
+        refl,
+        needs_there t t.frame.kind refl w needs,
+        λ none. ⊎_elim (λ full. absurd (room full)) (λ last. (let no : ⊥ = omega (arith, small, last) in no)) none,
+      )) is
       refl refl refl (λ closing waits o e. cc) (λ o e. absurd (let no : ⊥ = cc in no))
   idle_does (reserved number) w (inl e) at it = absurd (let no : ⊥ = cc in no)
   idle_does (reserved number) w (inr e) at it = absurd (let no : ⊥ = cc in no)

@@ -1,17 +1,18 @@
 -- One step of the frame on top, beside an account: what is needed and due, and what stands after the step, if the frame
 -- is still there or has gone.
-use Rattle.std.proofs.Common.{◌≡◌, ◌≢◌, ℕ, suc, ◌+◌, ◌<◌, ◌≤◌, Bool, List, [], ◌∷◌, ◌++◌, length, Option, Some}
+use Rattle.std.proofs.Common.{◌≡◌, ◌≢◌, ℕ, suc, ◌+◌, ◌<◌, ◌≤◌, ◌⊎◌, Bool, List, [], ◌∷◌, ◌++◌, length, Option, Some}
 use Rattle.std.proofs.Common.{None, refl, sym, ap, ◌∙◌, subst, inl, inr, arith, append-nil}
 use Rattle.std.specs.List.{fold}
 use mathlib.Core.Logic.{dite}
 use native.Mathlib.Decide.{dec_le}
 use Rattle.trace_model.specs.declared.limits.TheConstants.{LINK_FILLS}
-use Rattle.trace_model.specs.History.{reserve, leave, Reservation, PushedFrame, writer_after, reserved_records}
+use Rattle.trace_model.specs.History.{leave, Reservation, PushedFrame, writer_after, reserved_records}
 use Rattle.trace_model.specs.History.{reservation_for}
 use Rattle.trace_model.specs.Packing.{opens_of, tail_of, fill_len, is_wished}
 use Rattle.trace_model.specs.Fitting.{NeedsFill}
-use Rattle.trace_model.specs.Window.{Window, RingEvent, acts, history_events_of, window_after, WindowRunFrom}
-use Rattle.trace_model.specs.Frames.{Purpose, for_record, for_close, Progress, waiting, reserved, left, idle}
+use Rattle.trace_model.specs.Window.{Window, first_window, RingEvent, acts, history_events_of, window_after}
+use Rattle.trace_model.specs.Window.{WindowRunFrom}
+use Rattle.trace_model.specs.Frames.{Purpose, for_record, for_close, Progress, waiting, reserved, left, Phase}
 use Rattle.trace_model.specs.Frames.{noted_fill, pushed_frame, pushed_onto, Frame, pushed_frames}
 use Rattle.trace_model.specs.Ring.{Reader, Core, window_of}
 use Rattle.trace_model.specs.Steps.{NeedsPage}
@@ -30,13 +31,15 @@ use Rattle.world_model.specs.RunEvents.{AreEventsOf}
 use Rattle.world_model.proofs.FramesMove.{step_moves}
 use Rattle.world_model.proofs.LanePayloads.{fit_moved}
 use Rattle.line_model.specs.CallEvents.{IsRecordOnTop}
-use Rattle.line_model.specs.Due.{Situation, situation_after, IsFillNeededFor, IsFillNeeded, HasNoFill, Leaves, IsDue}
-use Rattle.line_model.specs.Accounts.{LineFrame, IsThere, IsOwn, Does, with_own}
+use Rattle.line_model.specs.Due.{Situation, situation_after, window_at, IsFillNeededFor, IsFillNeeded, HasNoFill}
+use Rattle.line_model.specs.Due.{Leaves, IsDue}
+use Rattle.line_model.specs.Accounts.{Stage, off, LineFrame, IsThere, IsOwn, Does, with_own, stage_after, MayDo}
+use Rattle.line_model.specs.Accounts.{MayPass, stepped}
 use Rattle.line_model.proofs.AccountWindows.{run_leads}
-use Rattle.line_model.proofs.Standing.{FrameStands, FramesStand, steps_of, IsAtHead, Stands}
+use Rattle.line_model.proofs.Standing.{FrameStands, FramesStand, steps_of, stage_of, IsAtHead, Stands, OneStep}
 use Rattle.line_model.proofs.TakesCounted.{made_before, none_added}
 use Rattle.line_model.proofs.DueRuns.{situation_of, situation_is, run_on, DueFrom}
-use Rattle.line_model.proofs.StepDoes.{line, IsNew, TopStep, Made, stand_counted, kept_payloads, popped_payloads}
+use Rattle.line_model.proofs.StepDoes.{line, never_off, TopStep, Made, stand_counted, kept_payloads, popped_payloads}
 use Rattle.line_model.proofs.StepDoes.{first_frame}
 
 module _ (t : TopStep) where
@@ -175,38 +178,100 @@ module _ (t : TopStep) where
                 ∙ ap (λ (w : Window). w.head) window;
           }
 
-  -- at most one history event of a record frame, which is a reserve if it has made no step and needs no page
-  abbrev pub Brief : List RingEvent → Type 0
-  Brief own = (t.frame.kind ≢ for_close → length (history_events_of own) ≤ 1)
-      × (t.frame.kind ≢ for_close
-      → t.frame.state ≡ waiting
-      → t.frame.phase ≡ idle
-      → (IsFillNeeded s → ⊥)
-      → own ≡ acts reserve ∷ [])
+  -- the stage of a frame in this phase
+  pub at_stage : (phase : Phase) → t.frame.phase ≡ phase → t.stage ≡ stage_of phase
+  at_stage phase at = t.one.stage ∙ ap stage_of at
 
-  few_of : (own : List RingEvent) → Brief own → IsRecordOnTop c.frames → length (history_events_of own) ≤ 1
-  few_of own brief on_top = brief.0 (subst IsRecordOnTop t.top on_top)
+  -- What a record frame does in its step, to be in this stage with this payload: nothing, or one event.
+  abbrev pub Turns : List RingEvent → Option (List ℕ) → Stage → Type 0
+  Turns own q to =
+      ((own ≡ []) × MayPass s t.below t.told t.stage to)
+      ⊎ ((event : RingEvent)
+      × (own ≡ event ∷ [])
+      × MayDo s t.stage event
+      × (to ≡ stage_after (window_of t.after) t.below q event))
 
-  first_of : (own : List RingEvent)
-      → Brief own
+  abbrev pub Brief : List RingEvent → Option (List ℕ) → Stage → Type 0
+  Brief own q to = t.frame.kind ≢ for_close → Turns own q to
+
+  -- in this phase it does nothing
+  pub passes : (phase : Phase) (to : Stage)
+      → t.frame.phase ≡ phase
+      → MayPass s t.below t.told (stage_of phase) to
+      → Brief [] t.told to
+  passes phase to at may = λ k. inl (
+    refl,
+    subst (λ (st : Stage). MayPass s t.below t.told st to) (sym (at_stage phase at)) may,
+  )
+
+  -- in this phase it does this
+  pub makes : (phase : Phase) (event : RingEvent) (q : Option (List ℕ)) (to : Stage)
+      → t.frame.phase ≡ phase
+      → MayDo s (stage_of phase) event
+      → to ≡ stage_after (window_of t.after) t.below q event
+      → Brief (event ∷ []) q to
+  makes phase event q to at may is = λ k. inr (
+    event,
+    refl,
+    subst (λ (st : Stage). MayDo s st event) (sym (at_stage phase at)) may,
+    is,
+  )
+
+  window_then : (own : List RingEvent)
+      → AreEventsOf t.script.pages c own t.after
+      → window_at t.script.start (t.state.events ++ own) ≡ window_of t.after
+  window_then own are =
+      run_leads t.script.pages [] (first_window t.script.start) (window_of t.after) (t.state.events ++ own)
+      (run_on t.script.pages t.script.start c t.after t.state.events own t.stands.run are).window
+
+  one_step : (own : List RingEvent) (q : Option (List ℕ)) (m : Bool) (to : Stage)
+      → AreEventsOf t.script.pages c own t.after
+      → Does t.below (line t.told t.losing t.stage) own (line q m t.stage)
+      → Brief own q to
       → IsRecordOnTop c.frames
-      → IsNew c.frames
-      → (IsFillNeeded (situation_after t.script t.state.wish t.state.events) → ⊥)
-      → own ≡ acts reserve ∷ []
-  first_of own brief on_top new free =
-      let (waits, rests) = subst IsNew t.top new in
-      brief.1 (subst IsRecordOnTop t.top on_top) waits rests (λ needs. free (subst IsFillNeeded (sym sit) needs))
+      → OneStep t.script t.state.wish t.below t.state.events (line t.told t.losing t.stage) own (line q m to)
+  one_step own q m to are does brief on_top = by_turn (brief (subst IsRecordOnTop t.top on_top))
+    where
+      by_turn : Turns own q to
+          → OneStep t.script t.state.wish t.below t.state.events (line t.told t.losing t.stage) own (line q m to)
+      by_turn (inl (none, may)) =
+          let same : line q m t.stage ≡ line t.told t.losing t.stage =
+          subst (λ (xs : List RingEvent). Does t.below (line t.told t.losing t.stage) xs (line q m t.stage)) none does in
+          inl (
+            none,
+            to,
+            subst (λ (x : Situation). MayPass x t.below t.told t.stage to) (sym (sit)) may,
+            ap (λ (f : LineFrame). let g : LineFrame = record f { stage = to } in g) (sym same),
+          )
+      by_turn (inr (event, is, may, to_is)) =
+          let (own_one, same) =
+          subst (λ (xs : List RingEvent). Does t.below (line t.told t.losing t.stage) xs (line q m t.stage)) is does in
+          let window : window_at t.script.start (t.state.events ++ event ∷ []) ≡ window_of t.after =
+          ap (λ (xs : List RingEvent). window_at t.script.start (t.state.events ++ xs)) (sym is)
+          ∙ window_then own are in
+          inr (
+            event,
+            is,
+            own_one,
+            subst (λ (x : Situation). MayDo x t.stage event) (sym (sit)) may,
+            ap (λ (w : Window). stepped w t.below (line t.told t.losing t.stage) event) window
+                ∙ ap
+                (λ (f : LineFrame).
+                let g : LineFrame = record f { stage = stage_after (window_of t.after) t.below f.payload event } in g)
+                (sym same)
+                ∙ ap (line q m) (sym to_is),
+          )
 
   -- it is still there
   pub stays_with : (own : List RingEvent) (q : Option (List ℕ)) (m : Bool) (next : Frame)
       → AreEventsOf t.script.pages c own t.after
-      → Does t.below (line t.told t.losing) own (line q m)
+      → Does t.below (line t.told t.losing t.stage) own (line q m t.stage)
       → DueFrom t.script t.state.wish t.state.events own
-      → Brief own
+      → Brief own q (stage_of next.phase)
       → t.after.frames ≡ next ∷ t.under
       → next.kind ≡ t.frame.kind
-      → FrameStands next t.payload t.below (line q m)
-      → IsThere t.below (line q m)
+      → FrameStands next t.payload t.below (line q m (stage_of next.phase))
+      → IsThere t.below (line q m (stage_of next.phase))
       → (next.kind ≡ for_close
       → next.state ≡ waiting
       → (o : ℕ)
@@ -217,10 +282,10 @@ module _ (t : TopStep) where
     own = own;
     payload_after = q;
     losing_after = m;
+    stage_after = stage_of next.phase;
     does = does;
     due = due;
-    few = few_of own brief;
-    first = first_of own brief;
+    step = one_step own q m (stage_of next.phase) are does brief;
     fresh = λ same other under o at closing waits noted.
         let it : other ≡ next = ap (first_frame next) (sym at ∙ is) in
         up (ap (λ (f : Frame). f.kind) (sym it) ∙ closing) (ap (λ (f : Frame). f.state) (sym it) ∙ waits) o
@@ -228,11 +293,12 @@ module _ (t : TopStep) where
     record_kept = λ same on_top. subst IsRecordOnTop (sym is) (λ e. subst IsRecordOnTop t.top on_top (sym kind ∙ e));
     ends = inl (
       there,
+      never_off next.phase,
       ap (λ (xs : List Frame). length xs) is ∙ sym (ap (λ (xs : List Frame). length xs) t.top),
-      stands_after own (line q m ∷ t.below) are
-          (subst (λ (xs : List Frame). FramesStand xs (payloads_left xs t.before.payloads) (line q m ∷ t.below))
+      stands_after own (line q m (stage_of next.phase) ∷ t.below) are
+          (subst (λ (xs : List Frame). FramesStand xs (payloads_left xs t.before.payloads) (line q m (stage_of next.phase) ∷ t.below))
           (sym is)
-          (subst (λ (xs : List (List ℕ)). FramesStand (next ∷ t.under) xs (line q m ∷ t.below))
+          (subst (λ (xs : List (List ℕ)). FramesStand (next ∷ t.under) xs (line q m (stage_of next.phase) ∷ t.below))
           (sym (ap (payloads_left (next ∷ t.under)) t.paid
           ∙ kept_payloads (next ∷ t.under) (t.payload ∷ t.payloads)
           (ap suc (stand_counted t.under t.payloads t.below t.others)))) (stand, t.others))),
@@ -242,12 +308,12 @@ module _ (t : TopStep) where
   -- it has gone
   pub goes_with : (own : List RingEvent) (m : Bool)
       → AreEventsOf t.script.pages c own t.after
-      → Does t.below (line t.told t.losing) own (line None m)
+      → Does t.below (line t.told t.losing t.stage) own (line None m t.stage)
       → DueFrom t.script t.state.wish t.state.events own
-      → Brief own
+      → Brief own None off
       → t.after.frames ≡ t.under
       → ((what : RingEvent)
-      → IsOwn t.below (line None m) what
+      → IsOwn t.below (line None m off) what
       → IsDue (situation_after t.script t.state.wish (t.state.events ++ own)) what
       → ⊥)
       → Made t
@@ -255,14 +321,15 @@ module _ (t : TopStep) where
     own = own;
     payload_after = None;
     losing_after = m;
+    stage_after = off;
     does = does;
     due = due;
-    few = few_of own brief;
-    first = first_of own brief;
+    step = one_step own None m off are does brief;
     fresh = λ same. absurd (fewer same);
     record_kept = λ same. absurd (fewer same);
     ends = inr (
       (refl, rests),
+      refl,
       (let long = ap (λ (xs : List Frame). length xs) is in
           let high = ap (λ (xs : List Frame). length xs) t.top in omega (arith, long, high)),
       stands_after own t.below are

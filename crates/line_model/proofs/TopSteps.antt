@@ -1,6 +1,8 @@
 -- One step of the frame on top, beside an account: which events it makes, each its own and due, and what it leaves.
 use Rattle.std.proofs.Common.{◌≡◌, ℕ, ◌+◌, ◌<◌, ◌⊎◌, true, false, List, [], ◌∷◌, ◌++◌, Option, Some, None, refl}
 use Rattle.std.proofs.Common.{sym, ap, ◌∙◌, subst, inl, inr, arith, append-nil}
+use Rattle.std.specs.Prelude.{◌==◌}
+use Rattle.std.proofs.lemmas.Bool.{cond-true, cond-false, eq-eqb, ne_eqb}
 use Rattle.trace_model.specs.Words.{padded}
 use Rattle.trace_model.specs.History.{push, push_close, open_fill, reserve, leave, wished, PushedFrame}
 use Rattle.trace_model.proofs.histories.NextEvent.{settled_at_rest}
@@ -22,14 +24,16 @@ use Rattle.ring_model.proofs.histories.HistorySteps.{stack_empty}
 use Rattle.ring_model.proofs.links.FrameChanges.{top_kept}
 use Rattle.ring_model.proofs.links.LinkFills.{header_inside}
 use Rattle.world_model.specs.Lanes.{event_in, event_on_top}
-use Rattle.line_model.specs.Due.{Situation, situation_after, IsFillNeededFor, IsFillNeeded, Leaves, IsDue}
-use Rattle.line_model.specs.Accounts.{IsOwn}
+use Rattle.line_model.specs.Due.{Situation, situation_after, IsFillNeededFor, IsFillNeeded, IsWishToFind, Leaves}
+use Rattle.line_model.specs.Due.{IsDue}
+use Rattle.line_model.specs.Accounts.{Stage, searching, closing_fills, asking, off, LineFrame, IsOwn, at_rest, MayPass}
+use Rattle.line_model.proofs.Standing.{stage_of}
 use Rattle.line_model.proofs.WishesKept.{Serves, reached_serves}
 use Rattle.line_model.proofs.DueRuns.{situation_of}
 use Rattle.line_model.proofs.StepDoes.{line, TopStep, Made}
 use Rattle.line_model.proofs.TopStays.{kept, sit, needed, can_have, due_one, events_are, no_event, stays_with}
-use Rattle.line_model.proofs.TopStays.{goes_with}
-use Rattle.line_model.proofs.TopMoves.{not_left, there, later, stand_in, on, leaves_with, late}
+use Rattle.line_model.proofs.TopStays.{at_stage, makes, goes_with}
+use Rattle.line_model.proofs.TopMoves.{not_left, there, stand_in, on, leaves_with, late}
 use Rattle.line_model.proofs.TopBegins.{begins, idle_does}
 
 module _ (t : TopStep) where
@@ -44,6 +48,12 @@ module _ (t : TopStep) where
   may_be : (phase : Phase) → t.frame.phase ≡ phase → MayBeIn t.frame.kind t.frame.state phase
   may_be phase at = subst (MayBeIn t.frame.kind t.frame.state) at (top_agrees c t.frame t.under (kept t).stack t.top).0
 
+  -- the bottom frame, which has left, is at rest
+  left_rests : t.frame.state ≡ left → (w : Window) → at_rest w [] None ≡ at_rest w t.below t.told
+  left_rests is w =
+      let (told, bottom) = t.one.has_left is in
+      sym (ap (λ (lines : List LineFrame). at_rest w lines None) bottom) ∙ sym (ap (at_rest w t.below) told)
+
   closes_with : (to : Phase) (next : Core)
       → t.frame.phase ≡ releasing
       → t.under ≡ []
@@ -53,15 +63,16 @@ module _ (t : TopStep) where
       → next.history ≡ c.history
       → window_of next ≡ window_after (window_of c) closes
       → ((o : ℕ) → owned_update to ≡ Some o → ⊥)
+      → stage_of to ≡ at_rest (window_of t.after) [] None
       → Made t
-  closes_with to next at alone more is frames h w unowned =
+  closes_with to next at alone more is frames h w unowned rests =
       let is_left = releasing_left t.frame.kind t.frame.state (may_be releasing at) in
       let empty = stack_empty t.script.pages t.script.start c t.frame t.under (kept t).history t.top is_left alone in
       stays_with t (closes ∷ []) t.told false (record t.frame { phase = to })
       (events_are t (closes ∷ []) refl (ap (λ (d : Core). d.history) is ∙ h ∙ sym (append-nil c.history))
       ((more, settled_at_rest c.history empty), sym (ap window_of is ∙ w)))
       (t.one.has_left is_left, refl) (due_one t closes (empty, more))
-      (later t (closes ∷ []) releasing at (λ e. cc) (λ k. omega arith))
+      (makes t releasing closes t.told (stage_of to) at refl (rests ∙ left_rests is_left (window_of t.after)))
       (ap (λ (d : Core). d.frames) is ∙ frames) refl
       (stand_in t to false (λ o e. absurd (unowned o e))) (there t)
       (λ closing waits o e. absurd (let both : left ≡ waiting = sym is_left ∙ waits in let no : ⊥ = cc in no))
@@ -76,6 +87,11 @@ module _ (t : TopStep) where
       let serves = subst (Serves c.opened) (t.top ∙ ap (λ (xs : List Frame). t.frame ∷ xs) alone)
       (reached_serves t.script.pages t.script.size t.script.start c t.stands.reached found) in
       let both : None ≡ Some c.opened = sym (ap noted_fill at) ∙ serves.1 in cc
+
+  -- no wish is found
+  not_granted : (IsGranted t.script.pages c → ⊥) → IsWishToFind s → ⊥
+  not_granted denied (asks, holds, small, free) =
+      denied record { asks_tail = asks; holds_record = holds; numbers_left = small }
 
   wishes_with : (next : Core)
       → t.frame.phase ≡ wishing
@@ -94,7 +110,7 @@ module _ (t : TopStep) where
       (t.one.has_left is_left, refl)
       (due_one t (acts wished)
       (empty, (granted.asks_tail, granted.holds_record, granted.numbers_left, unneeded at alone)))
-      (later t (acts wished ∷ []) wishing at (λ e. cc) (λ k. omega arith))
+      (makes t wishing (acts wished) t.told searching at refl refl)
       (ap (λ (d : Core). d.frames) is ∙ frames) refl
       (stand_in t (looking c.opened) false (λ o e. absurd (let no : ⊥ = cc in no))) (there t)
       (λ closing waits o e. absurd (let both : left ≡ waiting = sym is_left ∙ waits in let no : ⊥ = cc in no))
@@ -112,14 +128,18 @@ module _ (t : TopStep) where
   goes_away_with next at alone denied last is frames h w =
       let is_left = wishing_left t.frame.kind t.frame.state (may_be wishing at) in
       goes_with t [] t.losing (no_event t (ap (λ (d : Core). d.history) is ∙ h) (ap window_of is ∙ w))
-      (ap (λ (q : Option (List ℕ)). line q t.losing) (sym (t.one.has_left is_left).0)) tt
-      (later t [] wishing at (λ e. cc) (λ k. omega arith))
+      (ap (λ (q : Option (List ℕ)). line q t.losing t.stage) (sym (t.one.has_left is_left).0)) tt
+      (λ k. inl (
+        refl,
+        subst (λ (st : Stage). MayPass s t.below t.told st off) (sym (at_stage t wishing at))
+            (not_granted denied, inr (refl, last)),
+      ))
       (ap (λ (d : Core). d.frames) is ∙ frames ∙ sym alone)
       (λ what is_own due. rests what is_own (subst (λ (x : Situation). IsDue x what)
       (ap (λ (xs : List RingEvent). situation_after t.script t.state.wish xs) (append-nil t.state.events) ∙ sit t)
       due))
     where
-      rests : (what : RingEvent) → IsOwn t.below (line None t.losing) what → IsDue s what → ⊥
+      rests : (what : RingEvent) → IsOwn t.below (line None t.losing off) what → IsDue s what → ⊥
       rests (acts (push moment len)) is_own due = is_own
       rests (acts push_close) is_own due = is_own
       rests (acts open_fill) is_own due = unneeded at alone due.0
@@ -137,6 +157,10 @@ module _ (t : TopStep) where
   next_noted : (role : Role) (noted page : ℕ) → noted_fill (after_next role noted page) ≡ Some noted
   next_noted owner noted page = refl
   next_noted helper noted page = refl
+
+  next_searches : (role : Role) (noted page : ℕ) → stage_of (after_next role noted page) ≡ searching
+  next_searches owner noted page = refl
+  next_searches helper noted page = refl
 
   -- only the owner goes on with its UPDATE set
   next_owned : (role : Role) (noted page o : ℕ)
@@ -167,12 +191,30 @@ module _ (t : TopStep) where
       (events_are t (loses ∷ []) refl (ap (λ (d : Core). d.history) is ∙ h ∙ sym (append-nil c.history))
       ((unread, full), sym (ap window_of is ∙ w)))
       (there t, refl) (due_one t loses (needs.0, can_have t (omega (arith, unread, full)) needs.1, unread, full))
-      (later t (loses ∷ []) (claiming noted page) at (λ e. cc) (λ k. omega arith))
+      (makes t (claiming noted page) loses t.told searching at (inr refl) refl)
       (ap (λ (d : Core). d.frames) is ∙ frames) refl
       (stand_in t (looking_next owner noted page) true (λ o e. refl)) (there t)
       (λ closing waits o e.
       t.fresh t.frame t.under o t.top closing waits (ap noted_fill at ∙ e)
       ∙ ap (λ (v : Window). v.opened) (sym (ap window_of is ∙ w)))
+
+  -- a fill was closed, and not the last, or the last
+  closes_on : {next : Core}
+      → t.after ≡ next
+      → next.done + 1 < next.opened
+      → closing_fills ≡ at_rest (window_of t.after) [] None
+  closes_on {next = next} is more =
+      sym (cond-false ((next.done + 1) == next.opened) asking closing_fills (ne_eqb (next.done + 1) next.opened
+      (λ e. omega (arith, e, more))))
+      ∙ sym (ap (λ (d : Core). at_rest (window_of d) [] None) is)
+
+  closes_last : {next : Core}
+      → t.after ≡ next
+      → next.done + 1 ≡ next.opened
+      → asking ≡ at_rest (window_of t.after) [] None
+  closes_last {next = next} is last =
+      sym (cond-true ((next.done + 1) == next.opened) asking closing_fills (eq-eqb (next.done + 1) next.opened last))
+      ∙ sym (ap (λ (d : Core). at_rest (window_of d) [] None) is)
 
   frame_does : (phase : Phase)
       → t.frame.phase ≡ phase
@@ -180,18 +222,18 @@ module _ (t : TopStep) where
       → FrameStep t.script.pages t.script.size c t.frame t.under phase t.answer t.after
       → Made t
   frame_does idle at active it = idle_does t t.frame.state refl active at it
-  frame_does (looking o) at active (load_link_late again) = late t (looking o) o at (λ e. cc) refl active again
+  frame_does (looking o) at active (load_link_late again) = late t (looking o) o at refl refl active again
   frame_does (looking o) at active (sees_free page now link a is) =
-      on t (looking o) (opening o page) _ at (λ e. cc) is refl refl refl (λ x e. e)
+      on t (looking o) (opening o page) _ at (inl refl) is refl refl refl (λ x e. e)
       (λ x e. absurd (let no : ⊥ = cc in no))
   frame_does (looking o) at active (sees_header page lost now sum link a is) =
-      on t (looking o) (claiming o page) _ at (λ e. cc) is refl refl refl (λ x e. e)
+      on t (looking o) (claiming o page) _ at (inl refl) is refl refl refl (λ x e. e)
       (λ x e. absurd (let no : ⊥ = cc in no))
   frame_does (looking o) at active (sees_update page lost now sum link a is) =
-      on t (looking o) (looking_next helper o page) _ at (λ e. cc) is refl refl refl (λ x e. e)
+      on t (looking o) (looking_next helper o page) _ at (inl refl) is refl refl refl (λ x e. e)
       (λ x e. absurd (let no : ⊥ = cc in no))
   frame_does (claiming o page) at active (claim_late again) =
-      late t (claiming o page) o at (λ e. cc) refl active again
+      late t (claiming o page) o at refl refl active again
   frame_does (claiming o page) at active (claims lost now sum link a is) =
       let (open_yet, begun_yet, room, small) =
       (subst (PhaseKept t.script.pages c.links c.order c.head c.done c.opened) at
@@ -202,38 +244,40 @@ module _ (t : TopStep) where
       (omega arith) sum link in
       loses_with o page lost _ at now (omega arith, omega arith) is refl refl refl
   frame_does (claiming o page) at active (claim_fails now other a is) =
-      on t (claiming o page) (looking o) _ at (λ e. cc) is refl refl refl (λ x e. e)
+      on t (claiming o page) (looking o) _ at (inl refl) is refl refl refl (λ x e. e)
       (λ x e. absurd (let no : ⊥ = cc in no))
   frame_does (looking_next role o page) at active (load_next_late helps again) =
-      late t (looking_next role o page) o at (λ e. cc) refl active again
+      late t (looking_next role o page) o at refl refl active again
   frame_does (looking_next role o page) at active (sees_normal lost next may sum link a is) =
-      on t (looking_next role o page) (marking role o page next) _ at (λ e. cc) is refl refl refl (λ x e. e)
+      on t (looking_next role o page) (marking role o page next) _ at (inl refl) is refl refl refl (λ x e. e)
       (marks_owned role o page next)
   frame_does (looking_next role o page) at active (sees_other lost may sum other a is) =
-      on t (looking_next role o page) (after_next role o page) _ at (λ e. cc) is refl refl refl
+      on t (looking_next role o page) (after_next role o page) _ at (inl (next_searches role o page)) is refl refl refl
       (λ x e. sym (next_noted role o page) ∙ e) (λ x e. (next_owned role o page x e).0)
   frame_does (marking role o page next) at active (mark_late helps again) =
-      late t (marking role o page next) o at (λ e. cc) refl active again
+      late t (marking role o page next) o at refl refl active again
   frame_does (marking role o page next) at active (marks lost may sum link a is) =
-      on t (marking role o page next) (after_next role o page) _ at (λ e. cc) is refl refl refl
+      on t (marking role o page next) (after_next role o page) _ at (inl (next_searches role o page)) is refl refl refl
       (λ x e. sym (next_noted role o page) ∙ e) (λ x e. (next_owned role o page x e).1 next)
   frame_does (marking role o page next) at active (mark_fails lost may sum other a is) =
-      on t (marking role o page next) (after_next role o page) _ at (λ e. cc) is refl refl refl
+      on t (marking role o page next) (after_next role o page) _ at (inl (next_searches role o page)) is refl refl refl
       (λ x e. sym (next_noted role o page) ∙ e) (λ x e. (next_owned role o page x e).1 next)
   frame_does (clearing o page) at active (clears lost sum link a is) =
-      on t (clearing o page) (opening o page) _ at (λ e. cc) is refl refl refl (λ x e. e)
+      on t (clearing o page) (opening o page) _ at (inl refl) is refl refl refl (λ x e. e)
       (λ x e. absurd (let no : ⊥ = cc in no))
   frame_does (opening o page) at active (open_late again) =
-      late t (opening o page) o at (λ e. cc) refl active again
+      late t (opening o page) o at refl refl active again
   frame_does (opening o page) at active (opens now a is) = begins t page o at now active is
   frame_does releasing at active (releases alone more a is) =
       closes_with releasing _ at alone (omega (arith, more)) is
       (t.top ∙ ap (λ (phase : Phase). record t.frame { phase = phase } ∷ t.under) at) refl refl (λ o e. cc)
+      (closes_on is (omega (arith, more)))
   frame_does releasing at active (releases_last alone last a is) =
       closes_with wishing _ at alone (omega (arith, last)) is refl refl refl (λ o e. cc)
+      (closes_last is (omega (arith, last)))
   frame_does wishing at active (grants alone granted a is) = wishes_with _ at alone granted is refl refl refl
   frame_does wishing at active (closes_more alone denied more a is) =
-      on t wishing releasing _ at (λ e. cc) is refl refl refl (λ x e. e) (λ x e. e)
+      on t wishing releasing _ at (not_granted denied, inl (refl, more)) is refl refl refl (λ x e. e) (λ x e. e)
   frame_does wishing at active (goes_away alone denied last a is) =
       goes_away_with _ at alone denied last is refl refl refl
 
@@ -244,18 +288,20 @@ module _ (t : TopStep) where
       → Made t
   ends_with number at ending =
       let e = top_ends (padded t.payload) t.frame t.under number t.top at ending in
+      let stack = stack_reserved t.script.pages t.script.start c t.frame t.under (kept t).history t.top number at
+      ∙ ap (λ (k : Purpose). pushed_frame k (reserved number) ∷ pushed_frames t.under) e.kind_is in
+      let rests = (subst (λ (st : Progress). MayBeIn t.frame.kind st t.frame.phase) at
+      (top_agrees c t.frame t.under (kept t).stack t.top).0).1 in
       leaves_with t (acts (leave (Some (padded t.payload))) ∷ []) c
       (events_are t (acts (leave (Some (padded t.payload))) ∷ []) refl (ap (λ (d : Core). d.history) e.after_is)
       (tt, sym (ap window_of e.after_is)))
       ((t.payload, t.one.unwritten (not_left t (reserved number) (λ z. cc) at), refl), refl)
       (due_one t (acts (leave (Some (padded t.payload))))
       (subst (λ (st : List PushedFrame). Leaves s st (Some (padded t.payload)))
-      (sym (stack_reserved t.script.pages t.script.start c t.frame t.under (kept t).history t.top number at
-      ∙ ap (λ (k : Purpose). pushed_frame k (reserved number) ∷ pushed_frames t.under) e.kind_is)) tt)) (
-        (λ not. omega arith),
-        (λ not waits rests free.
-            absurd (let both : reserved number ≡ waiting = sym at ∙ waits in let no : ⊥ = cc in no)),
-      )
+      (sym stack) tt))
+      (λ to. makes t idle (acts (leave (Some (padded t.payload)))) None to rests
+      (λ needs. absurd (subst (IsFillNeededFor s) stack needs)))
+      (ap window_of e.after_is)
       (ap (λ (d : Core). d.frames) e.after_is)
 
   pub step_does : t.event ≡ event_on_top c.frames t.before.payloads → Made t

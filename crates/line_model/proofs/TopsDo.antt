@@ -1,44 +1,40 @@
 -- What the frame on top does in a run, beside an account: what it does in its steps, one after the other.
-use Rattle.std.proofs.Common.{◌≡◌, ◌≢◌, ℕ, ◌<◌, ◌≤◌, Bool, true, false, List, [], ◌∷◌, ◌++◌, length, Option, Some, None}
+use Rattle.std.proofs.Common.{◌≡◌, ◌≢◌, ℕ, suc, ◌<◌, Bool, List, [], ◌∷◌, ◌++◌, length, Option, Some, None}
 use Rattle.std.proofs.Common.{refl, sym, ap, ◌∙◌, subst, inl, inr, ⊎_elim, arith, append_assoc, append-nil}
-use Rattle.std.proofs.Common.{length-append}
 use Rattle.std.specs.List.{fold}
 use Rattle.std.proofs.lemmas.List.Sums.{fold-append}
-use Rattle.trace_model.specs.History.{HistoryEvent, reserve}
-use Rattle.trace_model.specs.Window.{RingEvent, acts, history_events_of}
+use Rattle.trace_model.specs.Window.{RingEvent}
 use Rattle.trace_model.specs.Frames.{Progress, waiting, reserved, left, Frame}
 use Rattle.trace_model.specs.Ring.{Core}
 use Rattle.trace_model.specs.Steps.{Exchange}
 use Rattle.text_model.specs.Script.{Script}
 use Rattle.ring_model.specs.Seats.{IsOfReader}
-use Rattle.ring_model.proofs.histories.WindowRuns.{history_events-append}
 use Rattle.world_model.specs.Lanes.{Lane, lane_behind, event_in, event_on_top, FrameRun}
 use Rattle.world_model.proofs.FramesMove.{PushesNone}
 use Rattle.world_model.proofs.LanePayloads.{pushes_none}
 use Rattle.line_model.specs.CallEvents.{IsRecordOnTop}
-use Rattle.line_model.specs.Due.{situation_after, IsFillNeeded}
-use Rattle.line_model.specs.Accounts.{LineFrame, CpuState, IsThere, frame_after, Does, HasGone, made_after, with_own}
-use Rattle.line_model.proofs.Standing.{FrameStands, FramesStand, Stands, IsFresh, StaysOrGoes, TopsDo}
+use Rattle.line_model.specs.Due.{situation_after}
+use Rattle.line_model.specs.Accounts.{Stage, LineFrame, CpuState, IsThere, frame_after, Does, HasGone, made_after}
+use Rattle.line_model.specs.Accounts.{with_own, Steps}
+use Rattle.line_model.proofs.Standing.{FrameStands, FramesStand, Stands, IsFresh, OneStep, StaysOrGoes, TopsDo}
 use Rattle.line_model.proofs.DueRuns.{DueFrom, due_append, are_due}
-use Rattle.line_model.proofs.StepDoes.{line, IsNew, StepDoes}
+use Rattle.line_model.proofs.StepDoes.{line, does_with, never_off, StepDoes}
 use Rattle.line_model.proofs.TopSteps.{step_does}
 
--- What the frame on top does in these exchanges, if it has made a step before.
+-- What the frame on top does in these exchanges.
 record RunDoes (script : Script) (before : Lane) (state : CpuState) (payload : Option (List ℕ)) (losing : Bool)
-    (below : List LineFrame) (exchanges : List Exchange) (after : Lane)
+    (stage : Stage) (below : List LineFrame) (exchanges : List Exchange) (after : Lane)
     : Type 0 where
   own : List RingEvent
   payload_after : Option (List ℕ)
   losing_after : Bool
-  does : Does below (line payload losing) own (line payload_after losing_after)
+  stage_after : Stage
+  does : Does below (line payload losing stage) own (line payload_after losing_after stage)
   due : DueFrom script state.wish state.events own
-  few : IsRecordOnTop before.core.frames → length (history_events_of own) ≤ length exchanges
-  first : IsRecordOnTop before.core.frames
-      → exchanges ≢ []
-      → IsNew before.core.frames
-      → (IsFillNeeded (situation_after script state.wish state.events) → ⊥)
-      → (rest : List RingEvent) × (own ≡ acts reserve ∷ rest)
-  ends : StaysOrGoes script before state own (line payload_after losing_after) below after
+  steps : IsRecordOnTop before.core.frames
+      → Steps script state.wish below (length exchanges) state.events (line payload losing stage) own
+      (line payload_after losing_after stage_after)
+  ends : StaysOrGoes script before state own (line payload_after losing_after stage_after) below after
 
 -- ---- the stack
 
@@ -71,32 +67,6 @@ has_top (frame ∷ under) (payload ∷ payloads) first below stand = record {
   others = stand.1;
 }
 
--- the same, once it has made a step
-stepped_stand : (frames : List Frame) (payloads : List (List ℕ)) (first : LineFrame) (below : List LineFrame)
-    → FramesStand frames payloads (first ∷ below)
-    → FramesStand frames payloads (line first.payload first.losing ∷ below)
-stepped_stand [] [] first below stand = absurd stand
-stepped_stand [] (payload ∷ payloads) first below stand = absurd stand
-stepped_stand (frame ∷ under) [] first below stand = absurd stand
-stepped_stand (frame ∷ under) (payload ∷ payloads) first below stand = (
-  record {
-    unwritten = stand.0.unwritten;
-    has_left = stand.0.has_left;
-    fresh = λ e. absurd (let both : true ≡ false = e in let no : ⊥ = cc in no);
-    moving = stand.0.moving;
-  },
-  stand.1,
-)
-
-new_stand : (frames : List Frame) (payloads : List (List ℕ)) (first : LineFrame) (below : List LineFrame)
-    → FramesStand frames payloads (first ∷ below)
-    → first.stepped ≡ false
-    → IsNew frames
-new_stand [] [] first below stand new = absurd stand
-new_stand [] (payload ∷ payloads) first below stand new = absurd stand
-new_stand (frame ∷ under) [] first below stand new = absurd stand
-new_stand (frame ∷ under) (payload ∷ payloads) first below stand new = stand.0.fresh new
-
 -- it is still there
 there_of : (frame : Frame) (payload : List ℕ) (below : List LineFrame) (first : LineFrame)
     → FrameStands frame payload below first
@@ -122,6 +92,36 @@ does_append below frame between last [] more same rest = subst (λ (x : LineFram
 does_append below frame between last (event ∷ own) more (is_own, does) rest =
     (is_own, does_append below (frame_after frame event) between last own more does rest)
 
+-- a step before others, and the last one
+module _ (script : Script) (asked : ℕ) (below : List LineFrame) (before : List RingEvent) (frame : LineFrame) where
+  step_on : (count : ℕ) (own more : List RingEvent) (between next : LineFrame)
+      → OneStep script asked below before frame own between
+      → Steps script asked below count (before ++ own) between more next
+      → Steps script asked below (suc count) before frame (own ++ more) next
+  step_on count own more between next (inl (none, stage, may, same)) rest = inl (
+    stage,
+    may,
+    subst (λ (f : LineFrame). Steps script asked below count before f (own ++ more) next) (sym same)
+        (subst (λ (xs : List RingEvent). Steps script asked below count before between (xs ++ more) next) (sym none)
+        (subst (λ (xs : List RingEvent). Steps script asked below count xs between more next)
+        (ap (λ (xs : List RingEvent). before ++ xs) none ∙ append-nil before) rest)),
+  )
+  step_on count own more between next (inr (event, is, is_own, may, same)) rest = inr (
+    event,
+    more,
+    ap (λ (xs : List RingEvent). xs ++ more) is,
+    is_own,
+    may,
+    subst (λ (f : LineFrame). Steps script asked below count (before ++ event ∷ []) f more next) (sym same)
+        (subst (λ (xs : List RingEvent). Steps script asked below count (before ++ xs) between more next) is rest),
+  )
+
+  last_step : (own : List RingEvent) (next : LineFrame)
+      → OneStep script asked below before frame own next
+      → Steps script asked below 1 before frame own next
+  last_step own next (inl (none, stage, may, same)) = inl (stage, may, (none, same))
+  last_step own next (inr (event, is, is_own, may, same)) = inr (event, [], is, is_own, may, (refl, same))
+
 of_writer : (frames : List Frame) (payloads : List (List ℕ)) → IsOfReader (event_on_top frames payloads) → ⊥
 of_writer [] payloads of = of
 of_writer (frame ∷ below) payloads of = in_state frame.state payloads of
@@ -134,32 +134,35 @@ of_writer (frame ∷ below) payloads of = in_state frame.state payloads of
 
 module _ (script : Script) (below : List LineFrame) (depth : ℕ) where
   -- no step is made
-  no_run : (before : Lane) (state : CpuState) (payload : Option (List ℕ)) (losing : Bool) (after : Lane)
-      → Stands script before (record state { frames = line payload losing ∷ below })
+  no_run : (before : Lane) (state : CpuState) (payload : Option (List ℕ)) (losing : Bool) (stage : Stage)
+      (after : Lane)
+      → Stands script before (record state { frames = line payload losing stage ∷ below })
       → before ≡ after
-      → RunDoes script before state payload losing below [] after
-  no_run before state payload losing after stands same =
-      let t = has_top before.core.frames before.payloads (line payload losing) below stands.frames in
+      → RunDoes script before state payload losing stage below [] after
+  no_run before state payload losing stage after stands same =
+      let t = has_top before.core.frames before.payloads (line payload losing stage) below stands.frames in
       record {
         own = [];
         payload_after = payload;
         losing_after = losing;
+        stage_after = stage;
         does = refl;
         due = tt;
-        few = λ on_top. omega arith;
-        first = λ on_top some. absurd (some refl);
-        ends = subst (StaysOrGoes script before state [] (line payload losing) below) same
+        steps = λ on_top. (refl, refl);
+        ends = subst (StaysOrGoes script before state [] (line payload losing stage) below) same
             (inl (
-              there_of t.frame t.payload below (line payload losing) t.one,
+              there_of t.frame t.payload below (line payload losing stage) t.one,
+              (λ is. never_off t.frame.phase (sym t.one.stage ∙ is)),
               refl,
               subst (λ (xs : List RingEvent). Stands script before
-                  (record state { events = xs; frames = line payload losing ∷ below }))
+                  (record state { events = xs; frames = line payload losing stage ∷ below }))
                   (sym (append-nil state.events)) stands,
             ));
       }
 
-  module _ (before : Lane) (state : CpuState) (payload : Option (List ℕ)) (losing : Bool) (x : Exchange) (core : Core)
-      (d : StepDoes script before state payload losing below (lane_behind before core)) where
+  module _ (before : Lane) (state : CpuState) (payload : Option (List ℕ)) (losing : Bool) (stage : Stage)
+      (x : Exchange) (core : Core)
+      (d : StepDoes script before state payload losing stage below (lane_behind before core)) where
     abbrev later : CpuState
     later = record state { events = state.events ++ d.own; made = fold made_after state.made d.own }
 
@@ -175,33 +178,36 @@ module _ (script : Script) (below : List LineFrame) (depth : ℕ) where
     -- it is still there after the step
     goes_on : (exchanges : List Exchange) (after : Lane)
         → length core.frames ≡ length before.core.frames
-        → RunDoes script (lane_behind before core) later d.payload_after d.losing_after below exchanges after
-        → RunDoes script before state payload losing below (x ∷ exchanges) after
+        → RunDoes script (lane_behind before core) later d.payload_after d.losing_after d.stage_after below exchanges
+        after
+        → RunDoes script before state payload losing stage below (x ∷ exchanges) after
     goes_on exchanges after long r = record {
       own = d.own ++ r.own;
       payload_after = r.payload_after;
       losing_after = r.losing_after;
-      does = does_append below (line payload losing) (line d.payload_after d.losing_after)
-          (line r.payload_after r.losing_after) d.own r.own d.does r.does;
+      stage_after = r.stage_after;
+      does = does_append below (line payload losing stage) (line d.payload_after d.losing_after stage)
+          (line r.payload_after r.losing_after stage) d.own r.own d.does
+          (does_with below d.stage_after stage r.own (line d.payload_after d.losing_after stage)
+          (line r.payload_after r.losing_after d.stage_after) r.does);
       due = due_append script state.wish state.events d.own r.own d.due r.due;
-      few = λ on_top.
-          let one = d.few on_top in
-          let more = r.few (d.record_kept long on_top) in
-          let all = ap (λ (h : List HistoryEvent). length h) (history_events-append d.own r.own)
-          ∙ length-append (history_events_of d.own) (history_events_of r.own) in
-          omega (arith, one, more, all);
-      first = λ on_top some new free.
-          (r.own, ap (λ (xs : List RingEvent). xs ++ r.own) (d.first on_top new free));
+      steps = λ on_top.
+          step_on script state.wish below state.events (line payload losing stage) (length exchanges) d.own r.own
+          (line d.payload_after d.losing_after d.stage_after) (line r.payload_after r.losing_after r.stage_after)
+          (d.step on_top) (r.steps (d.record_kept long on_top));
       ends = ⊎_elim
-          (λ (there, same, stands). inl (
+          (λ (there, on, same, stands). inl (
             there,
+            on,
             same ∙ long,
-            subst (Stands script after) (after_both r.own (line r.payload_after r.losing_after ∷ below)) stands,
+            subst (Stands script after)
+                (after_both r.own (line r.payload_after r.losing_after r.stage_after ∷ below)) stands,
           ))
-          (λ (gone, fewer, stands). inr (
-            subst (λ (xs : List RingEvent).
-                HasGone (situation_after script state.wish xs) below (line r.payload_after r.losing_after))
+          (λ (gone, is_off, fewer, stands). inr (
+            subst (λ (xs : List RingEvent). HasGone (situation_after script state.wish xs) below
+                (line r.payload_after r.losing_after r.stage_after))
                 (append_assoc state.events d.own r.own) gone,
+            is_off,
             omega (arith, fewer, long),
             subst (Stands script after) (after_both r.own below) stands,
           ))
@@ -213,31 +219,34 @@ module _ (script : Script) (below : List LineFrame) (depth : ℕ) where
         → length core.frames < length before.core.frames
         → length before.core.frames ≡ depth
         → FrameRun script.pages script.size depth (lane_behind before core) exchanges after
-        → RunDoes script before state payload losing below (x ∷ exchanges) after
+        → RunDoes script before state payload losing stage below (x ∷ exchanges) after
     has_gone [] after fewer count same = record {
       own = d.own;
       payload_after = d.payload_after;
       losing_after = d.losing_after;
+      stage_after = d.stage_after;
       does = d.does;
       due = d.due;
-      few = d.few;
-      first = λ on_top some new free. ([], d.first on_top new free);
-      ends = subst (StaysOrGoes script before state d.own (line d.payload_after d.losing_after) below) same d.ends;
+      steps = λ on_top. last_step script state.wish below state.events (line payload losing stage) d.own
+          (line d.payload_after d.losing_after d.stage_after) (d.step on_top);
+      ends = subst (StaysOrGoes script before state d.own (line d.payload_after d.losing_after d.stage_after) below) same
+          d.ends;
     }
     has_gone (y ∷ exchanges) after fewer count (again, asked, next, step, more) =
         absurd (let no : ⊥ = omega (arith, fewer, count, again) in no)
 
   run_does : (exchanges : List Exchange) (before : Lane) (state : CpuState) (payload : Option (List ℕ)) (losing : Bool)
-      (after : Lane)
-      → Stands script before (record state { frames = line payload losing ∷ below })
+      (stage : Stage) (after : Lane)
+      → Stands script before (record state { frames = line payload losing stage ∷ below })
       → IsFresh before.core
       → length before.core.frames ≡ depth
       → FrameRun script.pages script.size depth before exchanges after
-      → RunDoes script before state payload losing below exchanges after
-  run_does [] before state payload losing after stands fresh count same =
-      no_run before state payload losing after stands same
-  run_does (x ∷ exchanges) before state payload losing after stands fresh count (here, event, core, step, run) =
-      let t = has_top before.core.frames before.payloads (line payload losing) below stands.frames in
+      → RunDoes script before state payload losing stage below exchanges after
+  run_does [] before state payload losing stage after stands fresh count same =
+      no_run before state payload losing stage after stands same
+  run_does (x ∷ exchanges) before state payload losing stage after stands fresh count
+      (here, event, core, step, run) =
+      let t = has_top before.core.frames before.payloads (line payload losing stage) below stands.frames in
       let d = step_does
       (record {
         script = script;
@@ -245,6 +254,7 @@ module _ (script : Script) (below : List LineFrame) (depth : ℕ) where
         state = state;
         told = payload;
         losing = losing;
+        stage = stage;
         below = below;
         frame = t.frame;
         under = t.under;
@@ -264,23 +274,23 @@ module _ (script : Script) (below : List LineFrame) (depth : ℕ) where
         step = step;
       }) event in
       ⊎_elim
-      (λ (there, long, on). goes_on before state payload losing x core d exchanges after long
+      (λ (there, on_it, long, on). goes_on before state payload losing stage x core d exchanges after long
       (run_does exchanges (lane_behind before core)
       (record state { events = state.events ++ d.own; made = fold made_after state.made d.own }) d.payload_after
-      d.losing_after after on (d.fresh long) (long ∙ count) run))
-      (λ (gone, fewer, on). has_gone before state payload losing x core d exchanges after fewer count run)
+      d.losing_after d.stage_after after on (d.fresh long) (long ∙ count) run))
+      (λ (gone, is_off, fewer, on). has_gone before state payload losing stage x core d exchanges after fewer count run)
       d.ends
 
 -- The frame on top does what an account says.
 pub tops_do : TopsDo
 tops_do script before state top below exchanges after stands is fresh run =
-    let stack = subst (FramesStand before.core.frames before.payloads) is stands.frames in
-    let r = run_does script below (length before.core.frames) exchanges before state top.payload top.losing after
+    let r = run_does script below (length before.core.frames) exchanges before state top.payload top.losing top.stage
+    after
     record {
       reached = stands.reached;
       payloads = stands.payloads;
       run = stands.run;
-      frames = stepped_stand before.core.frames before.payloads top below stack;
+      frames = subst (FramesStand before.core.frames before.payloads) is stands.frames;
       seen = stands.seen;
       at_rest = stands.at_rest;
       counted = stands.counted;
@@ -288,11 +298,9 @@ tops_do script before state top below exchanges after stands is fresh run =
     } fresh refl run in
     record {
       own = r.own;
-      next = line r.payload_after r.losing_after;
+      next = line r.payload_after r.losing_after r.stage_after;
       does = r.does;
       due = are_due script state.wish state.events r.own r.due;
-      few = r.few;
-      first = λ on_top some new free.
-          r.first on_top some (new_stand before.core.frames before.payloads top below stack new) free;
+      steps = r.steps;
       ends = r.ends;
     }

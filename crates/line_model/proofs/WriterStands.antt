@@ -1,11 +1,11 @@
 -- The lines of a writer, from a ring that stands beside an account: they are lines of the account, and it stands again.
-use Rattle.std.proofs.Common.{◌≡◌, ◌≢◌, ℕ, ◌≤◌, Bool, true, false, List, [], ◌∷◌, ◌++◌, length, Some, None, refl, sym}
+use Rattle.std.proofs.Common.{◌≡◌, ◌≢◌, ℕ, ◌≤◌, List, [], ◌∷◌, ◌++◌, length, Some, None, refl, sym}
 use Rattle.std.proofs.Common.{ap, ◌∙◌, subst, inl, inr, ⊎_elim, arith, append_assoc}
 use Rattle.std.specs.List.{fold}
 use Rattle.trace_model.specs.declared.limits.TheConstants.{MAX_FRAMES}
-use Rattle.trace_model.specs.History.{HistoryEvent, push, push_close, open_fill, reserve, leave, wished}
+use Rattle.trace_model.specs.History.{HistoryEvent, push, push_close}
 use Rattle.trace_model.specs.Frames.{Purpose, for_record, for_close, idle, noted_fill, Frame, WriteFault}
-use Rattle.trace_model.specs.Window.{RingEvent, acts, closes, takes, loses, history_events_of}
+use Rattle.trace_model.specs.Window.{RingEvent, acts}
 use Rattle.trace_model.specs.Ring.{Core}
 use Rattle.trace_model.specs.Steps.{pushes, pushes_close, Answer, pushed, refused, with_history_event, with_frame}
 use Rattle.trace_model.specs.Steps.{Exchange}
@@ -16,68 +16,19 @@ use Rattle.text_model.specs.Script.{Script}
 use Rattle.world_model.specs.Lanes.{Lane, FitsKind, lane_with, FrameRun, IsGone, StepsFrame, lacks_to_step, steps_on}
 use Rattle.world_model.specs.Lanes.{FinishesFrame, lacks_to_finish, finishes, PushesFrame, FinishesPushed, WritesFrame}
 use Rattle.line_model.specs.Due.{Situation, situation_after, IsDue}
-use Rattle.line_model.specs.Accounts.{LineFrame, CpuState, IsOwn, frame_after, Does, HasGone, made_after, with_own}
-use Rattle.line_model.specs.Accounts.{IsIdle}
-use Rattle.line_model.specs.Accounts.{new_frame, IsRefused, Begins, refuses_frame, pushes_frame, MayGo, stays_on}
-use Rattle.line_model.specs.Accounts.{is_gone, StepsTop, FinishesTop, finishes_it, WritesWhole, refuses_whole}
+use Rattle.line_model.specs.Accounts.{Stage, resting, searching, closing_fills, asking, off, LineFrame, CpuState, Does}
+use Rattle.line_model.specs.Accounts.{HasGone, made_after, with_own, IsIdle, new_frame, IsRefused, Begins}
+use Rattle.line_model.specs.Accounts.{refuses_frame, pushes_frame, Steps, with_top, StepsTop, FinishesTop, finishes_it, WritesWhole, refuses_whole}
 use Rattle.line_model.specs.Accounts.{writes_it}
 use Rattle.line_model.specs.CallEvents.{IsRecordOnTop}
 use Rattle.line_model.specs.LineParts.{AreForRecords}
 use Rattle.line_model.proofs.Standing.{FramesStand, Stands, AreDue, IsFresh, StaysOrGoes, TopDoes}
+use Rattle.line_model.proofs.StepDoes.{idle_of, gone_with}
 use Rattle.line_model.proofs.TopsDo.{tops_do}
 use Rattle.line_model.proofs.StandingKept.{no_lines, some_lines, frames_count, BeginsNone, run_acts}
 use Rattle.line_model.proofs.PushCases.{PushCases, is_pushed, is_refused, Refuses, record_push, close_push}
 use Rattle.line_model.proofs.RecordsStand.{HasRecords}
 use Rattle.line_model.proofs.ReaderStands.{PartStands, none_due, more_due}
-
--- ---- what a frame does, whether it has made a step
-
-module _ (below : List LineFrame) where
-  abbrev with_stepped : Bool → LineFrame → LineFrame
-  with_stepped made frame = record frame { stepped = made }
-
-  own_with : (made other : Bool) (frame : LineFrame) (event : RingEvent)
-      → IsOwn below (with_stepped made frame) event
-      → IsOwn below (with_stepped other frame) event
-  own_with made other frame (acts (push moment len)) own = own
-  own_with made other frame (acts push_close) own = own
-  own_with made other frame (acts open_fill) own = own
-  own_with made other frame (acts reserve) own = own
-  own_with made other frame (acts (leave None)) own = own
-  own_with made other frame (acts (leave (Some bytes))) own = own
-  own_with made other frame (acts wished) own = own
-  own_with made other frame closes own = own
-  own_with made other frame takes own = own
-  own_with made other frame loses own = own
-
-  after_with : (made : Bool) (frame : LineFrame) (event : RingEvent)
-      → frame_after (with_stepped made frame) event ≡ with_stepped made (frame_after frame event)
-  after_with made frame (acts (push moment len)) = refl
-  after_with made frame (acts push_close) = refl
-  after_with made frame (acts open_fill) = refl
-  after_with made frame (acts reserve) = refl
-  after_with made frame (acts (leave payload)) = refl
-  after_with made frame (acts wished) = refl
-  after_with made frame closes = refl
-  after_with made frame takes = refl
-  after_with made frame loses = refl
-
-  does_with : (made other : Bool) (own : List RingEvent) (frame next : LineFrame)
-      → Does below (with_stepped made frame) own next
-      → Does below (with_stepped other frame) own (with_stepped other next)
-  does_with made other [] frame next same = ap (with_stepped other) same
-  does_with made other (event ∷ own) frame next does = (
-    own_with made other frame event does.0,
-    subst (λ (f : LineFrame). Does below f own (with_stepped other next)) (sym (after_with other frame event))
-        (does_with made other own (frame_after frame event) next
-        (subst (λ (f : LineFrame). Does below f own next) (after_with made frame event) does.1)),
-  )
-
-  gone_with : (other : Bool) (s : Situation) (frame : LineFrame)
-      → HasGone s below frame
-      → HasGone s below (with_stepped other frame)
-  gone_with other s frame gone =
-      (gone.0, λ event own due. gone.1 event (own_with other frame.stepped frame event own) due)
 
 -- ---- a push
 
@@ -105,7 +56,7 @@ module _ (script : Script) (lane : Lane) (state : CpuState) (stands : Stands scr
       record {
         unwritten = λ not. refl;
         has_left = λ e. cc;
-        fresh = λ e. (refl, refl);
+        stage = refl;
         moving = λ o e. cc;
       },
       stands.frames,
@@ -217,7 +168,7 @@ module _ (script : Script) (lane : Lane) (state : CpuState) (stands : Stands scr
 
   -- ---- the frame on top
 
-  -- a frame that has made no step, or is a record frame, has noted no fill for a close frame
+  -- a frame that rests, or is a record frame, has noted no fill for a close frame
   records_fresh : (frames : List Frame) (frame : Frame) (below : List Frame)
       → AreForRecords frames
       → frames ≡ frame ∷ below
@@ -226,27 +177,28 @@ module _ (script : Script) (lane : Lane) (state : CpuState) (stands : Stands scr
       let ((moment, len, is), rest) = subst AreForRecords at are in
       let both : for_record moment len ≡ for_close = sym is ∙ closing in cc
 
-  unstepped_idle : (frame : Frame) (under : List Frame) (payloads : List (List ℕ)) (top : LineFrame)
+  resting_idle : (frame : Frame) (under : List Frame) (payloads : List (List ℕ)) (top : LineFrame)
       (below : List LineFrame)
       → FramesStand (frame ∷ under) payloads (top ∷ below)
-      → top.stepped ≡ false
+      → top.stage ≡ resting
       → frame.phase ≡ idle
-  unstepped_idle frame under [] top below stand none = absurd stand
-  unstepped_idle frame under (payload ∷ payloads) top below stand none = (stand.0.fresh none).1
+  resting_idle frame under [] top below stand rests = absurd stand
+  resting_idle frame under (payload ∷ payloads) top below stand rests =
+      idle_of frame.phase (sym stand.0.stage ∙ rests)
 
   record_fresh : HasRecords lane → IsFresh lane.core
   record_fresh are = λ frame below o at closing waits noted.
       absurd (records_fresh lane.core.frames frame below are at closing)
 
-  unstepped_fresh : (top : LineFrame) (below : List LineFrame)
+  resting_fresh : (top : LineFrame) (below : List LineFrame)
       → state.frames ≡ top ∷ below
-      → top.stepped ≡ false
+      → top.stage ≡ resting
       → IsFresh lane.core
-  unstepped_fresh top below is none = λ frame under o at closing waits noted.
+  resting_fresh top below is none = λ frame under o at closing waits noted.
       (let stand : FramesStand (frame ∷ under) lane.payloads (top ∷ below) =
       subst (λ (frames : List Frame). FramesStand frames lane.payloads (top ∷ below)) at
       (subst (λ (lines : List LineFrame). FramesStand lane.core.frames lane.payloads lines) is stands.frames) in
-      let phase = unstepped_idle frame under lane.payloads top below stand none in
+      let phase = resting_idle frame under lane.payloads top below stand none in
       let both : None ≡ Some o = ap noted_fill (sym phase) ∙ noted in cc)
 
   record_on_top : (frames : List Frame) → frames ≢ [] → AreForRecords frames → IsRecordOnTop frames
@@ -256,26 +208,24 @@ module _ (script : Script) (lane : Lane) (state : CpuState) (stands : Stands scr
 
   -- `s`
   pub steps_stand : (count : ℕ) (next : Lane) (xs : List Exchange)
-      → 1 ≤ count
       → HasRecords lane
       → StepsFrame script.pages script.size count lane xs next
       → PartStands script (StepsTop script count) state next
-  steps_stand count next xs least are (lacks_to_step h) =
+  steps_stand count next xs are (lacks_to_step h) =
       idle_stands (StepsTop script count) next h.stays
       (λ idle. StepsTop.lacks_to_step (no_lines lane.core.frames lane.payloads state.frames stands.frames h.none) idle)
-  steps_stand count next xs least are (steps_on some run stop) =
+  steps_stand count next xs are (steps_on some run stop) =
       let (top, below, is) = some_lines lane.core.frames lane.payloads state.frames stands.frames some in
       by_top top below is (tops_do script lane state top below xs next stands is (record_fresh are) run)
     where
-      has_some : xs ≢ []
-      has_some none =
-          let same : lane ≡ next =
-          subst (λ (l : List Exchange). FrameRun script.pages script.size (length lane.core.frames) lane l next) none
-          run in
-          let long = ap (λ (l : Lane). length l.core.frames) same in
-          let made = ap (λ (l : List Exchange). length l) none in
-          ⊎_elim (λ all. (let no : ⊥ = omega (arith, all, made, least) in no))
-          (λ less. (let no : ⊥ = omega (arith, less, long) in no)) stop.1
+      on_stack : (stage : Stage) (frame : LineFrame) (below : List LineFrame)
+          → stage ≢ off
+          → frame ∷ below ≡ with_top stage frame below
+      on_stack resting frame below on = refl
+      on_stack searching frame below on = refl
+      on_stack closing_fills frame below on = refl
+      on_stack asking frame below on = refl
+      on_stack off frame below on = absurd (on refl)
 
       by_top : (top : LineFrame) (below : List LineFrame)
           → state.frames ≡ top ∷ below
@@ -283,32 +233,26 @@ module _ (script : Script) (lane : Lane) (state : CpuState) (stands : Stands scr
           → PartStands script (StepsTop script count) state next
       by_top top below is d = by_end d.ends
         where
-          on_top : IsRecordOnTop lane.core.frames
-          on_top = record_on_top lane.core.frames some are
-
-          few : length (history_events_of d.own) ≤ count
-          few = let short = d.few on_top in
-              let made = stop.0 in omega (arith, short, made)
-
-          makes : (after : CpuState)
-              → MayGo (situation_after script state.wish (state.events ++ d.own)) state d.own below d.next after
-              → StepsTop script count state d.own after
-          makes after may =
-              StepsTop.steps_on top d.next below is few (λ fresh spare. d.first on_top has_some fresh spare) d.does may
+          steps : Steps script state.wish below (length xs) state.events top d.own d.next
+          steps = d.steps (record_on_top lane.core.frames some are)
 
           by_end : StaysOrGoes script lane state d.own d.next below next
               → PartStands script (StepsTop script count) state next
-          by_end (inl (there, deep, again)) = record {
-            own = d.own;
-            after = with_own state d.own (d.next ∷ below);
-            part = makes _ (stays_on there refl);
-            due = d.due;
-            stands = again;
-          }
-          by_end (inr (gone, less, again)) = record {
+          by_end (inl (there, on, deep, again)) =
+              let all : length xs ≡ count =
+              ⊎_elim (λ same. same) (λ gone. absurd (let no : ⊥ = omega (arith, gone, deep) in no)) stop.1 in record {
+                own = d.own;
+                after = with_own state d.own (d.next ∷ below);
+                part = StepsTop.steps_on (length xs) top d.next below is stop.0 (inl all) steps
+                    (ap (with_own state d.own) (on_stack d.next.stage d.next below on));
+                due = d.due;
+                stands = again;
+              }
+          by_end (inr (gone, is_off, less, again)) = record {
             own = d.own;
             after = with_own state d.own below;
-            part = makes _ (is_gone gone refl);
+            part = StepsTop.steps_on (length xs) top d.next below is stop.0 (inr is_off) steps
+                (ap (λ (stage : Stage). with_own state d.own (with_top stage d.next below)) (sym is_off));
             due = d.due;
             stands = again;
           }
@@ -334,13 +278,13 @@ module _ (script : Script) (lane : Lane) (state : CpuState) (stands : Stands scr
       d = tops_do script lane state top below xs next stands is fresh run
 
       by_end : StaysOrGoes script lane state d.own d.next below next → Goes top below next
-      by_end (inl (there, deep, again)) = absurd (let no : ⊥ = omega (arith, deep, ended) in no)
-      by_end (inr (gone, less, again)) = record {
+      by_end (inl (there, on, deep, again)) = absurd (let no : ⊥ = omega (arith, deep, ended) in no)
+      by_end (inr (gone, is_off, less, again)) = record {
         own = d.own;
-        last = with_stepped below top.stepped d.next;
-        does = does_with below true top.stepped d.own top d.next d.does;
+        last = record d.next { stage = top.stage };
+        does = d.does;
         due = d.due;
-        gone = gone_with below top.stepped (situation_after script state.wish (state.events ++ d.own)) d.next gone;
+        gone = gone_with below top.stage (situation_after script state.wish (state.events ++ d.own)) d.next gone;
         again = again;
       }
 
@@ -401,7 +345,7 @@ module _ (script : Script) (lane : Lane) (state : CpuState) (stands : Stands scr
         absurd (let no : ⊥ = omega (arith, count, none) in no)
     finished (finishes some run ended) =
         wholly (goes_away script between pushed_state pushed_so (new_frame payload) state.frames next rest refl
-        (unstepped_fresh script between pushed_state pushed_so (new_frame payload) state.frames refl refl) run ended)
+        (resting_fresh script between pushed_state pushed_so (new_frame payload) state.frames refl refl) run ended)
 
   writes_stand : (Refused : Type 0) (between next : Lane) (answer : Answer) (rest : List Exchange)
       → PushStands script lane state stands Refused event payload answer between

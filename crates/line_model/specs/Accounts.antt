@@ -1,26 +1,33 @@
 -- What the lines of a script do to one CPU, by events of its ring alone: each line adds events of its own, of its frame
 -- or of the reader, and each of them is due. docs/MODEL.md, "What is printed, by histories alone"; tools/account
 -- computes it.
-use Rattle.std.specs.Prelude.{◌≡◌, ◌≢◌, ℕ, suc, ◌+◌, ◌<◌, ◌≤◌, ◌⊎◌, nat_lt, Bool, true, false, if◌then◌else◌, fold}
+use Rattle.std.specs.Prelude.{◌≡◌, ◌≢◌, ℕ, zero, suc, ◌+◌, ◌<◌, ◌≤◌, ◌⊎◌, nat_lt, ◌==◌, Bool, true, false}
+use Rattle.std.specs.Prelude.{if◌then◌else◌, fold}
 use Rattle.std.specs.Prelude.{List, [], ◌∷◌, ◌++◌, length, Option, Some, None, Contains}
 use Rattle.std.specs.List.{slice_get}
 use Rattle.trace_model.specs.declared.limits.TheConstants.{MAX_FRAMES, MOMENT_LIMIT}
 use Rattle.trace_model.specs.Words.{padded, encoded_len}
 use Rattle.trace_model.specs.History.{HistoryEvent, push, push_close, open_fill, reserve, leave, wished}
-use Rattle.trace_model.specs.Window.{RingEvent, acts, closes, takes, loses, history_events_of}
+use Rattle.trace_model.specs.Window.{Window, RingEvent, acts, closes, takes, loses}
 use Rattle.text_model.specs.Script.{Command, begin_frame, step_frame, finish_frame, write, close, step_reader}
 use Rattle.text_model.specs.Script.{take_page, wish, deliver, Script}
-use Rattle.line_model.specs.Due.{Situation, situation_after, window_at, IsFillNeeded, IsDue}
+use Rattle.line_model.specs.Due.{Situation, situation_after, window_at, IsFillNeeded, HasNoFill, IsWishToFind, IsDue}
 
 -- ---- one CPU between two lines
 
+-- What the next step of a frame may be. resting: it reserves its record or leaves, if it needs no fill or can have
+-- none. searching: it has found that it needs one, and is to move the head or to begin the fill, in a number of steps
+-- that isn't said here. closing_fills: it closes one. asking: none was left to close, and it looks for the reader's wish.
+-- off: it makes no step, and is off the stack.
+pub data Stage : Type 0 where
+  resting searching closing_fills asking off : Stage
+
 -- A frame on the stack. payload: what its line writes, until it has left (of a close frame an empty one, which isn't
--- written). Only a bottom frame is still there then, to close fills, and for the reader's wish. stepped: an `s` line
--- has had it make steps. losing: the last thing that it did was to lose a fill, so its move of the head may not be
--- over.
+-- written). Only a bottom frame is still there then, to close fills, and for the reader's wish. losing: the last thing
+-- that it did was to lose a fill, so its move of the head may not be over.
 pub record LineFrame : Type 0 where
   pub payload : Option (List ℕ)
-  pub stepped : Bool
+  pub stage : Stage
   pub losing : Bool
 
 -- events: what was done to the ring so far, in one order. frames: the stack, the top first. seen: the reader knows the
@@ -100,7 +107,7 @@ IsIdle before own after = (own ≡ []) × (after ≡ before)
 
 -- a frame that was just pushed, for this payload
 abbrev pub new_frame : List ℕ → LineFrame
-new_frame payload = record { payload = Some payload; stepped = false; losing = false }
+new_frame payload = record { payload = Some payload; stage = resting; losing = false }
 
 -- A record frame is refused: the stack is full, its record is too long, or its moment is too late.
 abbrev pub IsRefused : (size moment len : ℕ) → List LineFrame → Type 0
@@ -117,26 +124,75 @@ pub data Begins (Refused : Type 0) (event : HistoryEvent) (payload : List ℕ) (
       → after ≡ with_own before own (new_frame payload ∷ before.frames)
       → Begins Refused event payload before own after
 
--- After these events the frame is still there, if it may be, or is off the stack, if it has gone.
-pub data MayGo (s : Situation) (before : CpuState) (own : List RingEvent) (below : List LineFrame) (frame : LineFrame)
-    (after : CpuState)
-    : Type 0 where
-  stays_on : IsThere below frame → after ≡ with_own before own (frame ∷ below) → MayGo s before own below frame after
-  is_gone : HasGone s below frame → after ≡ with_own before own below → MayGo s before own below frame after
+-- ---- `s`: the steps of the frame on top
 
--- `s`: the frame on top adds at most this many history events. If it has made no step, and needs no fill, it reserves
--- first.
+-- the stage of a frame that doesn't search, with these frames below it
+abbrev pub at_rest : Window → (below : List LineFrame) → Option (List ℕ) → Stage
+at_rest w below (Some payload) = resting
+at_rest w [] None = if (w.done + 1) == w.opened then asking else closing_fills
+at_rest w (frame ∷ below) None = off
+
+-- its stage after an event, if the window is this one then, and this is its payload
+abbrev pub stage_after : Window → (below : List LineFrame) → Option (List ℕ) → RingEvent → Stage
+stage_after w below payload loses = searching
+stage_after w below payload (acts wished) = searching
+stage_after w below payload _ = at_rest w below payload
+
+-- a step in this stage may make this event
+abbrev pub MayDo : Situation → Stage → RingEvent → Type 0
+MayDo s resting event = IsFillNeeded s → HasNoFill s
+MayDo s searching event = (event ≡ acts open_fill) ⊎ (event ≡ loses)
+MayDo s closing_fills event = event ≡ closes
+MayDo s asking event = event ≡ acts wished
+MayDo s off event = ⊥
+
+-- it may make none, and lead to the other stage: of a search it isn't said when
+abbrev pub MayPass : Situation → (below : List LineFrame) → Option (List ℕ) → Stage → Stage → Type 0
+MayPass s below payload resting next = (next ≡ searching) × IsFillNeeded s × (HasNoFill s → ⊥)
+MayPass s below payload searching next = (next ≡ searching) ⊎ (next ≡ at_rest s.window below payload)
+MayPass s below payload closing_fills next = ⊥
+MayPass s below payload asking next = (IsWishToFind s → ⊥)
+    × (((next ≡ closing_fills) × (s.window.done + 1 < s.window.opened))
+    ⊎ ((next ≡ off) × (s.window.done + 1 ≡ s.window.opened)))
+MayPass s below payload off next = ⊥
+
+-- the frame after an event in one of its steps
+abbrev pub stepped : Window → (below : List LineFrame) → LineFrame → RingEvent → LineFrame
+stepped w below frame event = record (frame_after frame event) {
+  stage = stage_after w below (frame_after frame event).payload event;
+}
+
+-- So many steps of a frame, after these events of its ring, while this is the reader's wish: each makes none or one.
+abbrev pub Steps : Script → (reader_wish : ℕ) → (below : List LineFrame) → (count : ℕ) → (before : List RingEvent)
+    → LineFrame → (own : List RingEvent) → LineFrame → Type 0
+Steps script asked below zero before frame own next = (own ≡ []) × (frame ≡ next)
+Steps script asked below (suc count) before frame own next =
+    ((stage : Stage)
+    × MayPass (situation_after script asked before) below frame.payload frame.stage stage
+    × Steps script asked below count before (record frame { stage = stage }) own next)
+    ⊎ ((event : RingEvent)
+    × (rest : List RingEvent)
+    × (own ≡ event ∷ rest)
+    × IsOwn below frame event
+    × MayDo (situation_after script asked before) frame.stage event
+    × Steps script asked below count (before ++ event ∷ [])
+    (stepped (window_at script.start (before ++ event ∷ [])) below frame event) rest next)
+
+-- the stack, with this frame on top unless it is off
+abbrev pub with_top : Stage → LineFrame → (below : List LineFrame) → List LineFrame
+with_top off frame below = below
+with_top _ frame below = frame ∷ below
+
+-- `s`: the frame on top makes this many steps, or fewer if it is off the stack before
 pub data StepsTop (script : Script) (count : ℕ) (before : CpuState) (own : List RingEvent) (after : CpuState)
     : Type 0 where
   lacks_to_step : before.frames ≡ [] → IsIdle before own after → StepsTop script count before own after
-  steps_on : (top next : LineFrame) (below : List LineFrame)
+  steps_on : (made : ℕ) (top next : LineFrame) (below : List LineFrame)
       → before.frames ≡ top ∷ below
-      → length (history_events_of own) ≤ count
-      → (top.stepped ≡ false
-      → (IsFillNeeded (situation_after script before.wish before.events) → ⊥)
-      → (rest : List RingEvent) × (own ≡ acts reserve ∷ rest))
-      → Does below (record top { stepped = true }) own next
-      → MayGo (situation_after script before.wish (before.events ++ own)) before own below next after
+      → made ≤ count
+      → (made ≡ count) ⊎ (next.stage ≡ off)
+      → Steps script before.wish below made before.events top own next
+      → after ≡ with_own before own (with_top next.stage next below)
       → StepsTop script count before own after
 
 -- `f`: the frame on top does these, and goes

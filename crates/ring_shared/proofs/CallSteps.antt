@@ -1,6 +1,6 @@
 -- A call makes few steps: those of the frame on top stand in a row.
 use Rattle.std.specs.Prelude.{Result, Ok, Err}
-use Rattle.std.proofs.Common.{◌≡◌, ℕ, suc, ◌+◌, ◌≤◌, ◌⊎◌, Bool, true, List, [], ◌∷◌, ◌++◌, length, None, refl, sym, ap}
+use Rattle.std.proofs.Common.{◌≡◌, ℕ, suc, ◌+◌, ◌≤◌, ◌⊎◌, true, List, [], ◌∷◌, ◌++◌, length, None, refl, sym, ap}
 use Rattle.std.proofs.Common.{◌∙◌, subst, arith, inl, inr, length-append}
 use Rattle.std.specs.Prelude.{◌&&◌, ◌==◌}
 use Rattle.std.proofs.lemmas.Bool.{cond-true, eq-eqb}
@@ -292,32 +292,32 @@ pushed_not_refused (fault, e) = cc
 module _ (shape : Shape) (before after : Writing) (moment : ℕ) where
   -- the frame that was pushed, up to its last step
   module _ (pushed : Writing) (len : ℕ) (push : IsCall shape before (model.pushes moment len) Pushed pushed)
-      where
-    abbrev begun : HasBegun moment len before pushed
-    begun = (has_begun shape before pushed moment len Pushed push pushed_not_refused).0
+    where
+      abbrev begun : HasBegun moment len before pushed
+      begun = (has_begun shape before pushed moment len Pushed push pushed_not_refused).0
 
-    abbrev Reserving : Answer → Writing → Type 0
-    Reserving result next = Reserves shape (for_record moment len) before.frames pushed result next
+      abbrev Reserving : Answer → Writing → Type 0
+      Reserving result next = Reserves shape (for_record moment len) before.frames pushed result next
 
-    by_kind : (result : Answer) (next : Writing) → Reserving result next
-        → Reserves shape begun.frame.kind before.frames pushed result next
-    by_kind result next r =
-        subst (λ (k : Purpose). Reserves shape k before.frames pushed result next) (sym begun.kind_is) r
+      by_kind : (result : Answer) (next : Writing) → Reserving result next
+          → Reserves shape begun.frame.kind before.frames pushed result next
+      by_kind result next r =
+          subst (λ (k : Purpose). Reserves shape k before.frames pushed result next) (sym begun.kind_is) r
 
-    pushed_row : (result : Answer) (next : Writing) (frame : Frame) → Reserving result next
-        → next.frames ≡ frame ∷ before.frames → InARow pushed next
-    pushed_row result next frame r above =
-        reserves_row shape begun.frame before.frames pushed begun.top begun.reserves result next (by_kind result next r)
-        frame above
+      pushed_row : (result : Answer) (next : Writing) (frame : Frame) → Reserving result next
+          → next.frames ≡ frame ∷ before.frames → InARow pushed next
+      pushed_row result next frame r above =
+          reserves_row shape begun.frame before.frames pushed begun.top begun.reserves result next (by_kind result next r)
+          frame above
 
-    pushed_few : (result : Answer) (next : Writing) → Reserving result next
-        → MakesAtMost (most_to_finish shape) pushed next
-    pushed_few result next r =
-        reserves_few shape begun.frame before.frames pushed begun.top begun.reserves result next (by_kind result next r)
+      pushed_few : (result : Answer) (next : Writing) → Reserving result next
+          → MakesAtMost (most_to_finish shape) pushed next
+      pushed_few result next r =
+          reserves_few shape begun.frame before.frames pushed begun.top begun.reserves result next (by_kind result next r)
 
-    -- all but its push are no more than `finish_top` makes
-    with_push : MakesAtMost (most_to_finish shape) pushed after → MakesAtMost (most_to_write shape) before after
-    with_push few = let one = one_longer shape before (model.pushes moment len) Pushed pushed push in omega arith
+      -- all but its push are no more than `finish_top` makes
+      with_push : MakesAtMost (most_to_finish shape) pushed after → MakesAtMost (most_to_write shape) before after
+      with_push few = let one = one_longer shape before (model.pushes moment len) Pushed pushed push in omega arith
 
   -- a frame whose record is reserved ends, and goes away
   ends_few : (start held ended : Writing) (payload : List ℕ) (how : How) (t : HasReservedTop held.frames)

@@ -9,7 +9,7 @@ use Rattle.ring_model.specs.Seats.{IsOfReader}
 use Rattle.ring_model.proofs.histories.StepsAsEvents.{counts_rise}
 use Rattle.ring_model.proofs.partition.RingsKept.{reached_kept}
 use Rattle.ring_model.proofs.seats.SeatSteps.{reader_leaves_writer}
-use Rattle.ring_steps.specs.Made.{WriterMade, writer_made, Trace, trace_of, trace_to, is_by_writer, kept_if, by_writer}
+use Rattle.ring_steps.specs.Made.{WriterMade, writer_made, trace_of, trace_to, is_by_writer, kept_if, by_writer}
 use Rattle.ring_steps.specs.Made.{writer_made_of}
 use Rattle.ring_steps.specs.Receipts.{AreInTime}
 use Rattle.ring_steps.specs.Views.{Writing}

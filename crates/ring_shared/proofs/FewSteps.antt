@@ -1,8 +1,8 @@
 -- A frame makes few steps in a row, whatever the reader does in between; and so a call makes few.
-use Rattle.std.proofs.Common.{◌≡◌, ℕ, suc, ◌+◌, ◌*◌, ◌≤◌, Bool, true, false, List, [], ◌∷◌, ◌++◌, length, None, refl, sym}
-use Rattle.std.proofs.Common.{ap, ◌∙◌, subst, arith}
-use Rattle.std.specs.Prelude.{if◌then◌else◌, ◌&&◌, ◌==◌}
-use Rattle.std.proofs.lemmas.Bool.{cond_both, cond-true, eqb-true, eq-eqb}
+use Rattle.std.proofs.Common.{◌≡◌, ℕ, suc, ◌+◌, ◌≤◌, Bool, true, false, List, [], ◌∷◌, length, refl}
+use Rattle.std.proofs.Common.{ap, subst, arith}
+use Rattle.std.specs.Prelude.{◌&&◌, ◌==◌}
+use Rattle.std.proofs.lemmas.Bool.{cond_both, eqb-true}
 use Rattle.trace_model.specs.Frames.{Progress, waiting, reserved, left, number_of, Frame}
 use Rattle.trace_model.specs.Ring.{Core}
 use Rattle.trace_model.specs.Steps.{Event, pushes, pushes_close, steps, ends, reads, wishes, Answer, Step, Exchange, Run}
@@ -15,11 +15,9 @@ use Rattle.ring_model.proofs.partition.RingsKept.{reached_kept, reached_further}
 use Rattle.ring_model.proofs.seats.FewSteps.{one_lower}
 use Rattle.ring_model.proofs.seats.SeatSteps.{reader_leaves_writer}
 use Rattle.ring_model.proofs.seats.WriterEnds.{writers_near}
-use Rattle.ring_steps.specs.declared.rule.Shape.{Shape}
 use Rattle.ring_steps.specs.Made.{WriterMade, writer_made, trace_of, is_by_writer, kept_if, made_by}
 use Rattle.ring_steps.specs.Views.{Writing}
-use Rattle.ring_steps.specs.Paging.{IsWriterReached}
-use Rattle.ring_shared.specs.FewSteps.{brings_on, brings_top_on, row_after, row_from, steps_in_a_row, FramesMakeFewSteps}
+use Rattle.ring_shared.specs.FewSteps.{brings_on, brings_top_on, row_from, steps_in_a_row, FramesMakeFewSteps}
 
 -- ---- which steps are counted
 

@@ -1,13 +1,13 @@
 -- In one run, what the writer had made when it gave a receipt is before what the reader did once it had learned it.
-use Rattle.std.proofs.Common.{◌≡◌, ℕ, ◌≤◌, Bool, true, false, List, [], ◌∷◌, ◌++◌, length, refl, sym, ap, ◌∙◌, subst}
+use Rattle.std.proofs.Common.{◌≡◌, ◌≤◌, Bool, true, false, List, [], ◌∷◌, ◌++◌, length, refl, sym, ap, ◌∙◌}
 use Rattle.std.proofs.Common.{arith, append_assoc}
 use Rattle.trace_model.specs.Ring.{Core}
 use Rattle.trace_model.specs.Steps.{Event, Exchange}
 use Rattle.ring_steps.specs.Made.{WriterMade, ReaderMade, writer_made, reader_made, Trace, trace_of, is_by_writer}
-use Rattle.ring_steps.specs.Made.{is_by_reader, kept_if, made_by, by_writer, by_reader}
+use Rattle.ring_steps.specs.Made.{is_by_reader, kept_if, made_by, by_reader}
 use Rattle.ring_steps.proofs.Made.{made_append}
 use Rattle.ring_steps.proofs.InTime.{lesson_at}
-use Rattle.ring_shared.specs.Receipts.{StandsBefore, WhatReturnedStandsBefore}
+use Rattle.ring_shared.specs.Receipts.{WhatReturnedStandsBefore}
 
 -- ---- where a step of one end is
 

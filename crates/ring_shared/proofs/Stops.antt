@@ -1,18 +1,17 @@
 -- The two ends of a ring, joined at any moment.
-use Rattle.std.proofs.Common.{◌≡◌, ℕ, ◌+◌, List, [], ◌++◌, length, take, drop, map, refl, sym, ap, ◌∙◌, subst, arith}
+use Rattle.std.proofs.Common.{◌≡◌, ℕ, ◌+◌, List, [], ◌++◌, length, take, drop, map, sym, ap, ◌∙◌, subst}
 use Rattle.std.proofs.lemmas.List.{take-append-drop, map-append, drop_all}
 use Rattle.trace_model.specs.Record.{Record}
 use Rattle.trace_model.specs.History.{HistoryEvent, Reservation, writer_after, reserved_records, settled_prefix}
 use Rattle.trace_model.specs.History.{as_record, committed_records}
 use Rattle.trace_model.specs.Packing.{first_of_fill}
 use Rattle.trace_model.specs.Partition.{IsPartition}
-use Rattle.trace_model.specs.Frames.{Frame, pushed_frames}
+use Rattle.trace_model.specs.Frames.{pushed_frames}
 use Rattle.trace_model.specs.Ring.{Reader, Core, AreFillsOf}
 use Rattle.trace_model.proofs.histories.NextEvent.{settled_at_rest}
 use Rattle.trace_model.proofs.histories.Committed.{committed_prefix, committed_len-settled}
 use Rattle.ring_model.specs.KeptPartition.{pieces_of}
 use Rattle.ring_model.specs.RingKept.{IsRingKept}
-use Rattle.ring_model.specs.HistoryLaws.{IsRest}
 use Rattle.ring_model.proofs.partition.RingsKept.{reached_kept}
 use Rattle.ring_model.proofs.partition.UnreadRest.{rest_is_unread}
 use Rattle.ring_steps.specs.declared.rule.Shape.{Shape}

@@ -8,7 +8,7 @@ ghost use Rattle.ring_shared.specs.Takes.{IsReader, SameRing};
 
 use nested_writer::{Ended, WriteFault};
 use page_image::Body;
-use ring_shared::{Answer, Reader, SettleFault, Settled, Take, Writer, ring, settle};
+use ring_shared::{Answer, Reader, SettleFault, Settled, Take, Writer, ring, settle, stop};
 use std::alloc::Global;
 use std::process::Abort;
 use std::test::Fail;
@@ -125,5 +125,18 @@ fn a_closed_page_is_taken(rt: HostRuntime) -> Result<(), Fail> {
         Err(SettleFault::NoMemory(_, _)) => return Err(Fail::new("no memory")),
     };
     assert!(rt; settled.unread().map(|page| page.first()) == Some(RecordNo(2)));
+    Ok(())
+}
+
+/// Both ends are joined with a page unread, amid a record.
+#[test]
+fn two_ends_stop_at_any_moment(rt: HostRuntime) -> Result<(), Fail> {
+    let (mut writer, mut reader) = ring(rt.alloc(), 2, 32)?;
+    write_nested(&rt, &mut writer)?;
+    close(&rt, &mut writer)?;
+    take_closed(&rt, rt.alloc(), &mut reader)?;
+    close(&rt, &mut writer)?;
+    reserve(&mut writer, 40, 4)?;
+    stop(writer, reader);
     Ok(())
 }

@@ -1,2 +1,3 @@
+pub mod Chains
 mod Digits
 mod Written

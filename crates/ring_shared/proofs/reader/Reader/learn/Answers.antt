@@ -1,8 +1,4 @@
-use Rattle.std.proofs.Common.{ap, ◌∙◌, subst}
-use Rattle.ring_steps.specs.Made.{WriterMade}
 use Rattle.ring_steps.specs.Ends.{reader_table, reading_in}
-use Rattle.ring_steps.specs.Views.{with_lesson}
-use Rattle.ring_shared.specs.Value.{ReaderValue}
 use Rattle.ring_shared.specs.contracts.reader.Reader.{the_view}
 use Rattle.ring_shared.proofs.Learning.{learns}
 use Rattle.ring_shared.proofs.reader.Reader.learn.Goals as goal

@@ -1,5 +1,4 @@
-use Rattle.std.proofs.Common.{List, ap, ◌∙◌}
-use Rattle.ring_steps.specs.Made.{WriterMade}
+use Rattle.std.proofs.Common.{ap, ◌∙◌}
 use Rattle.ring_steps.specs.Views.{Writing}
 use Rattle.ring_shared.specs.Value.{WriterValue}
 use Rattle.ring_shared.specs.Calls.{IsWriter}
