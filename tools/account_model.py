@@ -165,7 +165,7 @@ def is_due(s, event):
 
 class LineFrame(NamedTuple):
     payload: Optional[bytes]
-    stepped: bool
+    stage: str
     losing: bool
 
 
@@ -258,7 +258,7 @@ def is_idle(before):
 
 
 def new_frame(payload):
-    return LineFrame(payload, stepped=False, losing=False)
+    return LineFrame(payload, stage="resting", losing=False)
 
 
 def is_refused(size, moment, length, frames):
@@ -276,11 +276,66 @@ def begins(refused, event, payload, before):
         yield (event,), with_own(before, (event,), (new_frame(payload), *before.frames))
 
 
-def may_go(s, before, own, below, frame):
-    if clause("may go: stays if it is there", is_there(below, frame)):
-        yield own, with_own(before, own, (frame, *below))
-    if clause("may go: goes if it has gone", has_gone(s, below, frame)):
-        yield own, with_own(before, own, below)
+# ---- `s`: the steps of the frame on top
+
+
+def at_rest(w, below, payload):
+    if payload is not None:
+        return "resting"
+    if below:
+        return "off"
+    return "asking" if clause("at rest: none is left to close", w.done + 1 == w.opened) else "closing_fills"
+
+
+def stage_after(w, below, payload, event):
+    searches = choice("stage after: loses", event == LOSES) or choice("stage after: wished", event == WISHED)
+    return "searching" if searches else at_rest(w, below, payload)
+
+
+def may_do(s, stage, event):
+    if stage == "resting":
+        return clause("may do: resting, if it needs no fill or has none", not is_fill_needed(s) or has_no_fill(s))
+    if stage == "searching":
+        return choice("may do: searching, begins a fill", event == OPEN_FILL) or choice(
+            "may do: searching, loses a fill", event == LOSES
+        )
+    if stage == "closing_fills":
+        return clause("may do: closing, closes", event == CLOSES)
+    return clause("may do: asking, finds the wish", event == WISHED)
+
+
+def may_pass(s, below, payload, stage):
+    """The stages to which a step without an event may lead."""
+    if stage == "resting":
+        needs = clause("may pass: resting, needs a fill", is_fill_needed(s))
+        if needs and clause("may pass: resting, can have one", not has_no_fill(s)):
+            yield "searching"
+    elif stage == "searching":
+        if choice("may pass: searching, goes on", True):
+            yield "searching"
+        if choice("may pass: searching, rests", True):
+            yield at_rest(s.window, below, payload)
+    elif stage == "asking" and clause("may pass: asking, finds no wish", not is_wish_to_find(s)):
+        if clause("may pass: asking, more are to close", s.window.done + 1 < s.window.opened):
+            yield "closing_fills"
+        if clause("may pass: asking, none is to close", s.window.done + 1 == s.window.opened):
+            yield "off"
+
+
+def stepped(w, below, frame, event):
+    after = frame_after(frame, event)
+    return after._replace(stage=stage_after(w, below, after.payload, event))
+
+
+def one_step(script, asked, below, ring, frame):
+    """All that one step of the frame may do: its events, those of the ring then, and the frame then."""
+    s = situation_after(script, asked, ring)
+    for stage in dict.fromkeys(may_pass(s, below, frame.payload, frame.stage)):
+        yield (), ring, frame._replace(stage=stage)
+    for event in events_for(frame):
+        if is_own(below, frame, event) and may_do(s, frame.stage, event) and is_due(s, event):
+            after = ring.then(event)
+            yield (event,), after, stepped(after.window, below, frame, event)
 
 
 def steps_top(script, count, before):
@@ -288,14 +343,20 @@ def steps_top(script, count, before):
         yield from is_idle(before)
         return
     top, *below = before.frames
-    below, s_before = tuple(below), situation_after(script, before.wish, before.events)
-    is_first = clause("steps top: has made no step", not top.stepped)
-    fits = clause("steps top: needs no page", not is_fill_needed(s_before))
-    for own, after in does(script, before, (), below, top._replace(stepped=True)):
-        few = clause("steps top: so many at most", len(history_events_of(own)) <= count)
-        if few and clause("steps top: reserves first", not (is_first and fits) or own[:1] == (RESERVE,)):
-            s = situation_after(script, before.wish, before.events.then_all(own))
-            yield from may_go(s, before, own, below, after)
+    below, on_stack = tuple(below), {((), before.events, top): None}
+    for _ in range(count):
+        found = {}
+        for own, ring, frame in on_stack:
+            for event, after, moved in one_step(script, before.wish, below, ring, frame):
+                if moved.stage == "off":
+                    yield (*own, *event), with_own(before, (*own, *event), below)
+                elif not is_enough(found):
+                    found[(*own, *event), after, moved] = None
+        on_stack = found
+        if not on_stack:
+            return
+    for own, _, frame in on_stack:
+        yield own, with_own(before, own, (frame, *below))
 
 
 def finishes_top(script, before):

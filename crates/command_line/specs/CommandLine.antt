@@ -26,13 +26,18 @@ option_rule name = record (new_rule name) { long = Some name; action = Some Set 
 abbrev pub values_rule : Text → Rule
 values_rule name = record (new_rule name) { required = true; action = Some Append }
 
--- the program with its three commands that carry out a script: `replay`, which takes `--log`, `run` and `steps`
+-- the program with its first command, `replay`, which takes `--log`
+abbrev pub first_command : App
+first_command =
+    let replay = with_rule (new_app (codes "replay")) (flag_rule (codes "log")) in
+    with_subcommand (new_app (codes "tracering")) replay.top
+
+-- and with the two others that carry out a script, `run` and `steps`
 abbrev pub script_commands : App
 script_commands =
-    let replay = with_rule (new_app (codes "replay")) (flag_rule (codes "log")) in
     let run = new_app (codes "run") in
     let steps = new_app (codes "steps") in
-    with_subcommand (with_subcommand (with_subcommand (new_app (codes "tracering")) replay.top) run.top) steps.top
+    with_subcommand (with_subcommand first_command run.top) steps.top
 
 -- and with its fourth command, `dump`
 abbrev pub image_commands : App
@@ -40,13 +45,17 @@ image_commands =
     let dump = new_app (codes "dump") in
     with_subcommand script_commands dump.top
 
--- the command `collect`, with its options and its flags
-abbrev pub collect_options : App
-collect_options =
+-- the command `collect`, with what says how its files are read
+abbrev pub reading_options : App
+reading_options =
     let paged = with_rule (new_app (codes "collect")) (option_rule (codes "page")) in
     let named = with_rule paged (flag_rule (codes "names")) in
-    let formed = with_rule named (option_rule (codes "formats")) in
-    let kept = with_rule (with_rule formed (flag_rule (codes "json"))) (option_rule (codes "keep")) in
+    with_rule named (option_rule (codes "formats"))
+
+-- and with its other options and flags
+abbrev pub collect_options : App
+collect_options =
+    let kept = with_rule (with_rule reading_options (flag_rule (codes "json"))) (option_rule (codes "keep")) in
     with_rule kept (flag_rule (codes "parcels"))
 
 -- and with its files

@@ -2,12 +2,14 @@
 ghost use Rattle.std.specs.Prelude.{◌≡◌, ◌≢◌, ◌⊎◌, ℕ, List, ◌∷◌, [], map, codes, Some, None, Ok, Err, IfOk, IfSome};
 ghost use Rattle.std.specs.Prelude.{true, false};
 ghost use Rattle.clap.specs.declared.builder.command.Command.TheViews.{out-Command as fields_of};
-ghost use Rattle.clap.specs.Words.{HasMatchesOf, Text, app_of, subcommand_name_of, subcommand_rows_of, with_rule};
+ghost use Rattle.clap.specs.Words.{HasMatchesOf, Text, app_of, new_app, subcommand_name_of, subcommand_rows_of};
+ghost use Rattle.clap.specs.Words.{with_rule, with_subcommand};
 ghost use Rattle.command_line.specs.Calls.{IsAsked, IsAskedToRecover, IsInRange};
 ghost use Rattle.command_line.specs.declared.call.CollectCall.{CollectCall};
-ghost use Rattle.command_line.specs.CommandLine.{HasSource, IsAccepted, IsCallOf, IsParseOf, collect_commands};
-ghost use Rattle.command_line.specs.CommandLine.{collect_options, command_line, flag_rule, flag_text, image_commands};
-ghost use Rattle.command_line.specs.CommandLine.{is_version, name_of, option_rule, recover_command, script_commands};
+ghost use Rattle.command_line.specs.CommandLine.{HasSource, IsAccepted, IsCallOf, IsParseOf, collect_command};
+ghost use Rattle.command_line.specs.CommandLine.{collect_commands, collect_options, command_line, first_command};
+ghost use Rattle.command_line.specs.CommandLine.{flag_rule, flag_text, image_commands, is_version, name_of};
+ghost use Rattle.command_line.specs.CommandLine.{option_rule, reading_options, recover_command, script_commands};
 ghost use Rattle.command_line.specs.CommandLine.{values_rule};
 
 use crate::call::{Call, CallFault};
@@ -64,23 +66,52 @@ fn with_values<'a>(
     command.arg(values)
 }
 
-/// The program with its three commands that carry out a script, of which `replay` takes `--log`.
+/// The program with one command more, of this name, which takes no words.
+fn with_command<'a>(
+    alloc: Global,
+    program: Command<'a>,
+    name: &'a str,
+) -> Result<Command<'a>, AllocError>
+    ensures { IfOk result (λ more.
+        app_of more ≡ with_subcommand (app_of program.entry) (new_app name.entry.now).top) }
+{
+    program.subcommand(Command::new(alloc, name))
+}
+
+// What follows makes the program command by command. A `?` costs its proof least where few values are held, so each
+// function has few of both.
+
+/// The program with its first command, `replay`, which takes `--log`.
+fn replay_program<'a>(alloc: Global) -> Result<Command<'a>, AllocError>
+    ensures { IfOk result (λ program. app_of program ≡ first_command) }
+{
+    let replay = with_flag(alloc, Command::new(alloc, "replay"), "log")?;
+    Command::new(alloc, "tracering").subcommand(replay)
+}
+
+/// The program with its three commands that carry out a script.
 fn script_program<'a>(alloc: Global) -> Result<Command<'a>, AllocError>
     ensures { IfOk result (λ program. app_of program ≡ script_commands) }
 {
-    let replay = with_flag(alloc, Command::new(alloc, "replay"), "log")?;
-    let run = Command::new(alloc, "run");
-    let steps = Command::new(alloc, "steps");
-    let first = Command::new(alloc, "tracering").subcommand(replay)?;
-    first.subcommand(run)?.subcommand(steps)
+    let running = with_command(alloc, replay_program(alloc)?, "run")?;
+    with_command(alloc, running, "steps")
 }
 
 /// The program with `dump` too.
 fn image_program<'a>(alloc: Global) -> Result<Command<'a>, AllocError>
     ensures { IfOk result (λ program. app_of program ≡ image_commands) }
 {
-    let dump = Command::new(alloc, "dump");
-    script_program(alloc)?.subcommand(dump)
+    with_command(alloc, script_program(alloc)?, "dump")
+}
+
+/// The command `collect` with what says how its files are read.
+fn reading_program<'a>(alloc: Global) -> Result<Command<'a>, AllocError>
+    ensures options { IfOk result (λ program. app_of program ≡ reading_options) }
+    ensures local { IfOk result (λ program. (fields_of program).has_globals ≡ false) }
+{
+    let paged = with_option(alloc, Command::new(alloc, "collect"), "page")?;
+    let named = with_flag(alloc, paged, "names")?;
+    with_option(alloc, named, "formats")
 }
 
 /// The command `collect` with its options and flags.
@@ -88,18 +119,24 @@ fn collect_program<'a>(alloc: Global) -> Result<Command<'a>, AllocError>
     ensures options { IfOk result (λ program. app_of program ≡ collect_options) }
     ensures local { IfOk result (λ program. (fields_of program).has_globals ≡ false) }
 {
-    let paged = with_option(alloc, Command::new(alloc, "collect"), "page")?;
-    let named = with_flag(alloc, paged, "names")?;
-    let formed = with_option(alloc, named, "formats")?;
-    let kept = with_option(alloc, with_flag(alloc, formed, "json")?, "keep")?;
+    let formed = with_flag(alloc, reading_program(alloc)?, "json")?;
+    let kept = with_option(alloc, formed, "keep")?;
     with_flag(alloc, kept, "parcels")
+}
+
+/// The command `collect` with its files too.
+fn filed_program<'a>(alloc: Global) -> Result<Command<'a>, AllocError>
+    ensures command { IfOk result (λ program. app_of program ≡ collect_command) }
+    ensures local { IfOk result (λ program. (fields_of program).has_globals ≡ false) }
+{
+    with_values(alloc, collect_program(alloc)?, "file")
 }
 
 /// The program with `collect` too.
 fn collecting_program<'a>(alloc: Global) -> Result<Command<'a>, AllocError>
     ensures { IfOk result (λ program. app_of program ≡ collect_commands) }
 {
-    let collect = with_values(alloc, collect_program(alloc)?, "file")?;
+    let collect = filed_program(alloc)?;
     image_program(alloc)?.subcommand(collect)
 }
 

@@ -32,7 +32,6 @@ use Rattle.ring_shared.proofs.CallsAppend.{calls_append}
 use Rattle.ring_shared.proofs.FewSteps.{frames_make_few_steps}
 use Rattle.ring_shared.proofs.Finishes.{IsStillReserving, reserving_first, reserving_on, reserving_stands}
 use Rattle.ring_shared.proofs.Finishes.{IsStillLeaving, leaving_first, leaving_going}
-use Rattle.ring_shared.proofs.OneRun.{writer_calls_end_runs}
 use Rattle.ring_shared.proofs.WholeWrites.{finishes_top, finished_reserving, finished_leaving, leaves_below, HasBegun, has_begun}
 use Rattle.ring_shared.proofs.WholeWrites.{HasReservedTop, alone_leaves, top_kind}
 
@@ -96,9 +95,6 @@ module _ (shape : Shape) (before : Writing) (event : model.Event) (result : Answ
     (call : IsCall shape before event result after) where
   reached_before : IsWriterReached shape before
   reached_before = record { core = call.core; reached = call.reached; is = call.before_is }
-
-  reached_after : IsWriterReached shape after
-  reached_after = writer_calls_end_runs shape before event result after call
 
   one_longer : length after.made ≡ length before.made + 1
   one_longer =

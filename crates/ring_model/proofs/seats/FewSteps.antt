@@ -24,10 +24,6 @@ use Rattle.ring_model.proofs.seats.WriterEnds.{writer_steps_lower, writer_ends_l
 
 -- ---- who knows more fills to be passed is no further from the end
 
-look_least : (n passed noted : ℕ) → 10 ≤ look_rank n passed noted
-look_least n passed noted =
-    cond_both (nat_lt noted (passed + n)) 10 12 (λ (k : ℕ). 10 ≤ k) (λ _. omega arith) (λ _. omega arith)
-
 look_most : (n passed noted : ℕ) → look_rank n passed noted ≤ 12
 look_most n passed noted =
     cond_both (nat_lt noted (passed + n)) 10 12 (λ (k : ℕ). k ≤ 12) (λ _. omega arith) (λ _. omega arith)
