@@ -1,5 +1,7 @@
 -- What is printed of the damaged pages that are answered.
-use Rattle.std.proofs.Common.{◌≡◌, ◌∙◌, ℕ, List, [], ◌∷◌, ◌++◌, flat_map, refl, ap}
+use Rattle.std.proofs.Common.{◌≡◌, ◌∙◌, ℕ, ◌+◌, ◌<◌, List, [], ◌∷◌, ◌++◌, length, get_or, take, flat_map, refl, ap}
+use Rattle.std.proofs.lemmas.List.{take_more, append-nil}
+use Rattle.std.proofs.lemmas.Grind.{flat_map-append}
 use Rattle.trace_model.specs.Faults.{cut, bad_length, time_overflow}
 use Rattle.trace_model.specs.Image.{ImageCause, too_short, bad_size, bad_count, bad_word}
 use Rattle.text_model.specs.Printing.{image_fault_text}
@@ -37,3 +39,9 @@ all_lines form parts cpu (d ∷ more) (damage ∷ damages) are =
     ap (λ (text : List ℕ). text ++ flat_map (reported_line form parts cpu) more)
     (one_line form parts cpu d damage are.0)
     ∙ ap (λ (text : List ℕ). damage_line form parts cpu damage ++ text) (all_lines form parts cpu more damages are.1)
+
+-- one line more
+pub lines_more : {A : Type 0} (line : A → List ℕ) (pages : List A) (i : ℕ) (none : A) → i < length pages
+    → flat_map line (take i pages) ++ line (get_or pages i none) ≡ flat_map line (take (i + 1) pages)
+lines_more line pages i none below =
+    rw (take_more pages i none below) (simp (flat_map-append, append-nil))

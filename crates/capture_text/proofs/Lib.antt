@@ -1,8 +1,9 @@
 mod Texts
 mod Plain
-mod Chains
 mod Runs
 mod Damages
 mod Prints
 mod Places
 mod Pieces
+mod Events
+mod UnknownLosses

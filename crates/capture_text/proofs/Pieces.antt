@@ -65,3 +65,14 @@ named_pieces text cpu number moment named payload =
     ∙ ap (λ (t : List ℕ). text ++ t)
     (five cpu (space ∷ number) (space ∷ moment) (space ∷ []) (named ++ (space ∷ payload ++ line_feed ∷ []))
     ∙ sym (six cpu (space ∷ number) (space ∷ moment) (space ∷ named) (space ∷ payload) (line_feed ∷ [])))
+
+pub numbers_and_payload : (cpu number moment payload : List ℕ)
+    → (cpu ++ space ∷ number ++ space ∷ moment ++ space ∷ []) ++ payload ++ line_feed ∷ []
+    ≡ cpu ++ space ∷ number ++ space ∷ moment ++ space ∷ payload ++ line_feed ∷ []
+numbers_and_payload cpu number moment payload =
+    ap (λ (front : List ℕ). front ++ line_feed ∷ [])
+    (append_assoc (cpu ++ space ∷ number ++ space ∷ moment) (space ∷ []) payload)
+
+-- two last parts are put together
+pub two_last : (front before last : List ℕ) → front ++ (before ++ last) ≡ front ++ before ++ last
+two_last front before last = sym (append_assoc front before last)

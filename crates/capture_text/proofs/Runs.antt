@@ -17,7 +17,7 @@ use Rattle.text_buffer.specs.Putting.{Puts}
 use Rattle.capture_text.specs.declared.form.Form.{Form}
 use Rattle.capture_text.specs.declared.form.Form.TheVariants.{Text, Json}
 use Rattle.capture_text.specs.Printing.{run_line, run_lines}
-use Rattle.capture_text.proofs.Chains.{put_none, put_more}
+use Rattle.text_buffer.proofs.Chains.{put_none, put_more}
 
 more : (line : ℕ → ℕ × ℕ → List ℕ) (runs : List (List (ℕ × ℕ))) (of_cpu : List (ℕ × ℕ)) (cpu : ℕ) → length runs ≡ cpu
     → flat_map (λ (of : ℕ × List (ℕ × ℕ)). flat_map (line of.0) of.1) (enumerate_from 0 (runs ++ of_cpu ∷ []))

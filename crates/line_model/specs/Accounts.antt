@@ -17,8 +17,8 @@ use Rattle.line_model.specs.Due.{Situation, situation_after, window_at, IsFillNe
 
 -- What the next step of a frame may be. resting: it reserves its record or leaves, if it needs no fill or can have
 -- none. searching: it has found that it needs one, and is to move the head or to begin the fill, in a number of steps
--- that isn't said here. closing_fills: it closes one. asking: none was left to close, and it looks for the reader's wish.
--- off: it makes no step, and is off the stack.
+-- that isn't said here. closing_fills: it closes one. asking: none was left to close, and it looks for the reader's
+-- wish. off: it makes no step, and is off the stack.
 pub data Stage : Type 0 where
   resting searching closing_fills asking off : Stage
 
@@ -138,7 +138,8 @@ stage_after w below payload loses = searching
 stage_after w below payload (acts wished) = searching
 stage_after w below payload _ = at_rest w below payload
 
--- a step in this stage may make this event
+-- A step in this stage makes this event, if that is due and the frame's own: a resting frame that needs a fill, and can
+-- have one, makes none.
 abbrev pub MayDo : Situation → Stage → RingEvent → Type 0
 MayDo s resting event = IsFillNeeded s → HasNoFill s
 MayDo s searching event = (event ≡ acts open_fill) ⊎ (event ≡ loses)
@@ -146,7 +147,9 @@ MayDo s closing_fills event = event ≡ closes
 MayDo s asking event = event ≡ acts wished
 MayDo s off event = ⊥
 
--- it may make none, and lead to the other stage: of a search it isn't said when
+-- Or it makes none, and leads to the stage `next`. A search may go on, or be over if another frame began the fill; in
+-- how many steps it comes to its event isn't said. Who asks, and finds no wish, closes fills that were begun meanwhile,
+-- or is off.
 abbrev pub MayPass : Situation → (below : List LineFrame) → Option (List ℕ) → Stage → Stage → Type 0
 MayPass s below payload resting next = (next ≡ searching) × IsFillNeeded s × (HasNoFill s → ⊥)
 MayPass s below payload searching next = (next ≡ searching) ⊎ (next ≡ at_rest s.window below payload)
@@ -162,7 +165,8 @@ stepped w below frame event = record (frame_after frame event) {
   stage = stage_after w below (frame_after frame event).payload event;
 }
 
--- So many steps of a frame, after these events of its ring, while this is the reader's wish: each makes none or one.
+-- So many steps of a frame, after these events of its ring, while this is the reader's wish. Each makes an event, or
+-- none.
 abbrev pub Steps : Script → (reader_wish : ℕ) → (below : List LineFrame) → (count : ℕ) → (before : List RingEvent)
     → LineFrame → (own : List RingEvent) → LineFrame → Type 0
 Steps script asked below zero before frame own next = (own ≡ []) × (frame ≡ next)

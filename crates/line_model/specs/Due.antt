@@ -1,5 +1,5 @@
 -- What may happen next to the ring of a CPU, by what was done to it so far: the history of its frames and its window.
--- No link and no step of the ring is spoken of. docs/MODEL.md, "What is printed, by histories alone".
+-- No link and no word of the ring is spoken of. docs/MODEL.md, "What is printed, by histories alone".
 use Rattle.std.specs.Prelude.{◌≡◌, ◌≢◌, ℕ, ◌+◌, ◌<◌, ◌≤◌, ◌⊎◌, ⊤, IsTrue, fold, List, [], ◌∷◌, ◌++◌, Option, Some, None}
 use Rattle.trace_model.specs.declared.limits.TheConstants.{LINK_FILLS}
 use Rattle.trace_model.specs.History.{HistoryEvent, push, push_close, open_fill, reserve, leave, wished, PushedFrame}

@@ -116,6 +116,7 @@ what_returned_is_seen shape before after done lesson (k, low, at) found =
     ∙ (ap (λ (l : List WriterMade). l ++ by_writer is.rest) is.has_made
     ∙ append_assoc lesson.made is.others (by_writer is.rest))) in
     let low =
-    done_before shape.pages shape.size shape.start found.known.core r lesson.made (is.others ++ by_writer is.rest) made in
+    done_before shape.pages shape.size shape.start found.known.core r lesson.made (is.others ++ by_writer is.rest)
+    made in
     let all = found.all in
     omega arith

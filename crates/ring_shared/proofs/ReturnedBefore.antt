@@ -71,7 +71,8 @@ parted (x ∷ xs) ys (z ∷ zs) ws e few =
     (more, (λ i. sym same i ∷ zs_are i), ys_are)
 
 pub what_returned_stands_before : WhatReturnedStandsBefore
-what_returned_stands_before shape writing reading run lesson wrote others one read later next (k, low, at) made readers many =
+what_returned_stands_before shape writing reading run lesson wrote others one read later next (k, low, at) made
+    readers many =
     let trace : Trace = trace_of shape.pages shape.size run.from run.exchanges run.last run.run in
     let is = lesson_at trace reading.lessons lesson k low at run.in_time in
     let few = is.few in

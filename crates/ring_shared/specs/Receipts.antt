@@ -5,7 +5,8 @@ use Rattle.atomic_table.specs.Seated.{TableId}
 use Rattle.trace_model.specs.Ring.{Core}
 use Rattle.trace_model.specs.Steps.{Exchange}
 use Rattle.ring_steps.specs.declared.rule.Shape.{Shape}
-use Rattle.ring_steps.specs.Made.{WriterMade, ReaderMade, writer_made, reader_made, Trace, trace_of, by_writer, by_reader}
+use Rattle.ring_steps.specs.Made.{WriterMade, ReaderMade, writer_made, reader_made, Trace, trace_of, by_writer}
+use Rattle.ring_steps.specs.Made.{by_reader}
 use Rattle.ring_steps.specs.Receipts.{Lesson}
 use Rattle.ring_steps.specs.Views.{Writing, Reading}
 use Rattle.ring_shared.specs.Settling.{IsOneRun}
@@ -22,16 +23,16 @@ abbrev pub done_after : (start : ℕ) → List WriterMade → ℕ
 done_after start [] = start
 done_after start (one ∷ made) = done_after one.done made
 
--- If a take finds nothing unread, then whatever the reader has learned to be closed is taken or lost: the number that it
--- answers is no lower.
+-- If a take finds nothing unread, then whatever the reader has learned to be closed is taken or lost: the number that
+-- it answers is no lower.
 abbrev pub WhatReturnedIsSeen : Type 0
 WhatReturnedIsSeen = (shape : Shape) (before after : Reading) (done : ℕ) (lesson : Lesson)
     → Contains before.lessons lesson
     → IsEmptyFound shape before done after
     → done_after shape.start lesson.made ≤ done
 
--- Of what both ends made of a run, this step of the writer, after these earlier ones, is before that step of the reader,
--- after its earlier ones.
+-- Of what both ends made of a run, this step of the writer, after these earlier ones, is before that step of the
+-- reader, after its earlier ones.
 pub record StandsBefore (trace : Trace) (wrote : List WriterMade) (one : WriterMade) (read : List ReaderMade)
     (next : ReaderMade)
     : Type 0 where
@@ -46,11 +47,12 @@ pub record StandsBefore (trace : Trace) (wrote : List WriterMade) (one : WriterM
   pub wrote_are : by_writer front ≡ wrote
   pub read_are : by_reader (front ++ first ∷ between) ≡ read
 
--- In the run of a ring's two ends each step that the writer had made when it gave a receipt is before each step that the
--- reader made after it had learned the receipt.
+-- In the run of a ring's two ends each step that the writer had made when it gave a receipt is before each step that
+-- the reader made after it had learned the receipt.
 abbrev pub WhatReturnedStandsBefore : Type 0
-WhatReturnedStandsBefore = (shape : Shape) (writing : Writing) (reading : Reading) (run : IsOneRun shape writing reading)
-    (lesson : Lesson) (wrote others : List WriterMade) (one : WriterMade) (read later : List ReaderMade) (next : ReaderMade)
+WhatReturnedStandsBefore = (shape : Shape) (writing : Writing) (reading : Reading)
+    (run : IsOneRun shape writing reading) (lesson : Lesson) (wrote others : List WriterMade) (one : WriterMade)
+    (read later : List ReaderMade) (next : ReaderMade)
     → Contains reading.lessons lesson
     → lesson.made ≡ wrote ++ one ∷ others
     → reading.made ≡ read ++ next ∷ later

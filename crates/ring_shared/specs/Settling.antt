@@ -47,8 +47,8 @@ pub record AreEndsOf (writing : Writing) (reading : Reading) (settled : Settled)
   pub reading_is : reading_of_settled settled ≡ reading
 
 -- All that both ends asked of the ring, each end in its own order, with all that it answered, is one run of the model
--- from a new ring: it leads to a state of which these are the two parts. In it what the reader learned is before what it
--- did later.
+-- from a new ring: it leads to a state of which these are the two parts. In it what the reader learned is before what
+-- it did later.
 pub record IsOneRun (shape : Shape) (writing : Writing) (reading : Reading) : Type 0 where
   pub from : Core
   pub exchanges : List Exchange

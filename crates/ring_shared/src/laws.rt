@@ -59,9 +59,9 @@ pub fn takes_are_made()
     ensures { TakesAreMade }
 {}
 
-/// What a writer had done when it gave a receipt is before all that its reader does after it has learned the receipt. So
-/// if a take finds nothing from then on, the number that it answers is no lower than the writer's `done` was; and in the
-/// run of both ends each step of the former is before each of the latter.
+/// What a writer had done when it gave a receipt is before all that its reader does after it has learned the
+/// receipt. So if a take finds nothing from then on, the number that it answers is no lower than the writer's
+/// `done` was; and in the run of both ends each step of the former is before each of the latter.
 pub fn what_returned_is_seen()
     ensures seen { WhatReturnedIsSeen }
     ensures before { WhatReturnedStandsBefore }

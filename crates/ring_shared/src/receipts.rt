@@ -52,9 +52,9 @@ impl Reader {
     ghost use Rattle.ring_steps.specs.Views.{with_lesson};
     ghost use Rattle.ring_shared.specs.Takes.{IsReader, SameRing};
 
-    /// From now on this end knows what its ring's writer had done: in the run of both ends that is before all steps that
-    /// this end makes later. So if a later take answers `Empty`, its number is at least the writer's `done()` when it
-    /// gave the receipt. It costs one load of a word.
+    /// From now on this end knows what its ring's writer had done: in the run of both ends that is before all steps
+    /// that this end makes later. So if a later take answers `Empty`, its number is at least the writer's `done()`
+    /// when it gave the receipt. It costs one load of a word.
     ///
     /// ```
     /// let (mut writer, mut reader): (Writer, Reader) = ring(rt.alloc(), 2, 32)?;

@@ -31,10 +31,10 @@ module _ (shape : Shape) where
   seated_as made all next r head views same seats =
       subst (λ (xs : List WriterMade). AreSeated (writing_of xs next) r head views) (sym same) seats
 
-  -- the writer's step of the word i, to f of what it finds there, by which it has made more than until now; after it the
-  -- writer knows all fills below a number to be passed
-  pub record WriterMoves (now : Writing) (r : Reading) (me : SeatState) (words : List ℕ) (homes : Homes) (i : ℕ) (f : ℕ → ℕ)
-      (reports : ℕ → SeatState → Type 0) : Type 0 where
+  -- the writer's step of the word i, to f of what it finds there, by which it has made more than until now; after it
+  -- the writer knows all fills below a number to be passed
+  pub record WriterMoves (now : Writing) (r : Reading) (me : SeatState) (words : List ℕ) (homes : Homes) (i : ℕ)
+      (f : ℕ → ℕ) (reports : ℕ → SeatState → Type 0) : Type 0 where
     pub next : Core
     pub knows : ℕ
     pub low : knows ≤ next.head

@@ -10,8 +10,8 @@ use Rattle.trace_model.specs.Steps.{Event, Answer, Step}
 use Rattle.ring_model.specs.Reached.{IsReached}
 use Rattle.ring_steps.specs.Made.{WriterMade, ReaderMade, Trace, trace_to, by_writer, by_reader}
 use Rattle.ring_steps.specs.Receipts.{Lesson, IsInTime, AreInTime}
-use Rattle.ring_steps.specs.Views.{Reading, with_lesson, SeatView, laid, whole, writes, reads, saw, joined, spent, IsReceipt}
-use Rattle.ring_steps.specs.Views.{AreReceipts}
+use Rattle.ring_steps.specs.Views.{Reading, with_lesson, SeatView, laid, whole, writes, reads, saw, joined, spent}
+use Rattle.ring_steps.specs.Views.{IsReceipt, AreReceipts}
 use Rattle.ring_steps.proofs.Made.{reached_on, reached_at, trace_on, trace_at}
 
 -- ---- what the reader learned
@@ -33,7 +33,8 @@ in_time_on trace more (one ∷ lessons) (is, are) = (
 
 pub in_time_more : (n size start : ℕ) (c : Core) (event : Event) (answer : Answer) (after : Core)
     (r : IsReached n size start c) (step : Step n size c event answer after) (lessons : List Lesson)
-    → AreInTime (trace_to r) lessons → AreInTime (trace_to (reached_on n size start c event answer after r step)) lessons
+    → AreInTime (trace_to r) lessons
+    → AreInTime (trace_to (reached_on n size start c event answer after r step)) lessons
 in_time_more n size start c event answer after r step lessons are =
     subst (λ (trace : Trace). AreInTime trace lessons)
     (sym (trace_on n size r.from c r.exchanges record { event = event; answer = answer } after r.run step))

@@ -181,8 +181,8 @@ module _ (shape : Shape) (me : SeatState) (is : IsWriting me) (now : Writing) (c
           (reader_same shape.pages shape.size shape.start c steps going (moved c frames links head) s.reached
           step refl);
       in_time =
-          in_time_more shape.pages shape.size shape.start c steps going (moved c frames links head) s.reached step r.lessons
-          s.in_time;
+          in_time_more shape.pages shape.size shape.start c steps going (moved c frames links head) s.reached step
+          r.lessons s.in_time;
     };
     later = writer_made record { event = steps; answer = going } (moved c frames links head) ∷ [];
     made_is =

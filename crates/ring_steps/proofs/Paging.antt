@@ -108,7 +108,8 @@ module _ (shape : Shape) (c : Core) (r : Reading) (ws : List ℕ) (homes : Homes
       s.reader_made_is ∙ sym (reader_same shape.pages shape.size shape.start c steps answer after s.reached step refl)
 
   time_stays : (answer : Answer) (after : Core) (step : Step shape.pages shape.size c steps answer after)
-      → AreInTime (trace_to (reached_on shape.pages shape.size shape.start c steps answer after s.reached step)) r.lessons
+      → AreInTime (trace_to (reached_on shape.pages shape.size shape.start c steps answer after s.reached step))
+      r.lessons
   time_stays answer after step =
       in_time_more shape.pages shape.size shape.start c steps answer after s.reached step r.lessons s.in_time
 

@@ -157,12 +157,13 @@ private_reached n size start c aside (x ∷ exchanges) reached (own, between, st
     private_reached n size start between aside exchanges
     (reached_on n size start c x.event x.answer between reached step) run
 
-pub private_in_time : (n size start : ℕ) (c aside : Core) (exchanges : List Exchange) (reached : IsReached n size start c)
-    (run : PrivateRun n size c exchanges aside) (lessons : List Lesson)
+pub private_in_time : (n size start : ℕ) (c aside : Core) (exchanges : List Exchange)
+    (reached : IsReached n size start c) (run : PrivateRun n size c exchanges aside) (lessons : List Lesson)
     → AreInTime (trace_to reached) lessons
     → AreInTime (trace_to (private_reached n size start c aside exchanges reached run)) lessons
 unfolding private_reached
-private_in_time n size start c aside [] reached run lessons are = in_time_at n size start c aside run reached lessons are
+private_in_time n size start c aside [] reached run lessons are =
+    in_time_at n size start c aside run reached lessons are
 private_in_time n size start c aside (x ∷ exchanges) reached (own, between, step, run) lessons are =
     private_in_time n size start between aside exchanges
     (reached_on n size start c x.event x.answer between reached step) run lessons

@@ -147,7 +147,8 @@ learns shape id view other with is its s h at ne at_other =
             };
         reader_made_is = shown.reader_made_is;
         in_time =
-            lesson_in_time (trace_to shown.reached) (reading view) made later writers shown.reader_made_is shown.in_time;
+            lesson_in_time (trace_to shown.reached) (reading view) made later writers shown.reader_made_is
+            shown.in_time;
       };
       seats =
           subst (AreSeated w after h.core.head) (sym views_are)

@@ -242,8 +242,8 @@ module _ (shape : Shape) (me : SeatState) (c : Core) (ws : List ℕ) (homes : Ho
               reader_then shape.pages shape.size shape.start c model.reads answer next s.reached step (reading me.0)
               (reading_on (reading me.0) next b answer) refl s.reader_made_is is_reading;
           in_time =
-              in_time_more shape.pages shape.size shape.start c model.reads answer next s.reached step (reading me.0).lessons
-              s.in_time;
+              in_time_more shape.pages shape.size shape.start c model.reads answer next s.reached step
+              (reading me.0).lessons s.in_time;
         };
         writer_is =
             λ k.

@@ -8,8 +8,8 @@ pub record Lesson : Type 0 where
   pub steps : ℕ
   pub made : List WriterMade
 
--- In this run the steps that the writer had made are before each step that the reader made after it had learned of them:
--- some front of the run has the former, and none of the latter.
+-- In this run the steps that the writer had made are before each step that the reader made after it had learned of
+-- them: some front of the run has the former, and none of the latter.
 pub record IsInTime (trace : Trace) (lesson : Lesson) : Type 0 where
   pub front : Trace
   pub rest : Trace

@@ -90,8 +90,8 @@ impl WriterSeat {
 }
 
 impl ReaderSeat {
-    /// The reader learns of the steps that a receipt of its ring has: a load. They are before all that it does from then
-    /// on.
+    /// The reader learns of the steps that a receipt of its ring has: a load. They are before all that it does from
+    /// then on.
     pub fn learn(&mut self, receipt: ReceiptSeat)
         requires table { receipt_table receipt ≡ reader_table self.old }
         ensures same { SameReaderSeat self.old self.new }

@@ -1,4 +1,4 @@
-//! What a script's lines make of each CPU, with neither links nor steps of a ring.
+//! What a script's lines make of each CPU, with neither links nor words of a ring.
 ghost use Rattle.std.specs.Prelude.{◌≡◌, ◌<◌, ℕ, suc, List, [], ◌∷◌, ◌++◌, length, Option, Some, None};
 ghost use Rattle.std.specs.List.{slice_get};
 ghost use Rattle.trace_model.specs.Window.{RingEvent, acts, WindowRun};

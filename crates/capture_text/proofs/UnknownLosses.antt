@@ -1,0 +1,43 @@
+-- The lines of losses, number by number.
+use Rattle.std.proofs.Common.{◌≡◌, ℕ, ◌+◌, ◌<◌, List, [], ◌∷◌, ◌++◌, length, get_or, take, append_assoc, sym, ap, ◌∙◌}
+use Rattle.std.specs.Prelude.{codes}
+use Rattle.std.specs.Fmt.{decimal}
+use Rattle.std.proofs.lemmas.List.{take_more, map-append, append-nil}
+use Rattle.std.proofs.lemmas.Grind.{flat_map-append}
+use Rattle.trace_model.specs.declared.numbers.RecordNo.{RecordNo}
+use Rattle.text_model.specs.Text.{line_feed, space}
+use Rattle.capture.specs.Captures.{numbers_of}
+use Rattle.capture_text.specs.declared.form.Form.{Form}
+use Rattle.capture_text.specs.declared.form.Form.TheVariants.{Text, Json}
+use Rattle.capture_text.specs.Printing.{unknown_line, unknown_lines}
+
+two_numbers : (before first between second behind : List ℕ)
+    → (before ++ first ++ between) ++ (second ++ behind) ≡ before ++ first ++ (between ++ second) ++ behind
+two_numbers before first between second behind = simp append_assoc
+
+-- the line that these two parts are
+module _ (form : Form) (cpu number given : ℕ) where
+  pub text_loss : form ≡ Text → given ≡ cpu
+      → (codes "unknown " ++ decimal given ++ space ∷ []) ++ (decimal number ++ line_feed ∷ [])
+      ≡ unknown_line form cpu number
+  text_loss is same =
+      two_numbers (codes "unknown ") (decimal given) (space ∷ []) (decimal number) (line_feed ∷ [])
+      ∙ ap (λ (n : ℕ). unknown_line Text n number) same
+      ∙ ap (λ (f : Form). unknown_line f cpu number) (sym is)
+
+  pub json_loss : form ≡ Json → given ≡ cpu
+      → (codes "{\"cpu\":" ++ decimal given ++ codes ",\"unknown\":")
+      ++ (decimal number ++ (codes "}" ++ line_feed ∷ [])) ≡ unknown_line form cpu number
+  json_loss is same =
+      let front = codes "{\"cpu\":" ++ decimal given ++ codes ",\"unknown\":" in
+      sym (append_assoc front (decimal number) (codes "}" ++ line_feed ∷ []))
+      ∙ sym (append_assoc (front ++ decimal number) (codes "}") (line_feed ∷ []))
+      ∙ ap (λ (n : ℕ). unknown_line Json n number) same
+      ∙ ap (λ (f : Form). unknown_line f cpu number) (sym is)
+
+-- one loss more
+pub losses_more : (form : Form) (cpu : ℕ) (numbers : List RecordNo) (i : ℕ) (none : RecordNo) → i < length numbers
+    → unknown_lines form cpu (numbers_of (take i numbers)) ++ unknown_line form cpu (get_or numbers i none).0
+    ≡ unknown_lines form cpu (numbers_of (take (i + 1) numbers))
+losses_more form cpu numbers i none below =
+    rw (take_more numbers i none below) (simp (map-append, flat_map-append, append-nil))

@@ -1,0 +1,12 @@
+use Rattle.capture_text.specs.Printing.{reported_line}
+use Rattle.text_buffer.proofs.Chains.{put_then, put_same}
+use Rattle.capture_text.proofs.Damages.{lines_more}
+use Rattle.capture_text.proofs.losses.put_damages.Goals as goal
+
+pub loop-damaged-preserved : goal.loop-damaged-preserved
+loop-damaged-preserved g c = record {
+  tied = c.put_damage.ensures.tied;
+  put = put_same _ _ (lines_more (reported_line c.args.form c.args.parts.now c.args.cpu.0) c.args.pages.now
+      c.loop-damaged.damaged-index _ c.loop-damaged-test.true)
+      (put_then _ _ c.loop-damaged.invariant.put c.put_damage.ensures.put);
+}

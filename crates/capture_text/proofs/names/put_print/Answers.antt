@@ -1,0 +1,18 @@
+use Rattle.std.specs.Option.{option_map}
+use Rattle.kernel_texts.specs.Names.{event_seen}
+use Rattle.text_buffer.proofs.Chains.{put_none, put_then, put_same}
+use Rattle.capture_text.proofs.Events.{print_put, no_print_put}
+use Rattle.capture_text.proofs.names.put_print.Goals as goal
+
+pub returns-then-is_print-clause-put : goal.returns-then-is_print-clause-put
+returns-then-is_print-clause-put g c =
+    put_same _ _
+    (print_put (option_map event_seen c.args.event) c.args.bytes.now _ c.is_print.ensures c.if-is_print.true _
+    c.print_text.ensures)
+    (put_then _ _ c.put.ensures.put c.put_quoted.ensures.put)
+
+pub returns-else-is_print-clause-put : goal.returns-else-is_print-clause-put
+returns-else-is_print-clause-put g c =
+    put_same _ _
+    (no_print_put (option_map event_seen c.args.event) c.args.bytes.now _ c.is_print.ensures c.if-is_print.false)
+    (put_none _ _ _)
