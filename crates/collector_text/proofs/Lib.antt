@@ -1,4 +1,5 @@
 pub mod Appended
 pub mod OneText
+mod Pieces
 pub mod RunsBehind
 pub mod Shown
