@@ -4,6 +4,7 @@ use Rattle.std.specs.Prelude.{Option}
 use Rattle.std.specs.Borrow.{Bor}
 use Rattle.trace_dat.specs.Contents.{EventFormat}
 use Rattle.kernel_texts.specs.declared.names.EventNames.{EventNames}
+use Rattle.text_buffer.specs.declared.buffer.TextBuffer.{TextBuffer}
 use Rattle.text_buffer.specs.Putting.{Puts}
 use Rattle.capture_text.specs.declared.form.Form.{Form}
 use Rattle.capture_text.specs.declared.printer.Printer.{Printer}
@@ -23,3 +24,11 @@ prints bytes old new contents contents_now failed failed_now same_form same_name
       put = subst (λ (f : Form). Puts (bytes f formats) old.buffer contents failed new.buffer contents_now failed_now)
           has.form_is (put formats has.names_are) start text has.put;
     }
+
+-- a printer's buffer is given a text that is also this one
+pub given : (text same : List ℕ) (old new : TextBuffer) (contents contents_now : Option (List ℕ))
+    (failed failed_now : Bool)
+    → text ≡ same → Puts text old contents failed new contents_now failed_now
+    → Puts same old contents failed new contents_now failed_now
+given text same old new contents contents_now failed failed_now e puts =
+    subst (λ (t : List ℕ). Puts t old contents failed new contents_now failed_now) e puts

@@ -3,8 +3,7 @@ use Rattle.capture.specs.Pages.{damages_from}
 use Rattle.capture.specs.declared.pages.Damaged.{Damaged}
 use Rattle.capture_text.specs.Printing.{damaged_lines, reported_line}
 use Rattle.capture_text.proofs.Damages.{all_lines}
-use Rattle.text_buffer.proofs.Chains.{put_same}
-use Rattle.capture_text.proofs.Prints.{prints}
+use Rattle.capture_text.proofs.Prints.{given, prints}
 use Rattle.capture_text.proofs.printer.Printer.put_damaged.Goals as goal
 
 pub returns-clause-put : goal.returns-clause-put
@@ -14,7 +13,7 @@ returns-clause-put g c = λ pages is.
     let capture = c.args.capture.now in
     prints (λ form formats. damaged_lines form parts capture.cpu.0 (damages_from 0 0 pages)) c.args.self.now _ _ _ _ _
     refl refl
-    (λ formats are. put_same _ _
+    (λ formats are. given _ _ _ _ _ _ _ _
     (ap (λ (more : List Damaged). flat_map (reported_line form parts capture.cpu.0) more) c.deref.ensures.value
     ∙ all_lines form parts capture.cpu.0 capture.damaged.items (damages_from 0 0 pages) is.damaged_are)
     c.put_damages.ensures.put)
