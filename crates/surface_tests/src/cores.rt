@@ -1,12 +1,11 @@
 //! The ring as a value.
-ghost use Rattle.std.specs.Prelude.{◌≡◌, ◌∷◌, length, Some, IfOk};
+ghost use Rattle.std.specs.Prelude.{◌≡◌, ◌∷◌, length, Some};
 ghost use Rattle.ring_frames.specs.Lens.{lens};
 ghost use Rattle.ring_core.specs.Steps.{IsReachedCore};
 
-use nested_writer::{Ended, Wrote};
+use nested_writer::{Ended, WriteFault, Wrote};
 use page_image::Body;
 use ring_core::{Answer, Core, Event};
-use std::alloc::Global;
 use std::process::Abort;
 use std::test::Fail;
 use trace_model::FillNo;
@@ -46,32 +45,31 @@ fn take(core: &mut Core, body: Body) -> Answer
 }
 
 /// Begins a record and reserves it by its first step.
-fn reserve(core: &mut Core, moment: u64, len: usize) -> Result<(), Fail>
+fn reserve(rt: &impl Abort, core: &mut Core, moment: u64, len: usize)
     requires ring { IsReachedCore core.old }
     ensures ring { IsReachedCore core.new }
     ensures size { core.new.stack.size ≡ core.old.stack.size }
-    ensures lens { IfOk result (λ _. lens core.new.stack ≡ Some len ∷ lens core.old.stack) }
+    ensures lens { lens core.new.stack ≡ Some len ∷ lens core.old.stack }
 {
     let Answer::Pushed = core.step(Event::Push { moment, len }) else {
-        return Err(Fail::new("no frame is pushed"));
+        panic!(rt; "no frame is pushed");
     };
     let Answer::Reserved(_) = core.step(Event::Step) else {
-        return Err(Fail::new("no record is reserved"));
+        panic!(rt; "no record is reserved");
     };
-    Ok(())
 }
 
 /// Writes a record in the middle of which another one is written, each step by an event of its own.
-fn write_nested(rt: &impl Abort, core: &mut Core) -> Result<(), Fail>
+fn write_nested(rt: &impl Abort, core: &mut Core) -> Result<(), WriteFault>
     requires ring { IsReachedCore core.old }
     ensures ring { IsReachedCore core.new }
     ensures size { core.new.stack.size ≡ core.old.stack.size }
 {
-    reserve(core, 10, 4)?;
-    reserve(core, 20, 4)?;
+    reserve(rt, core, 10, 4);
+    reserve(rt, core, 20, 4);
     core.top_mut()?.copy_from_slice(b"bbbb");
     let Answer::Ended(Ended::Pending) = core.step(Event::End) else {
-        return Err(Fail::new("the frame below is gone"));
+        panic!(rt; "the frame below is gone");
     };
     core.top_mut()?.copy_from_slice(b"aaaa");
     assert!(rt; matches!(core.step(Event::End), Answer::Ended(Ended::Full)));
@@ -80,29 +78,36 @@ fn write_nested(rt: &impl Abort, core: &mut Core) -> Result<(), Fail>
 }
 
 /// Closes the page of both records, and takes it.
-fn close_and_take(rt: &impl Abort, alloc: Global, core: &mut Core) -> Result<(), Fail>
+fn close_and_take(rt: &impl Abort, core: &mut Core, body: Body)
     requires ring { IsReachedCore core.old }
-    requires size { core.old.stack.size ≡ 32 }
+    requires size { length body ≡ core.old.stack.size }
     ensures ring { IsReachedCore core.new }
 {
     assert!(rt; matches!(core.step(Event::PushClose), Answer::Pushed));
     assert!(rt; matches!(finish(core), Answer::Gone));
-    let Answer::Taken(page, 0) = take(core, Body::new(alloc, 32)?) else {
-        return Err(Fail::new("a page that is closed isn't taken"));
+    let Answer::Taken(page, 0) = take(core, body) else {
+        panic!(rt; "a page that is closed isn't taken");
     };
     assert!(rt; page.data() == b"\x01\0\0\0aaaa\x41\x01\0\0bbbb".as_slice());
-    Ok(())
 }
 
 /// Each kind of event once, and a record that is written at once.
-#[test]
-fn a_page_of_nested_records_is_taken(rt: HostRuntime) -> Result<(), Fail> {
-    let mut core = Core::new(rt.alloc(), 2, 32)?;
-    assert!(rt; core.size() == 32);
-    write_nested(&rt, &mut core)?;
-    close_and_take(&rt, rt.alloc(), &mut core)?;
+fn run(rt: &impl Abort, core: &mut Core, body: Body) -> Result<(), WriteFault>
+    requires ring { IsReachedCore core.old }
+    requires size { length body ≡ core.old.stack.size }
+{
+    write_nested(rt, core)?;
+    close_and_take(rt, core, body);
     assert!(rt; matches!(core.write(30, b"cccc"), Wrote::Record));
     assert!(rt; core.depth() == 0);
     assert!(rt; matches!(core.step(Event::Wish), Answer::Wished(FillNo(1))));
     Ok(())
+}
+
+#[test]
+fn a_page_of_nested_records_is_taken(rt: HostRuntime) -> Result<(), Fail> {
+    let body = Body::new(rt.alloc(), 32)?;
+    let mut core = Core::new(rt.alloc(), 2, 32)?;
+    assert!(rt; core.size() == 32);
+    Ok(run(&rt, &mut core, body)?)
 }
