@@ -156,7 +156,7 @@ fn two_ends_stop_at_any_moment(rt: HostRuntime) -> Result<(), Fail> {
     let body = Body::new(rt.alloc(), 32)?;
     let (mut writer, mut reader): (Writer, Reader) = ring(rt.alloc(), 2, 32)?;
     run(&rt, &mut writer, &mut reader, body)?;
-    reserve(&mut writer, 40, 4)?;
+    reserve(&rt, &mut writer, 40, 4);
     stop(writer, reader);
     Ok(())
 }
