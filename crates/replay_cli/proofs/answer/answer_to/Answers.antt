@@ -1,4 +1,4 @@
-use Rattle.std.proofs.Common.{map, string_bytes}
+use Rattle.std.proofs.Common.{◌≡◌, map, string_bytes}
 use Rattle.replay_cli.specs.Words.{AskForReplay}
 use Rattle.replay_cli.proofs.answer.answer_to.Goals as goal
 
@@ -16,3 +16,10 @@ returns-in-None-clause-replay g c = λ log asks.
     let given : AskForReplay log (map string_bytes c.in-Ok.words.items) = rw c.in-Ok.is at asks in
     let found = c.log_asked.ensures.asked log (rw c.deref.ensures.value given) in
     absurd (cc)
+
+pub returns-in-Some-clause-replay : goal.returns-in-Some-clause-replay
+returns-in-Some-clause-replay g c = λ log asks.
+    let given : AskForReplay log (map string_bytes c.in-Ok.words.items) = rw c.in-Ok.is at asks in
+    let found = c.log_asked.ensures.asked log (rw c.deref.ensures.value given) in
+    let same : c.in-Some.log ≡ log = cc in
+    rw same at c.replay_to.ensures.output
