@@ -77,12 +77,13 @@ fn write_nested(rt: &impl Abort, core: &mut Core) -> Result<(), WriteFault>
     Ok(())
 }
 
-/// Closes the page of both records, and takes it.
+/// Wishes for the page of both records, closes it, and takes it.
 fn close_and_take(rt: &impl Abort, core: &mut Core, body: Body)
     requires ring { IsReachedCore core.old }
     requires size { length body ≡ core.old.stack.size }
     ensures ring { IsReachedCore core.new }
 {
+    assert!(rt; matches!(core.step(Event::Wish), Answer::Wished(FillNo(0))));
     assert!(rt; matches!(core.step(Event::PushClose), Answer::Pushed));
     assert!(rt; matches!(finish(core), Answer::Gone));
     let Answer::Taken(page, 0) = take(core, body) else {
@@ -100,7 +101,6 @@ fn run(rt: &impl Abort, core: &mut Core, body: Body) -> Result<(), WriteFault>
     close_and_take(rt, core, body);
     assert!(rt; matches!(core.write(30, b"cccc"), Wrote::Record));
     assert!(rt; core.depth() == 0);
-    assert!(rt; matches!(core.step(Event::Wish), Answer::Wished(FillNo(1))));
     Ok(())
 }
 

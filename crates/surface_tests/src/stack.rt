@@ -5,10 +5,9 @@ ghost use Rattle.surface_tests.specs.Stacks.{IsNewStack, IsAtRest};
 
 use nested_writer::{Allot, Ended, WriteFault, WriterStack, Wrote};
 use page_image::{Body, Page, Place};
-use std::alloc::Global;
 use std::process::Abort;
 use std::test::Fail;
-use trace_model::{FillNo, RecordNo};
+use trace_model::{FillNo, LINK_FILLS, RecordNo};
 
 /// The place of the payload of a page's second record, if that and the first have four bytes.
 const SECOND: Allot = Allot::Fits(Place { start: 12, len: 4 });
@@ -64,20 +63,24 @@ fn write_nested(rt: &impl Abort, stack: &mut WriterStack) -> Result<(), WriteFau
 }
 
 /// Closes the page, for which the frame at the bottom is asked; the page is answered.
-fn close_asked(rt: &impl Abort, alloc: Global, stack: &mut WriterStack) -> Result<Page, Fail>
+fn close_asked(rt: &impl Abort, stack: &mut WriterStack, body: Body) -> Page
     requires { IsAtRest stack.old }
-    ensures { IfOk result (λ _. IsAtRest stack.new) }
+    ensures { IsAtRest stack.new }
 {
     assert!(rt; stack.ask_close());
-    stack.add_page(Body::new(alloc, 32)?);
-    Ok(stack.drop_front())
+    assert!(rt; stack.size() == body.size());
+    assert!(rt; stack.opened() - stack.done() < stack.pages() as u64);
+    assert!(rt; stack.opened() + (stack.pages() as u64) < LINK_FILLS);
+    stack.add_page(body);
+    stack.drop_front()
 }
 
 #[test]
 fn a_page_of_nested_records_is_closed(rt: HostRuntime) -> Result<(), Fail> {
+    let body = Body::new(rt.alloc(), 32)?;
     let mut stack = WriterStack::new(rt.alloc(), 2, 32)?;
     write_nested(&rt, &mut stack)?;
-    let front = close_asked(&rt, rt.alloc(), &mut stack)?;
+    let front = close_asked(&rt, &mut stack, body);
     compare(
         &rt,
         &front,
