@@ -1,5 +1,5 @@
 //! Links `libtracering.a`, which `../../tracering-lib` builds, or which is in the folder that TRACERING_LIB names; and
-//! has the answers' texts from `../../include/tracering.h`, so that they stand in one place.
+//! has the answers' texts from `../../include/tracering.h`, so that they are in one place.
 use std::{env, fs, path::Path, process};
 
 fn main() {

@@ -97,7 +97,7 @@ fn next_word<'a>(data: &mut &'a [u8], time: &mut u64) -> Option<Word<'a>> {
     Some(if kind <= 28 { Word::Data(payload) } else { Word::Other })
 }
 
-/// How many bytes a word takes that states its length, where that counts itself and whole words.
+/// How many bytes a word takes that states its length, which counts itself and whole words.
 fn long_len(data: &[u8]) -> Option<usize> {
     let len = half_at(data, 4)? as usize;
     (len >= 4 && len % 4 == 0).then_some(4 + len)

@@ -123,7 +123,7 @@ pub struct Ring<'t> {
     done: u64,
     opened: u64,
     wish: u64,
-    // The writer's: its frames, the page it is on, where that begins and ends, how many records were reserved, and the
+    // The writer's: its frames, the page it is on, its begin and its end, how many records were reserved, and the
     // moment of the last of them.
     frames: [Frame<'t>; MAX_FRAMES],
     depth: usize,
@@ -273,7 +273,7 @@ impl<'t> Ring<'t> {
         result
     }
 
-    /// Room for a record of this moment after those of the tail, with its word: where its slot begins.
+    /// Room for a record of this moment after those of the tail, with its word. Answers where its slot begins.
     #[inline(always)]
     fn reserve(&mut self, moment: u64, slot: usize) -> Option<usize> {
         let moment = moment.max(self.last);

@@ -83,14 +83,14 @@ impl Page {
     }
 
     /// Adds a record of this moment, `delta` after the last one, with its payload in a slot of `slot` bytes and zeros
-    /// behind it, if it fits.
+    /// after it, if it fits.
     #[inline(always)]
     pub fn put_payload(&mut self, moment: u64, delta: u64, slot: usize, payload: &[u8]) -> bool {
         let delta = if self.is_empty() { 0 } else { delta };
         match self.body.get_mut(self.end..self.end + 4 + slot) {
             Some(record) if slot <= SHORT_SLOT && delta < EXTEND_FROM => {
                 record[..4].copy_from_slice(&word(slot / 4, delta));
-                // Only the slot's last word may have bytes behind the payload.
+                // Only the slot's last word may have bytes after the payload.
                 record[slot..].fill(0);
                 record[4..4 + payload.len()].copy_from_slice(payload);
                 if self.is_empty() {

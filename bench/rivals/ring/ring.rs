@@ -144,7 +144,7 @@ impl Ring {
         self.size
     }
 
-    /// One event. It is put into its caller, where it is known which event it is.
+    /// One event. It is inlined into its caller, which knows the kind of event.
     #[inline(always)]
     pub fn step(&mut self, event: Event) -> Answer {
         match event {

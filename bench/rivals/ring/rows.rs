@@ -4,7 +4,7 @@ use crate::event::{Answer, Ended, Event};
 use crate::page::{Body, Page};
 use crate::ring::Ring;
 
-/// The text again, with the ring's answers behind its events, whatever stands there; or what can't be read.
+/// The text again, with the ring's answers after its events, whatever is there; or what can't be read.
 pub fn answered(text: &str) -> Result<String, String> {
     let mut out = String::new();
     let mut row = Row::of(Ring::new(2, 32));
@@ -248,7 +248,7 @@ fn hex(bytes: &[u8]) -> String {
     bytes.iter().map(|byte| format!("{byte:02x}")).collect()
 }
 
-/// The image of a page before which so many records are missing: docs/FORMATS.md, "Page image".
+/// The image of a page before which `missed` records are missing: docs/FORMATS.md, "Page image".
 fn image(page: &Page, missed: u64, size: usize) -> String {
     let data = page.data();
     let counted = missed > 0 && data.len() + 8 <= size;

@@ -16,7 +16,7 @@ impl Parcel {
         self.page.first - self.missed
     }
 
-    /// The number behind its last record.
+    /// The number after its last record.
     fn end(&self) -> u64 {
         self.page.first + self.page.count
     }
@@ -100,7 +100,7 @@ fn was_taken(parcel: &Parcel, ledgers: &[Ledger]) -> bool {
     }
 }
 
-/// Whether the collector keeps just what was taken; else the least parcel at fault, by CPU and fill.
+/// Whether the collector keeps exactly what was taken; else the least parcel at fault, by CPU and fill.
 pub fn audit(collector: &Collector, ledgers: &[Ledger]) -> Audit {
     let mut kept = collector.cpus.iter().flatten();
     if let Some(stray) = kept.find(|parcel| !was_taken(parcel, ledgers)) {

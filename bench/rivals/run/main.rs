@@ -3,7 +3,7 @@
 //!
 //!     run CPUS COLLECTORS WRITES LENGTH
 //!
-//! makes a script in which each CPU writes so many payloads of this length, by turns; runs it, audits each collector,
+//! makes a script in which each CPU writes WRITES payloads of LENGTH bytes, by turns; runs it, audits each collector,
 //! and prints how many nanoseconds both took, what became of the records, and what Linux says of the memory before
 //! and after.
 //!
@@ -94,7 +94,7 @@ fn main() -> ExitCode {
         return ExitCode::from(2);
     };
     let script = script_of(&asked);
-    // From here on Linux looks for the most memory anew.
+    // From here on Linux looks for the most memory again.
     let anew = fs::write("/proc/self/clear_refs", "5");
     let before = status();
     let start = Instant::now();

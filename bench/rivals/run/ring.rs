@@ -70,7 +70,7 @@ impl<'r> Writer<'r> {
         closed
     }
 
-    /// Closes the tail and begins the next page; where no body is left, the oldest page is overwritten.
+    /// Closes the tail and begins the next page; if no body is left, the oldest page is overwritten.
     #[cold]
     #[inline(never)]
     fn turn(&mut self) -> u64 {
@@ -98,7 +98,7 @@ pub struct Reader<'r> {
     ring: &'r Ring,
     /// The fills below this one are taken or lost.
     hint: u64,
-    /// The number behind the last record that was taken.
+    /// The number after the last record that was taken.
     expected: u64,
     /// The body for the next take.
     body: Option<Body>,

@@ -274,7 +274,7 @@ impl Fleet {
         added(code).map_err(|fault| Refusal { fault, at, used: 0 })
     }
 
-    /// The same, of a stream that will bring nothing more: what is unknown below the bound is given up.
+    /// Forgets what is below this bound of a CPU of a stream that will bring nothing more: what is unknown is given up.
     pub fn give_up(&mut self, stream: u64, cpu: u32, bound: u64) -> Result<Added, Refusal> {
         let mut at = StreamFault::default();
         let code = unsafe { tracering_raw_fleet_give_up(self.0.get_mut(), stream, cpu, bound, &mut at) };
@@ -288,7 +288,7 @@ impl Fleet {
         Ok(Lines { fleet: self, left })
     }
 
-    /// The same of the records of each CPU below its cut at a moment; then `forget_before` drops them.
+    /// Lists the records of each CPU below its cut at a moment; then `forget_before` drops them.
     pub fn lines_before(&mut self, moment: u64) -> Result<Lines<'_>, Fault> {
         let mut left = 0;
         done(unsafe { tracering_raw_fleet_list_before(self.0.get_mut(), moment, &mut left) })?;

@@ -115,7 +115,7 @@ pub fn start(config: &Config) -> io::Result<()> {
 /// Stops the recorder, and releases its memory.
 ///
 /// # Safety
-/// No thread or handler is amid a `trace!`, and none begins one before this returns.
+/// No thread or handler is in a `trace!`, and none begins one before this returns.
 pub unsafe fn stop() -> io::Result<()> {
     done(flight_stop())
 }
@@ -127,7 +127,7 @@ pub fn dump(path: impl AsRef<Path>) -> io::Result<()> {
 }
 
 /// From now on the signals of a crash, and SIGTERM, dump to this path, and then do what they did before. A dump that
-/// fails in a crash fails unseen, as it does if the recorder's own file is at this path, or at it with a `~` behind it.
+/// fails in a crash fails unseen, as it does if the recorder's own file is at this path, or at it with a `~` appended.
 pub fn dump_on_crash(path: impl AsRef<Path>) -> io::Result<()> {
     let path = text(path.as_ref().as_os_str().as_bytes())?;
     done(unsafe { flight_dump_on_crash(path.as_ptr()) })
@@ -271,7 +271,7 @@ const HEAD: usize = 4;
 /// The most bytes of an event: the recorder's own, and eight texts.
 const ROOM: usize = HEAD + MOST_ARGUMENTS * (2 + LONGEST_TEXT);
 
-/// The bytes of an event, as far as they are put behind the head.
+/// The bytes of an event, as far as they are put after the head.
 pub struct Event {
     bytes: [MaybeUninit<u8>; ROOM],
     len: usize,
@@ -442,7 +442,7 @@ const fn after_fill(bytes: &[u8], at: usize) -> usize {
     }
 }
 
-/// Where the spaces end that may stand here.
+/// Where the spaces end that may be here.
 const fn after_spaces(bytes: &[u8], mut at: usize) -> usize {
     while at < bytes.len() && matches!(bytes[at], b' ' | b'\t'..=b'\r') {
         at += 1;

@@ -333,7 +333,7 @@ impl<'a> Nested<'a> {
         self.0.finish().map(|code| code != NOTHING_CLOSED)
     }
 
-    /// The same, lent for a while.
+    /// This writer of nested records, lent for a while.
     pub fn nested(&mut self) -> Nested<'_> {
         Nested(self.0, self.1)
     }

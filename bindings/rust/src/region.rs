@@ -90,7 +90,7 @@ impl Region {
         }
     }
 
-    /// A new file for a ring of so many pages. If there is one of this name, it is named PATH~ first.
+    /// A new file for a ring of `pages` pages. If there is one of this name, it is named PATH~ first.
     pub fn file(path: &Path, pages: usize, size: usize) -> io::Result<Region> {
         let (path, len) = (text(path.as_os_str().as_bytes())?, len_of(pages, size));
         Region::of(unsafe { tracering_region_file(path.as_ptr(), len) }, len)

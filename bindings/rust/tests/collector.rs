@@ -12,7 +12,7 @@ fn parcel(cpu: u32, records: &[(u64, &[u8])]) -> [u8; HEADER + 64] {
     out
 }
 
-/// The same, with another first number, and `missed` numbers missing before it.
+/// The bytes of a parcel with another first number, and with `missed` numbers missing before it.
 fn numbered(mut bytes: [u8; HEADER + 64], first: u64, missed: u64) -> [u8; HEADER + 64] {
     bytes[16..24].copy_from_slice(&first.to_le_bytes());
     bytes[24..32].copy_from_slice(&missed.to_le_bytes());

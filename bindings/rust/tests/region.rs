@@ -54,7 +54,7 @@ fn what_is_written_is_in_the_file() -> Result<(), Box<dyn Error>> {
     said.has_ended = true;
     assert_eq!(about(&fs::read(&file)?)?, said);
     assert_eq!(numbers(&fs::read(&file)?)?.len(), 3);
-    // A ring that is made anew begins at its first number; the file of before is put aside.
+    // A new ring begins at its first number; the file of the one before is renamed.
     let again = Arc::new(Region::file(&file, 2, 64)?);
     assert!(about(&fs::read(&file)?).is_err());
     let _ends = ring_in(&again, 3, 2, 64, 10)?;

@@ -34,7 +34,7 @@ pub record IsReadOn (size : ℕ) (first : List ℕ) (unread left : Option (List 
   pub extent_is : length (first ++ bytes) ≡ size * extent.whole + extent.rest
   pub no_more : length first < size → bytes ≡ []
 
--- the same, and with the pages the numbers don't fit
+-- such a source was read to its end, and with the pages the numbers don't fit
 pub record IsReadOnPast (size : ℕ) (first : List ℕ) (unread left : Option (List ℕ)) (before : List Page) : Type 0 where
   pub bytes : List ℕ
   pub pages : List Page

@@ -62,12 +62,12 @@ pub fn fill_piece<R: Source>(reader: &mut R, piece: &mut [u8]) -> io::Result<usi
     Ok(filled)
 }
 
-/// How much a source had: whole pages, and bytes behind them.
+/// How much a source had: whole pages, and bytes after them.
 #[derive(Clone, Copy, Debug, PartialEq, Eq)]
 pub struct Extent {
     /// How many whole pages.
     pub whole: u64,
-    /// How many bytes behind them, fewer than a page has.
+    /// How many bytes after them, fewer than a page has.
     pub rest: usize,
 }
 

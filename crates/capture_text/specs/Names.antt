@@ -20,7 +20,7 @@ is_print (Some event) = bytes_eq event.system (codes "ftrace") && bytes_eq event
 abbrev pub text_before_zero : List ℕ → List ℕ
 text_before_zero bytes = take (unwrap_or (position (λ b. b == 0) bytes) (length bytes)) bytes
 
--- the text of such a record: behind the fields that all events have and an address, up to the first zero byte
+-- the text of such a record: after the fields that all events have and an address, up to the first zero byte
 abbrev pub print_text : List ℕ → List ℕ
 print_text bytes = text_before_zero (drop 16 bytes)
 

@@ -28,7 +28,7 @@ pub record HasPrinted (form : Form) (formats : Option (List EventFormat)) (start
   pub names_are : AreNames printer.names formats
   pub put : HasPut start contents failed text printer.buffer
 
--- This text, by form and formats, was printed behind whatever was printed before. Before, the printer was `old`, and
+-- This text, by form and formats, was printed after whatever was printed before. Before, the printer was `old`, and
 -- the writer had `contents`, and had failed or not; now they are the three that follow.
 abbrev pub Prints : (Form → Option (List EventFormat) → List ℕ)
     → (old : Printer) (contents : Option (List ℕ)) (failed : Bool)

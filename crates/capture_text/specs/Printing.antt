@@ -86,7 +86,7 @@ offset_of (part ∷ parts) index =
     if nat_lt index (page_count part) then part.size * index
     else part.length + offset_of parts (index - page_count part)
 
--- a page of a CPU can't be read: how many numbers are before it, which page it is, where it begins, and what is wrong
+-- a page of a CPU can't be read: how many numbers are before it, its index, its offset, and what is wrong
 abbrev pub damaged_line : Form → (cpu number index offset : ℕ) → (fault : List ℕ) → List ℕ
 damaged_line Text cpu number index offset fault =
     codes "damaged " ++ decimal cpu ++ space ∷ decimal number ++ codes " page " ++ decimal index

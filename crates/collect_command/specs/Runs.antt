@@ -63,8 +63,8 @@ TellsFault index faults.Numbers contents after failed ending =
 TellsFault index faults.NoMemory contents after failed ending = IsMemoryLine contents after failed ending
 
 module _ {R : Type 0} (remaining : R → Option (List ℕ)) (has_failed : R → Bool) where
-  -- all inputs were read, and are listed, or memory was refused before anything was written; so many instances aren't
-  -- listed
+  -- all inputs were read, and are listed, or memory was refused before anything was written. `collected` says how
+  -- many instances aren't listed.
   pub record CollectsAll (asked : Asked) (old new : List (Input R)) (contents after : Option (List ℕ)) (failed : Bool)
       (collected : Collected) : Type 0 where
     pub files : List File

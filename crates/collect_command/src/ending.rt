@@ -10,7 +10,7 @@ pub enum Ending {
     Done,
     /// All is listed but some pages that can't be read.
     Damaged,
-    /// A file of trace-cmd has a fault, whose line was printed: the file before which there are so many.
+    /// A file of trace-cmd has a fault, whose line was printed.
     Malformed {
         /// How many inputs are before it.
         input: usize,
@@ -21,7 +21,7 @@ pub enum Ending {
     Numbers,
     /// Memory was refused, and a line says so.
     NoMemory,
-    /// A read of this input failed, before which there are so many, and nothing was written.
+    /// A read of the input of this index failed, and nothing was written.
     NotRead(usize),
     /// A write failed.
     NotWritten,

@@ -7,7 +7,7 @@ pub on_ok : {A E P Q : Type 0} (result : Result A E) → (P → Q) → OnOk resu
 on_ok (Ok x) f p = f p
 on_ok (Err e) f p = p
 
--- what a borrow of all elements leaves behind
+-- what a borrow of all elements leaves
 pub written-back : {X : Type 0} (n : ℕ) (new old : List X) → length new ≡ n → length old ≡ n
     → take n (new ++ drop (length new) old) ≡ new
 written-back n new old long kept =

@@ -34,7 +34,7 @@ list_fails before faults.Numbers first others h = h
 list_fails before (faults.File f) (Ok x) others h = absurd cc
 list_fails before (faults.File f) (Err d) others h = h
 
--- what is left, where the next thing is known
+-- what is left, if the next thing is known
 next_known : {X Y A : Type 0} (see : X → Y) (of : Y → Checked (List A)) (xs : List X) (i : ℕ) (x : X)
     → i < length xs → x ≡ get_or xs i x
     → each_of of (map see (drop i xs)) ≡ (of (see x) >>= then_others (each_of of (map see (drop (i + 1) xs))))
@@ -83,7 +83,7 @@ same_at [] i d lt = absurd (omega arith)
 same_at (x ∷ xs) zero d lt = refl
 same_at (x ∷ xs) (suc i) d lt = same_at xs i d (omega arith)
 
--- the same, where the thing is named by its place
+-- what is left, if the next thing is the one at index `i`
 pub each_goes_on_at : {X Y A : Type 0} (see : X → Y) (of : Y → Checked (List A)) (before more : List A) (xs : List X)
     (i : ℕ) (d : X) (total : Checked (List A)) → i < length xs
     → with_list before (of (see (get_or xs i d))) ≡ Ok more

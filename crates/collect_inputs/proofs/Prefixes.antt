@@ -10,7 +10,7 @@ use Rattle.collect_inputs.specs.Files.{is_dat}
 same-front : (first more : List ℕ) → 10 ≤ length first → is_dat (first ++ more) ≡ is_dat first
 same-front first more long = ap (pointwise nat_eq magic) (take-append-le 10 first more long)
 
--- what doesn't begin so still doesn't, if there is more only behind a whole page
+-- what doesn't begin so still doesn't, if there is more only after a whole page
 pub raw-more : (size : ℕ) (first more : List ℕ) → 48 ≤ size → (length first < size → more ≡ []) → is_dat first ≡ false
     → is_dat (first ++ more) ≡ false
 raw-more size first more large none raw = ⊎_elim

@@ -76,7 +76,7 @@ added-before losses page cpu first start unread left files captured taken adds =
   added = adds.added;
 }
 
--- the same, where the size of a page is said in another way
+-- the rest of a file was added, if the size of its pages equals another number
 pub added-sized : (losses : Losses) (size page cpu : ℕ) (first : List ℕ) (start unread left : Option (List ℕ))
     (files : List File) (captured : Captured)
     → size ≡ page → Consumes start unread first → AddsRestOf losses size cpu first unread left files captured

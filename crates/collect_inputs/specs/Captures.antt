@@ -52,7 +52,7 @@ pub record IsCpuRead (known : Missed) (cpu : ℕ) (parts : List ModelPart) (foun
   pub bytes_are : found.bytes ≡ bytes_in parts
   pub bytes_fit : bytes_in parts < 2 ^ 64
 
--- the same of each CPU, if these parts are read
+-- what is read of each CPU, if a loss of unknown number is `known` and these parts are read
 pub record AreCpusRead (known : Missed) (parts : List ModelPart) (cpus : List CpuCapture) : Type 0 where
   pub count : length cpus ≡ MAX_CPUS
   pub each : (cpu : ℕ) (found : CpuCapture) → slice_get cpus cpu ≡ Some found
@@ -64,7 +64,7 @@ pub record AreCpusCaptured (overrun : ℕ → Option ℕ) (parts : List ModelPar
   pub each : (cpu : ℕ) (found : CpuCapture) → slice_get cpus cpu ≡ Some found
       → IsCpuCaptured cpu (overrun cpu) (parts_of_cpu cpu parts) found
 
--- What is read of files, none of which has a fault, if so many records of each CPU were overwritten.
+-- What is read of files, none of which has a fault, if `overrun` states how many records of each CPU were overwritten.
 pub record AreFilesRead (overrun : ℕ → Option ℕ) (page : ℕ) (files : List File) (captured : Captured) : Type 0 where
   pub parts : List ModelPart
   pub parts_are : ArePartsOf page files parts
@@ -136,7 +136,7 @@ abbrev pub IsOwnPast : (overrun : Option ℕ) → (cpu : ℕ) → List ModelPart
 IsOwnPast overrun cpu parts =
     (known : Missed) × IsKnown overrun (parts_of_cpu cpu parts) known × IsCpuPast known cpu parts
 
--- Numbers of a CPU of these files don't fit, if so many records of each were overwritten.
+-- Numbers of a CPU of these files don't fit, if `overrun` states how many records of each were overwritten.
 pub record AreFilesPast (overrun : ℕ → Option ℕ) (page : ℕ) (files : List File) : Type 0 where
   pub parts : List ModelPart
   pub parts_are : ArePartsOf page files parts

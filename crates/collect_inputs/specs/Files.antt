@@ -92,7 +92,7 @@ abbrev pub held : {A : Type 0} → (Contents → A) → A → Reading Contents �
 held of otherwise (Ok contents) = of contents
 held of otherwise (Err fault) = otherwise
 
--- the same of a file that begins as those of trace-cmd
+-- of what a file holds that begins as those of trace-cmd, if it reads
 abbrev pub held_by : {A : Type 0} → (Contents → A) → A → File → A
 held_by of otherwise file = if is_dat file.bytes then held of otherwise (reading_of file.bytes) else otherwise
 

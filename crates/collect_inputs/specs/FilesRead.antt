@@ -38,7 +38,7 @@ IsFileFault losses page files file (faults.File fault) = parts_of page file ≡ 
 IsFileFault losses page files file faults.Numbers = AreFilesPast (said_by losses file) page (files ++ file ∷ [])
 IsFileFault losses page files file faults.NoMemory = ⊤
 
--- The same of a file of which `first` had been read already; `failed` says whether a read has failed.
+-- Why a file wasn't read of which `first` had been read already; `failed` says whether a read has failed.
 abbrev pub IsRestFault : Losses → (page cpu : ℕ) → (first : List ℕ) → (unread left : Option (List ℕ)) → (failed : Bool)
     → List File → InputFault → Type 0
 IsRestFault losses page cpu first unread left failed files faults.Read = failed ≡ true

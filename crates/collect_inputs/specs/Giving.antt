@@ -9,7 +9,7 @@ use Rattle.collect_inputs.specs.declared.fault.InputFault.{InputFault}
 use Rattle.collect_inputs.specs.declared.fault.InputFault.TheVariants as faults
 use Rattle.collect_inputs.specs.Files.{Checked, ◌>>=◌, ModelPart}
 
--- a part without where it lies in memory
+-- a part without its place in memory
 abbrev pub part_seen : CpuPart → ModelPart
 part_seen part = record { cpu = part.cpu.0; size = part.size.bytes; bytes = part.pages.now }
 

@@ -57,8 +57,8 @@ are_intact [] = true
 are_intact (intact read ∷ pages) = are_intact pages
 are_intact (damaged cause ∷ pages) = false
 
--- What is known of losses of unknown number in a CPU's pages, of whose records so many were overwritten: if there is
--- one such loss, no page is damaged, and more were overwritten than pages count, it is the rest.
+-- What is known of losses of unknown number in a CPU's pages, if it is known how many of its records were overwritten:
+-- if there is one such loss, no page is damaged, and more were overwritten than pages count, it is the rest.
 abbrev pub loss_of : (overrun : Option ℕ) → List Page → Missed
 loss_of None pages = unknown
 loss_of (Some overrun) pages =

@@ -60,7 +60,7 @@ impl CpuCapture {
         Ok(())
     }
 
-    /// Reads a part more, which lies in memory, in pages of `size` bytes. A loss of unknown number is taken as
+    /// Reads a part more, which is in memory, in pages of `size` bytes. A loss of unknown number is taken as
     /// `unknown`.
     pub(crate) fn add_part(
         &mut self,

@@ -63,7 +63,7 @@ fn missed_of_all(parcels: &[Parcel]) -> u64
     total
 }
 
-/// What is known of a loss of unknown number in a capture, if so many records were overwritten.
+/// What is known of a loss of unknown number in a capture, if `overrun` records were overwritten.
 fn loss_in(capture: &Capture, overrun: u64) -> Missed
     requires { (pages : List Page) × IsCapture capture.now pages }
     ensures { (pages : List Page) → IsCapture capture.now pages → missed_of result ≡ loss_of (Some overrun) pages }

@@ -1,17 +1,17 @@
--- A walk from the last range to the front: no range behind it has a number.
+-- A walk from the last range to the front: no range after it has a number.
 use Rattle.std.proofs.Common.{◌≡◌, ℕ, ◌+◌, ◌-◌, ◌<◌, ◌≤◌, Option, Some, None, refl, subst, arith}
 use Rattle.collector.specs.declared.ranges.Content.{Content}
 use Rattle.collector.specs.declared.ranges.Span.{Span}
 use Rattle.collector.specs.declared.ranges.Ranges.{Ranges}
 use Rattle.collector.specs.Ranges.{HasSpan, HasContent}
 
--- no range behind this one has a number; or none has, if the walk is through
+-- no range after this one has a number; or none has, if the walk is through
 abbrev pub NoneBehind : Ranges → Option (ℕ × Span) → Type 0
 NoneBehind ranges None = (first : ℕ) (span : Span) → HasSpan ranges first span → span.end ≤ first
 NoneBehind ranges (Some p) = HasSpan ranges p.0 p.1
     × ((first : ℕ) (span : Span) → p.0 < first → HasSpan ranges first span → span.end ≤ first)
 
--- how many numbers aren't behind where the range begins
+-- how many numbers are up to the first one of the range, that one included; 0 if the walk is through
 abbrev pub numbers_left : Option (ℕ × Span) → ℕ
 numbers_left None = 0
 numbers_left (Some p) = p.0 + 1

@@ -77,7 +77,7 @@ runs_tail P r rs runs = record {
 }
 
 module _ (test : ℕ → Bool) (high : ℕ) where
-  -- a number that passes, or one that does and is behind it
+  -- a number that passes, or one that does and is after it
   alone_or_behind : (n : ℕ) → test n ≡ true → n < high → (m : ℕ) → ((n ≤ m) × (m ≤ n)) ⊎ Passes test (suc n) high m
       → Passes test n high m
   alone_or_behind n passing below m h = ⊎_elim

@@ -13,7 +13,7 @@ use Rattle.collector.proofs.Lists.{same_listed}
 use Rattle.collector.proofs.RecordsLeft.{records_are_left}
 
 module _ {X : Type 0} where
-  -- the numbers behind the first are above it
+  -- the numbers after the first are above it
   above : (x : ℕ × X) (list : List (ℕ × X))
       → ((k : ℕ) (a b : ℕ × X) → slice_get (x ∷ list) k ≡ Some a → slice_get (x ∷ list) (suc k) ≡ Some b → a.0 < b.0)
       → (k : ℕ) (a : ℕ × X) → slice_get list k ≡ Some a → x.0 < a.0

@@ -59,7 +59,7 @@ impl Collector {
     /// The kept parcels, in the order in which they were added. They agree, and the collector has and misses what
     /// they have and miss together.
     // (What `agree` and `sound` say holds of each collector, and is known where this was called. Where only that is
-    // needed, it stands as `let _parcels = collector.parcels();` and takes no time.)
+    // needed, it is written `let _parcels = collector.parcels();` and takes no time.)
     pub fn parcels(&self) -> &[Parcel]
         ensures parcels { as_parcels result.now ≡ self.now }
         ensures agree { Agree self.now }

@@ -3,7 +3,7 @@ use Rattle.std.proofs.Common.{◌≡◌, ℕ, List, [], ◌∷◌, ◌++◌, app
 use Rattle.std.specs.Prelude.{codes}
 use Rattle.text_model.specs.Text.{line_feed, space}
 
--- three parts are put, one behind the other
+-- three parts are put, one after the other
 pub three_put : (first second third before one two out : List ℕ) → one ≡ before ++ first → two ≡ one ++ second
     → out ≡ two ++ third → out ≡ before ++ (first ++ second ++ third)
 three_put first second third before one two out put_first put_second put_third =

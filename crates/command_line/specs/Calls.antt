@@ -104,7 +104,7 @@ recovering_of call = record {
   files = map (λ file. file.now) call.files.items;
 }
 
--- the files that the matches of `recover` name, if there may be so many
+-- the files that the matches of `recover` name, if there aren't too many
 abbrev pub regions_matched : List Row → Option (List Text)
 regions_matched rows = option_and_then path_list (all_of (codes "file") rows)
 

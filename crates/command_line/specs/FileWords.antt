@@ -66,8 +66,8 @@ count_inputs (file ∷ files) = if is_input file.1 then count_inputs files + 1 e
 abbrev pub with_one_input : List (ℕ × List ℕ) → Option (List (ℕ × List ℕ))
 with_one_input files = if nat_le (count_inputs files) 1 then Some files else None
 
--- The CPUs and paths of all FILEs of a call, if each has them. There is one FILE at least, no more than there can be
--- CPUs, and standard input once at most.
+-- The CPUs and paths of all FILEs of a call, if each has them. There is one FILE at least, at most as many as there
+-- can be CPUs, and standard input once at most.
 abbrev pub file_list : (words : List (List ℕ)) → Option (List (ℕ × List ℕ))
 file_list words =
     if nat_lt 0 (length words) && nat_le (length words) MAX_CPUS

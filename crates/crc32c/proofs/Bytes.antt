@@ -77,7 +77,7 @@ remainder_after-number r (b ∷ bytes) all =
     ∙ sym (next_bits-add 8 n (bit_xor (bit_xor r b) (N * 256)))
     ∙ ap₂ next_bits eight (xor_assoc r b (N * 256) ∙ ap (bit_xor r) (xor_above N b (all 0)))
 
--- what bytes leave, each with the others behind it; the last of them first
+-- what bytes leave, each with the others after it; the last of them first
 abbrev pub left_by : List ℕ → ℕ
 left_by [] = 0
 left_by (b ∷ bytes) = bit_xor (left_by bytes) (next_bits (length bytes * 8 + 8) b)

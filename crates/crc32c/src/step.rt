@@ -4,7 +4,7 @@ ghost use Rattle.crc32c.specs.Castagnoli.{next_bits, next_byte, remainder_after}
 
 use crate::tables::TABLES;
 
-/// What a byte leaves when it and this many zero bytes behind it go out.
+/// What a byte leaves when it and this many zero bytes after it go out.
 fn left_by_byte(byte: u8, behind: usize) -> u32
     requires { behind < 8 }
     ensures { result ≡ next_bits (8 * (behind + 1)) byte }

@@ -1,4 +1,4 @@
-//! What each byte leaves, with zero bytes behind it.
+//! What each byte leaves, with zero bytes after it.
 
 /// The row `k` has what each byte leaves when it and `k` zero bytes after it go out.
 pub(crate) static TABLES: [[u32; 256]; 8] = [
