@@ -39,7 +39,7 @@ pub enum What {
 }
 
 /// `number` is a moment, how many steps, a fill, or how many lines say nothing. The payload is, decoded, in the text
-/// itself, from where its digits began; of one too long for any page the length is cut. That of `Deliver` is its collector.
+/// itself, from its first digit; of one too long for any page the length is cut. That of `Deliver` is its collector.
 #[derive(Clone, Copy)]
 pub struct Command {
     pub number: u64,

@@ -18,7 +18,8 @@ abbrev pub overrun_of : (cpu : ℕ) → List (List ℕ) → Option ℕ
 overrun_of cpu [] = None
 overrun_of cpu (text ∷ texts) = overrun_at cpu (counters_in text) (overrun_of cpu texts)
 
--- the same by the counters of a file, if it is the only one; those of several files say nothing of all
+-- how many records of a CPU were overwritten, by the counters of a file that is the only one; those of several
+-- files say nothing of all
 abbrev pub overrun_in : List File → (cpu : ℕ) → Option ℕ
 overrun_in [] cpu = None
 overrun_in (file ∷ []) cpu = overrun_of cpu (counters_of file)

@@ -315,7 +315,7 @@ module _ (ps : List Parcel) (p : Parcel) (old new : Index) (x : IsIndexed ps old
         (get_pushed ps p m.index m.parcel m.at);
   }
 
--- the same, by what the parcel's calls state of it
+-- the index with a parcel more is that of the parcels with it, by what the parcel's calls state of it
 pub kept_indexed_at : (ps : List Parcel) (p : Parcel) (old new : Index) → IsIndexed ps old → IsParcel p
     → Agree (ps ++ p ∷ [])
     → (cpu low first end at : ℕ) → cpu ≡ p.cpu → first ≡ p.first → low + p.missed ≡ p.first

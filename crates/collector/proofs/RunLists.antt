@@ -8,7 +8,7 @@ use Rattle.trace_model.proofs.collections.Elements.{some_is}
 use Rattle.collector.specs.Runs.{InRun, AreRuns, with_number, runs_within}
 use Rattle.collector.proofs.Walks.{skip_all}
 
--- the same runs, if the same holds of each number
+-- runs of the numbers with one property are those of the numbers with another one, if both hold of the same numbers
 pub same_runs : {P Q : ℕ → Type 0} (runs : List (ℕ × ℕ)) → ((n : ℕ) → P n → Q n) → ((n : ℕ) → Q n → P n)
     → AreRuns P runs → AreRuns Q runs
 same_runs runs to back r = record {

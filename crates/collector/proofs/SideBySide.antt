@@ -135,7 +135,7 @@ module _ (ps qs : List Parcel) (i j cpu n : ℕ) (p q : Parcel) (agree : Agree p
     differ = differ apart;
   }
 
--- the same, of all numbers at which both have records in the same parcels
+-- what holds of all numbers at which both have records in the same parcels
 module _ (ps qs : List Parcel) (cpu at : ℕ) (both : Both) (seen : IsSeen ps qs cpu at both) where
   seen_as : (beside : Beside) → both.beside ≡ beside → (n : ℕ) → at ≤ n → n < both.end → IsBeside ps qs cpu n beside
   seen_as beside is n from below = subst (IsBeside ps qs cpu n) is (seen.shown n from below)

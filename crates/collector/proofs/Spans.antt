@@ -221,7 +221,7 @@ none_where_free ranges low end free n content from below t = ⊎_elim
     let at = t.at in cc)
     (cases_lt t.first low)
 
--- the same ranges state the same
+-- equal ranges state the same
 pub keys_report_same : (old new : Ranges) → ((q : ℕ) → get nat_cmp new.spans q ≡ get nat_cmp old.spans q)
     → ReportSame old new
 keys_report_same old new same number content = (

@@ -61,7 +61,7 @@ impl Collector {
         }
     }
 
-    /// The same, and then the next number of which something may be known there.
+    /// What both know of this number, and then the next number of which something may be known there.
     pub(crate) fn beside_known(&self, other: &Collector, cpu: CpuId, number: u64) -> Both
         ensures seen { IsSeen self.now other.now cpu.0 number result }
         ensures next { result.end ≤ result.next }

@@ -32,7 +32,7 @@ impl Index {
         }
     }
 
-    /// The same once more.
+    /// A copy of the index.
     pub(crate) fn copied(&self) -> Result<Index, NoMemory>
         ensures { IfOk result (λ copy. IsIndexCopy self.now copy) }
     {

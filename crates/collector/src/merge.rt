@@ -77,7 +77,7 @@ impl Collector {
         Ok(())
     }
 
-    /// The same for one CPU, if they aren't at odds on those before it.
+    /// Looks whether both fit together on one CPU, if they aren't at odds on those before it.
     fn look_at_cpu(&self, other: &Collector, cpu: CpuId) -> Result<(), AddFault>
         requires { (c n : ℕ) → c < cpu.0 → n < u64.MAX → FitTogether self.now other.now c n }
         ensures fits { OnOk result ((n : ℕ) → n < u64.MAX → FitTogether self.now other.now cpu.0 n) }

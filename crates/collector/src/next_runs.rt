@@ -24,7 +24,7 @@ impl Collector {
         self.next_run(Kind::Missing, cpu, from, end)
     }
 
-    /// The same of the numbers that neither have a record nor are missing.
+    /// The first run, at or above `from` and below `end`, of the numbers that neither have a record nor are missing.
     pub fn next_unknown_run(
         &self,
         cpu: CpuId,

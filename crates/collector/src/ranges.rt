@@ -102,7 +102,7 @@ fn clear_between(spans: &mut BTreeMap<u64, Span>, front: u64, end: u64)
     }
 }
 
-/// The same ranges once more.
+/// A copy of the ranges.
 impl Clone for Ranges {
     ghost is_clone = { λ ranges copy. IsCopy ranges copy };
 

@@ -36,7 +36,7 @@ impl Collector {
         true
     }
 
-    /// The same for one CPU.
+    /// Whether the same is known of all numbers of one CPU.
     fn same_on(&self, other: &Collector, cpu: CpuId) -> bool
         ensures { MatchBool result ((n : ℕ) → n < u64.MAX → IsSameAt self.now other.now cpu.0 n)
             ((n : ℕ) × (IsSameAt self.now other.now cpu.0 n → ⊥)) }

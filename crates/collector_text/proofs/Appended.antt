@@ -28,7 +28,7 @@ text_more f before so_far out xs x n count so_far_is out_is =
     let last = flat_map_more f before (enumerate_from 0 xs) (n, x) in
     rw (out_is, so_far_is, more, number) last
 
--- as many of the one as of the other
+-- two lists whose elements are related in pairs are equally long
 pub zip_length : {A B : Type 0} (R : A → B → Type 0) (xs : List A) (ys : List B) → AllZip R xs ys
     → length xs ≡ length ys
 zip_length R [] [] all = refl

@@ -48,7 +48,8 @@ pub record SourceRun : Type 0 where
   pub count_after : ℕ
   pub failed : Bool
 
--- the same of its sink: the bytes that it had taken before the run and after it, and whether a write has failed
+-- What a run does with its sink: the bytes that it had taken before the run and after it, and whether a write has
+-- failed.
 pub record SinkRun : Type 0 where
   pub contents : Option (List ℕ)
   pub contents_after : Option (List ℕ)

@@ -198,7 +198,7 @@ pub no_collect-words : (words : List Text) (m : ArgMatches) (found : Found) (fau
 no_collect-words words m found NoMemory has named rows unread = no_memory-words words
 no_collect-words words m found Usage has named rows unread = unread-words words m found has named rows (unread refl)
 
--- the same of what is made of the matches of `recover`
+-- the call that is made of the matches of `recover` is the one that the words ask for
 pub recovered-words : (words : List Text) (m : ArgMatches) (found : Found) (call : RecoverCall)
     → HasMatchesOf command_line words m → IsAccepted words
     → subcommand_name_of m ≡ Some (codes "recover")

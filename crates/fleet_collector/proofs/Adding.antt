@@ -28,7 +28,7 @@ use Rattle.fleet_collector.specs.Told.{stream_of, IsStreamOf, IsFleetOf}
 use Rattle.fleet_collector.proofs.Telling.{only, stream_same, apart_same, again_same, parcel_told, end_told}
 use Rattle.fleet_collector.proofs.Telling.{bound_told, low_bound_told, run_told, run_known}
 
--- a stream that is told, and the others, which stay
+-- the stream of the piece has what the pieces state, and the others stay
 fleet_told : (pieces : List Packed) (piece : Packed) (old new : List (ℕ × Stream))
     → KeepsOthers old new (stream_of piece)
     → IsFleetOf pieces old

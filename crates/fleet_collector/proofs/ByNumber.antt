@@ -20,7 +20,7 @@ use Rattle.fleet_collector.specs.Lines.{line_of, IsAmong, AreLinesOf, IsShown, H
 abbrev of_line : ((stream cpu number : ℕ) → Record → Type 0) → Line → Type 0
 of_line holds line = holds line.stream line.cpu line.number record { moment = line.moment; bytes = line.bytes }
 
--- lines behind others, if each of those is before each of them
+-- lines after others, if each of those is before each of them
 module _ (first second both : (stream cpu number : ℕ) → Record → Type 0)
     (in_front : (s c n : ℕ) (r : Record) → first s c n r → both s c n r)
     (behind : (s c n : ℕ) (r : Record) → second s c n r → both s c n r)

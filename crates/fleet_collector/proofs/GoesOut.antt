@@ -84,7 +84,7 @@ module _ (old new : List (ℕ × Stream)) (moment : ℕ) (first rest : List Line
       (bound_of (stream_at new line.stream) line.cpu) line.number h.is_cut (f.cuts line.cpu) h.below in
       absurd (omega arith)
 
--- lines behind others, if each of those is before each of them
+-- lines after others, if each of those is before each of them
 ordered_behind : (xs ys : List Line) → IsTimeOrdered xs → IsTimeOrdered ys
     → ((a b : Line) → IsAmong xs a → IsAmong ys b → IsBefore a b) → IsTimeOrdered (xs ++ ys)
 ordered_behind [] ys p q before k a b at next = q k a b at next

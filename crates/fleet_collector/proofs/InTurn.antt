@@ -70,7 +70,7 @@ lines_more before fleet done item lines more new rising so_far within is old put
     (subst (λ (es : List (ℕ × Stream)). AreLinesOf (HasIn before es) (lines ++ more))
     (sym (map-append entry_seen done (item ∷ []))) all)
 
--- what is known of a stream that stands at a place
+-- what is known of the stream at an index
 pub stream_at_place : (fleet : List (ℕ × Stream)) → IsStrictlyIncreasing (ids fleet) → (n : ℕ) (entry : ℕ × Stream)
     → n < length fleet → entry ≡ get_or fleet n entry → stream_at fleet entry.0 ≡ entry.1
 stream_at_place fleet rising n entry within is =

@@ -225,7 +225,7 @@ merged_at one other joined merges own others id = at (known_of joined id) refl
               (subst (λ (o : Stream). FitTogether empty_stream o) (sym b) nothing_fits);
         }
 
--- ---- what is told by the pieces of both
+-- ---- what the pieces of both state
 
 module _ (pieces others : List Packed) (id : ℕ) where
   parcel_left : (p : Parcel) → TellParcel pieces id p → TellParcel (pieces ++ others) id p
@@ -422,7 +422,7 @@ module _ (pieces others : List Packed) (id : ℕ) where
       );
     }
 
--- ---- what is told determines a fleet
+-- ---- what is stated determines a fleet
 
 option_same : (a b : Option ℕ) → ((x : ℕ) → a ≡ Some x → b ≡ Some x) → ((x : ℕ) → b ≡ Some x → a ≡ Some x) → a ≡ b
 option_same (Some x) b to back = sym (to x refl)

@@ -1,4 +1,4 @@
--- What is known of a stream, put piece by piece, and what the pieces tell.
+-- What is known of a stream, put piece by piece, and what the pieces state.
 use Rattle.std.proofs.Common.{◌≡◌, ◌⊎◌, inl, inr, ⊎_elim, ℕ, zero, suc, ◌+◌, ◌-◌, ◌<◌, ◌≤◌, List, [], ◌∷◌, ◌++◌}
 use Rattle.std.proofs.Common.{length, take, get_or, Option, Some, None, IsSome, refl, sym, ap, ◌∙◌, subst, arith}
 use Rattle.std.proofs.Common.{append-nil, append_assoc}
@@ -175,7 +175,7 @@ runs_there id (q ∷ parcels) (suc k) p piece at t =
     (told_in_either (run_pieces id q.cpu q.first q.missed) (runs_of_all id parcels) piece).1
     (inr (runs_there id parcels k p piece at t))
 
--- ---- what they tell
+-- ---- what they state
 
 module _ (id : ℕ) (s : Stream) (cpus : List ℕ) (values : List ParcelValue) (all : AreMarkedCpus s.marks cpus)
     (are : as_parcels values ≡ s.parcels) where

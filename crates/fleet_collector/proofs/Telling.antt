@@ -1,4 +1,4 @@
--- What is told by one piece more, and by the same pieces in another order.
+-- What one piece more states, and what the same pieces state in another order.
 use Rattle.std.proofs.Common.{◌≡◌, ◌↔◌, ◌⊎◌, inl, inr, ⊎_elim, ℕ, zero, suc, ◌+◌, ◌<◌, ◌≤◌, List, [], ◌∷◌, ◌++◌, length}
 use Rattle.std.proofs.Common.{Some, None, refl, sym, ap, ◌∙◌, subst, arith}
 use Rattle.std.specs.List.{slice_get, Contains}
@@ -60,7 +60,7 @@ pub none_forgets : (pieces : List Packed) (id cpu bound n : ℕ) → IsBoundTold
     → (other : ℕ) → TellForgotten pieces id cpu other → other ≤ n
 none_forgets pieces id cpu bound n is from other told = let low = is.highest other told in omega arith
 
--- ---- pieces that tell the same of one stream
+-- ---- pieces that state the same of one stream
 
 -- both have the same pieces of the stream
 pub record TellSame (pieces others : List Packed) (id : ℕ) : Type 0 where
@@ -346,7 +346,7 @@ module _ (pieces : List Packed) (id c : ℕ) (mark : Mark) where
     below = t.below;
   }
 
-  -- the bounds, the ends and what is given up are those that the pieces and the mark tell, and nothing else changes
+  -- the bounds, the ends and what is given up are those that the pieces and the mark state, and nothing else changes
   -- from
   -- the bounds on
   marked_told : (old new : Stream) → IsStreamOf pieces id old
@@ -736,7 +736,7 @@ moved_same pieces others moved piece = (
       (contains_it others piece s)),
 )
 
--- nothing is told by no pieces
+-- no pieces state nothing
 pub told_by_none : (id : ℕ) → IsStreamOf [] id (stream_at [] id)
 told_by_none id = record {
   bounds = λ cpu. record {

@@ -31,7 +31,7 @@ stream_at fleet id = or_empty (known_of fleet id)
 abbrev pub KeepsOthers : (old new : List (ℕ × Stream)) (id : ℕ) → Type 0
 KeepsOthers old new id = (other : ℕ) → other ≢ id → known_of new other ≡ known_of old other
 
--- a stream that is handed out: its id, and what is known of it
+-- a stream that an iterator gives: its id, and what is known of it
 abbrev pub entry_seen : StreamId × Bor Stream → ℕ × Stream
 entry_seen entry = (entry.0.0, entry.1.now)
 

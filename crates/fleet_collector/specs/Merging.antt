@@ -20,7 +20,7 @@ abbrev pub IsFleetMergeFault : (fleet other : List (ℕ × Stream)) → FleetMer
 IsFleetMergeFault fleet other fault =
     IsMergeFault (stream_at fleet fault.stream.0) (stream_at other fault.stream.0) fault.fault
 
--- the same is known of each stream
+-- of each stream, both fleets know the same
 abbrev pub IsSameFleet : (fleet other : List (ℕ × Stream)) → Type 0
 IsSameFleet fleet other = (id : ℕ) → IsSameStream (stream_at fleet id) (stream_at other id)
 

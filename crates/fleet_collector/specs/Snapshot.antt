@@ -9,7 +9,7 @@ use Rattle.stream_collector.specs.Marks.{AreMarkedCpus}
 use Rattle.stream_collector.specs.Stream.{Stream, bound_of, end_of}
 use Rattle.fleet_collector.specs.Told.{stream_of, IsPieceOf, IsStreamOf}
 
--- The bytes are a stream of pieces, all of this stream, which tell just what is known of it, no less and no more.
+-- The bytes are a stream of pieces, all of this stream, which state exactly what is known of it.
 pub record IsSnapshot (id : ℕ) (stream : Stream) (bytes : List ℕ) : Type 0 where
   pub pieces : List Packed
   pub is_stream : IsStream bytes pieces
@@ -37,7 +37,7 @@ abbrev pub marks_of_all : (id : ℕ) → Stream → List ℕ → List Packed
 marks_of_all id stream [] = []
 marks_of_all id stream (cpu ∷ cpus) = marks_of id stream cpu ++ marks_of_all id stream cpus
 
--- the run of so many numbers before this one, if there is any
+-- the run of `missed` numbers before `first`, if there is any
 abbrev pub run_pieces : (id cpu first missed : ℕ) → List Packed
 run_pieces id cpu first zero = []
 run_pieces id cpu first (suc more) = mark_piece id cpu (Undelivered (first - suc more) first) ∷ []

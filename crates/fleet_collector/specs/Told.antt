@@ -1,4 +1,4 @@
--- What pieces tell of each stream, whatever their order and repeats; and the fleet that is exactly what they tell.
+-- What pieces state of each stream, whatever their order and repeats; and the fleet that is exactly what they state.
 use Rattle.std.specs.Prelude.{◌≡◌, ◌↔◌, ◌⊎◌, ℕ, ◌<◌, ◌≤◌, List, Some}
 use Rattle.std.specs.List.{slice_get}
 use Rattle.trace_model.specs.Record.{Record}
@@ -19,7 +19,7 @@ stream_of (mark_piece stream cpu mark) = stream
 abbrev pub IsPieceOf : List Packed → Packed → Type 0
 IsPieceOf pieces piece = (k : ℕ) × (slice_get pieces k ≡ Some piece)
 
--- one of them says that a CPU of a stream has so many records
+-- one of them says that a CPU of a stream has `count` records
 abbrev pub TellEnd : List Packed → (stream cpu count : ℕ) → Type 0
 TellEnd pieces stream cpu count = IsPieceOf pieces (mark_piece stream cpu (End count))
 
@@ -56,12 +56,12 @@ TellRecord pieces stream cpu number r = TellOfNumber (λ parcel. IsPairOf parcel
 abbrev pub TellMissing : List Packed → (stream cpu number : ℕ) → Type 0
 TellMissing pieces stream cpu number = TellOfNumber (λ parcel. IsMissingOf parcel cpu number) pieces stream cpu number
 
--- the bound is the greatest that they tell, or 0 if they tell none
+-- the bound is the greatest that they state, or 0 if they state none
 pub record IsBoundTold (pieces : List Packed) (stream cpu bound : ℕ) : Type 0 where
   pub highest : (other : ℕ) → TellForgotten pieces stream cpu other → other ≤ bound
   pub told : (bound ≡ 0) ⊎ TellForgotten pieces stream cpu bound
 
--- What is known of this stream is what the pieces tell of it, no less and no more: the bound and the end of each CPU,
+-- What is known of this stream is exactly what the pieces state of it: the bound and the end of each CPU,
 -- from the bounds on the records and the missing numbers, and the numbers that were given up.
 pub record IsStreamOf (pieces : List Packed) (id : ℕ) (stream : Stream) : Type 0 where
   pub bounds : (cpu : ℕ) → IsBoundTold pieces id cpu (bound_of stream cpu)
@@ -78,7 +78,7 @@ pub record IsFleetOf (pieces : List Packed) (fleet : List (ℕ × Stream)) : Typ
 abbrev pub HaveSamePieces : List Packed → List Packed → Type 0
 HaveSamePieces pieces others = (piece : Packed) → (IsPieceOf pieces piece ↔ IsPieceOf others piece)
 
--- The listing of what the pieces tell: a line for each record of it, and no other, in strict order.
+-- The listing of what the pieces state: a line for each record of it, and no other, in strict order.
 pub record IsListingOf (pieces : List Packed) (lines : List Line) : Type 0 where
   pub ordered : IsTimeOrdered lines
   pub of_them : (k : ℕ) (line : Line)

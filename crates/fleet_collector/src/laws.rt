@@ -1,4 +1,4 @@
-//! Laws over what pieces tell of a fleet.
+//! Laws over what pieces state of a fleet.
 ghost use Rattle.std.specs.Prelude.{◌↔◌, ◌⊎◌, ℕ, ◌<◌, ◌≤◌, List, [], ◌++◌, IsPermutation, Some};
 ghost use Rattle.trace_model.specs.Collection.{Has, Agree};
 ghost use Rattle.trace_model.specs.Parcel.{Parcel};
@@ -45,7 +45,7 @@ pub fn what_is_read_may_be_added()
     ensures { (bytes : List ℕ) (piece : Piece) → BeginsWith bytes (piece_seen piece) → HasKnownCpu piece }
 {}
 
-/// The listing of the fleet of some pieces has a line for each record that the pieces tell, and no other.
+/// The listing of the fleet of some pieces has a line for each record that the pieces state, and no other.
 pub fn a_listing_is_what_the_pieces_tell()
     ensures { (pieces : List Packed) (fleet : List (ℕ × Stream)) (lines : List Line)
         → IsFleetOf pieces fleet → IsFleetListing fleet lines → IsListingOf pieces lines }

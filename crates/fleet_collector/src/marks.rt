@@ -66,8 +66,8 @@ impl Fleet {
         self.change(stream, cpu, Change::Forgotten(bound))
     }
 
-    /// The same, if all numbers of the CPU from its bound up to this one are accounted for, as with
-    /// `StreamCollector::forget`.
+    /// Forgets what is below this bound of a CPU of the stream, if all numbers from the CPU's bound up to it are
+    /// accounted for, as with `StreamCollector::forget`.
     pub fn forget(
         &mut self,
         stream: StreamId,

@@ -18,7 +18,7 @@ use Rattle.fleet_text.specs.Cpus.{FleetCpu, cpu_seen, IsAmong, IsBefore, IsThere
 use Rattle.fleet_text.specs.Runs.{Run, run_at, IsOfKind, IsApart, AreRunsOf, IsOfKindAmong, AreRunsOfFleet}
 use Rattle.fleet_text.proofs.CpuSets.{only}
 
--- runs behind others, if each of those is before each of them
+-- runs after others, if each of those is before each of them
 module _ (first second both : (stream cpu number : ℕ) → Type 0)
     (in_front : (s c n : ℕ) → first s c n → both s c n)
     (behind : (s c n : ℕ) → second s c n → both s c n)
@@ -213,7 +213,7 @@ ordered_at before (z ∷ xs) ordered (suc i) zero x y less at there = absurd (om
 ordered_at before (z ∷ xs) ordered (suc i) (suc j) x y less at there =
     ordered_at before xs ordered.1 i j x y (omega arith) at there
 
--- those in front of a place are before the one there
+-- the elements before an index are before the one at it
 pub front_before : (cpus : List FleetCpu) (n : ℕ) (at : FleetCpu) → AreOrdered IsBefore cpus → slice_get cpus n ≡ Some
     at
     → (x : FleetCpu) → IsAmong (take n cpus) x → IsBefore x at

@@ -86,7 +86,7 @@ trouble_text (Unread fault) = piece_fault_name fault
 trouble_text (Refused stream cpu (refusals.Parcel fault)) = refused_parcel stream.0 fault
 trouble_text (Refused stream cpu (refusals.Mark fault)) = refused_mark stream.0 cpu.0 fault
 
--- so many bytes and pieces of the input are before the piece
+-- `at` and `index` are how many bytes and pieces of the input are before the piece
 abbrev pub fault_line : (at index : ℕ) → PieceTrouble → List ℕ
 fault_line at index trouble =
     codes "stream: " ++ trouble_text trouble ++ codes " at " ++ decimal at ++ codes " piece " ++ decimal index

@@ -29,7 +29,7 @@ IsOfKind Unknown = IsUnknownYet
 IsOfKind Undelivered = IsUndelivered
 IsOfKind Forgotten = λ stream cpu number. number < bound_of stream cpu
 
--- by stream, then by CPU, then by number, and a number lies between two runs of one CPU
+-- by stream, then by CPU, then by number, and a number is between two runs of one CPU
 abbrev pub IsApart : Run → Run → Type 0
 IsApart a b = (a.stream < b.stream)
     ⊎ ((a.stream ≡ b.stream) × ((a.cpu < b.cpu) ⊎ ((a.cpu ≡ b.cpu) × (suc a.last < b.first))))

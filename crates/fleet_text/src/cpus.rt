@@ -49,7 +49,7 @@ fn cpus_of(alloc: Global, known: &StreamCollector) -> Result<BTreeSet<u32>, NoMe
     Ok(cpus)
 }
 
-/// Puts the CPUs of a stream behind these.
+/// Puts the CPUs of a stream after these.
 fn put_stream<'a>(
     alloc: Global,
     list: &mut Vec<StreamCpu<'a>>,

@@ -264,7 +264,7 @@ fn put_trouble<W: Sink>(buffer: &mut TextBuffer, writer: &mut W, trouble: PieceT
     }
 }
 
-/// Puts the line that says why nothing is made of a piece: before it are so many bytes and pieces of its input.
+/// Puts the line that says why nothing is made of a piece, with how many bytes and pieces of its input are before it.
 pub fn put_fault<W: Sink>(
     buffer: &mut TextBuffer,
     writer: &mut W,

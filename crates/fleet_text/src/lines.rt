@@ -15,7 +15,7 @@ use parcel_streams::StreamId;
 use text_buffer::TextBuffer;
 use trace_model::CpuId;
 
-/// Puts a number behind a text.
+/// Puts a number after a text.
 pub(crate) fn put_numbered<W: Sink>(
     buffer: &mut TextBuffer,
     writer: &mut W,

@@ -2,7 +2,7 @@
 use parcel_streams::StreamId;
 use trace_model::{CpuId, RecordNo};
 
-/// What a run tells of its numbers.
+/// What a run states of its numbers.
 #[derive(Clone, Copy, Debug, PartialEq, Eq)]
 pub enum RunKind {
     /// They are missing.

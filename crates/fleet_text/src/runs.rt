@@ -12,7 +12,7 @@ use std::alloc::Global;
 use stream_collector::StreamRuns;
 use trace_model::{CpuId, NoMemory, RecordNo};
 
-/// Puts these runs of a CPU behind the others.
+/// Puts these runs of a CPU after the others.
 fn put_all(
     runs: &mut Vec<FleetRun>,
     stream: StreamId,

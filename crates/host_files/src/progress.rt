@@ -4,7 +4,7 @@ use std::io::{Read, Write};
 use std::rt::Clock;
 use std::time::Instant;
 
-/// After so many bytes the clock is read again, and so many are one MB of what is told.
+/// One MB of what is reported. After as many bytes the clock is read again.
 const MEGABYTE: u64 = 1_000_000;
 
 /// Takes away what is on the line.
@@ -12,23 +12,23 @@ fn clear_line<R: Eprint>(rt: &R) {
     let _ = eprint!(rt; "\r\x1b[K");
 }
 
-/// Tells on standard error how many bytes have passed, at most once a second, after the first second. What was told is
-/// taken away when it is let go.
+/// Reports on standard error how many bytes have passed, at most once a second, after the first second. The report is
+/// removed when this is dropped.
 pub struct Progress<'a, R: Eprint + Clock> {
     rt: &'a R,
     /// What is done with the bytes.
     what: &'static str,
-    /// When it was last told, or it began. `None` if nothing is to be told.
+    /// When it last reported, or began. `None` if nothing is to be reported.
     told: Option<Instant>,
     /// Whether something is on the line.
     is_shown: bool,
     passed: u64,
-    /// The clock is read when so many bytes have passed.
+    /// How many bytes have passed when the clock is read next.
     next: u64,
 }
 
 impl<'a, R: Eprint + Clock> Progress<'a, R> {
-    /// Begins now, and tells nothing unless `is_wanted`. `what` is done with the bytes, as in "read".
+    /// Begins now, and reports nothing unless `is_wanted`. `what` is done with the bytes, as in "read".
     pub fn begin(rt: &'a R, what: &'static str, is_wanted: bool) -> Progress<'a, R> {
         let told = if is_wanted {
             Instant::now(rt).ok()
@@ -45,7 +45,7 @@ impl<'a, R: Eprint + Clock> Progress<'a, R> {
         }
     }
 
-    /// So many bytes more have passed.
+    /// `count` bytes more have passed.
     fn pass(&mut self, count: usize) {
         self.passed = self.passed.saturating_add(count as u64);
         if self.passed >= self.next {
@@ -54,7 +54,7 @@ impl<'a, R: Eprint + Clock> Progress<'a, R> {
         }
     }
 
-    /// Tells how many bytes have passed, if a second is over.
+    /// Reports how many bytes have passed, if a second is over.
     fn look(&mut self) {
         let Some(told) = self.told else {
             return;
@@ -69,7 +69,7 @@ impl<'a, R: Eprint + Clock> Progress<'a, R> {
         }
     }
 
-    /// Takes away what was told.
+    /// Removes the report.
     fn end(&mut self) {
         if self.is_shown {
             self.is_shown = false;
@@ -94,7 +94,7 @@ impl<'a, R: Eprint + Clock> Drop for Progress<'a, R> {
     }
 }
 
-/// An end that tells how many bytes have passed.
+/// A reader or writer that reports how many bytes have passed.
 #[derive(Drop)]
 pub struct Watched<'a, R: Eprint + Clock, T> {
     inner: T,

@@ -34,7 +34,7 @@ one_more known formats i d below =
     ∙ ap (λ fs. known ++ fs) (map-append format_seen (take i formats) (get_or formats i d ∷ []))
     ∙ sym (append_assoc known (map format_seen (take i formats)) (format_seen (get_or formats i d) ∷ []))
 
--- the event of a number, where one more of the formats is known
+-- the event of a number, if one more of the formats is known
 pub event_goes_on : (id : ℕ) (known : List EventFormat) (formats : List Format) (i : ℕ) (d : Format)
     (old new : Option Event) → i < length formats
     → new ≡ first_of (event_under id (described_in (format_seen (get_or formats i d)))) old
@@ -46,7 +46,7 @@ event_goes_on id known formats i d old new below step so_far =
     ∙ sym (event_of_more id (known ++ map format_seen (take i formats)) (format_seen (get_or formats i d)))
     ∙ sym (ap (λ fs. event_of id fs) (one_more known formats i d below))
 
--- if no more than the formats before one are known, some are known
+-- if the events are those of the formats before an index, they are those of some of the formats
 pub events_of_some : (names names' : EventNames) (known : List EventFormat) (formats : List Format) (i : ℕ)
     → i < length formats → ((id : ℕ) → events_of names' id ≡ events_of names id)
     → HasEvents names (known ++ map format_seen (take i formats))

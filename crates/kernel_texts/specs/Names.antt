@@ -15,7 +15,7 @@ pub record Event : Type 0 where
   pub system : List ℕ
   pub name : List ℕ
 
--- an event without where it lies in memory
+-- an event without its place in memory
 abbrev pub event_seen : EventName → Event
 event_seen event = record { system = event.system.now; name = event.name.now }
 

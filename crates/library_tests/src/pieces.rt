@@ -62,7 +62,7 @@ fn compare<R: Source + Drop>(
     Ok(())
 }
 
-/// Cut at any byte, a stream has its whole pieces, and where it isn't cut between two, a fault behind them.
+/// Cut at any byte, a stream has its whole pieces, and where it isn't cut between two, a fault after them.
 #[test]
 fn a_cut_stream_is_read(rt: HostRuntime) -> Result<(), Fail> {
     for len in 0..=STREAM.len() {
@@ -77,7 +77,7 @@ fn a_cut_stream_is_read(rt: HostRuntime) -> Result<(), Fail> {
     Ok(())
 }
 
-/// A source that fails amid a stream gives the pieces before that, and then says so.
+/// A source that fails in the middle of a stream gives the pieces before that, and then says so.
 #[test]
 fn a_failed_read_is_reported(rt: HostRuntime) -> Result<(), Fail> {
     for len in 0..=STREAM.len() {

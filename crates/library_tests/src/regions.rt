@@ -18,7 +18,7 @@ const HEADER: &[u8] = b"tracring\x01\0\0\0\0\0\0\0\
     \0\0\0\0\0\0\0\0\0\0\0\0\0\0\0\0\0\0\0\0\0\0\0\0\0\0\0\0\0\0\0\0\
     \0\0\0\0\0\0\0\0\0\0\0\0\0\0\0\0\0\0\0\0\0\0\0\0\0\0\0\0\0\0\0\0";
 
-/// Fill 6, with record 7: `next` at 100. Behind its commit another record was being written.
+/// Fill 6, with record 7: `next` at 100. After its commit another record was being written.
 const SIX: &[u8] = b"\x02\0\0\0\0\0\0\0\x06\0\0\0\0\0\0\0\
     \x07\0\0\0\0\0\0\0\0\0\0\0\0\0\0\0\
     \x64\0\0\0\0\0\0\0\x08\0\0\0\0\0\0\0\
@@ -59,7 +59,7 @@ fn region_of(alloc: Global, slots: [&[u8]; 4]) -> Result<Vec<u8>, NoMemory> {
     Ok(bytes)
 }
 
-/// The same with these bytes from `at` on.
+/// A copy of the bytes, with `piece` from `at` on.
 fn changed(alloc: Global, bytes: &[u8], at: usize, piece: &[u8]) -> Result<Vec<u8>, NoMemory> {
     let mut copy = Vec::from_slice(alloc, bytes)?;
     for (slot, byte) in copy.iter_mut().skip(at).zip(piece) {
@@ -75,7 +75,7 @@ fn compare(rt: &impl Abort, parcel: &Parcel, numbers: (u64, u64, u64, u64)) {
     assert!(rt; parcel.missed() == numbers.3);
 }
 
-/// Compares both parcels of a region: before the numbers 7 and 10 so many are missing.
+/// Compares both parcels of a region. `missed` is how many numbers are missing before the numbers 7 and 10.
 fn compare_parcels(rt: &impl Abort, region: &Region, missed: (u64, u64)) {
     let [six, seven] = region.parcels.as_slice() else {
         panic!(rt; "other parcels");
@@ -125,8 +125,8 @@ fn a_whole_region_tells_what_is_missing(rt: HostRuntime) -> Result<(), Fail> {
     Ok(())
 }
 
-/// Compares the pages of a region of which so many numbers were taken: of the two only the last one is left, before
-/// which so many are missing.
+/// Compares the pages of a region, some of whose numbers were taken: of the two only the last one is left, before which
+/// `missed` are missing.
 fn compare_last(rt: &impl Abort, region: &Region, missed: u64) {
     let [seven] = region.parcels.as_slice() else {
         panic!(rt; "other parcels");

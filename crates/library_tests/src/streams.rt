@@ -30,7 +30,7 @@ pub(crate) const STREAM: &[u8] = b"TRPARCEL\x01\0\0\0\0\0\0\0\
     \0\0\0\0\0\0\0\0\x08\0\0\0\0\0\0\0\
     \xa5\x1e\xac\xc5\0\0\0\0";
 
-/// The same, the first one of kind 4.
+/// The two pieces of `STREAM`, the first one with kind 4.
 const OTHER_KIND: &[u8] = b"TRPARCEL\x01\0\0\0\x04\0\0\0\
     \x60\0\0\0\0\0\0\0\x88\x77\x66\x55\x44\x33\x22\x11\
     \0\0\0\0\0\0\0\0\x05\0\0\0\0\0\0\0\
@@ -42,7 +42,7 @@ const OTHER_KIND: &[u8] = b"TRPARCEL\x01\0\0\0\x04\0\0\0\
     \0\0\0\0\0\0\0\0\x08\0\0\0\0\0\0\0\
     \xa5\x1e\xac\xc5\0\0\0\0";
 
-/// The same, with a byte behind the parcel's data.
+/// The two pieces of `STREAM`, with a byte after the parcel's data.
 const BYTE_BEHIND: &[u8] = b"TRPARCEL\x01\0\0\0\0\0\0\0\
     \x61\0\0\0\0\0\0\0\x88\x77\x66\x55\x44\x33\x22\x11\
     \0\0\0\0\0\0\0\0\x05\0\0\0\0\0\0\0\
@@ -54,7 +54,7 @@ const BYTE_BEHIND: &[u8] = b"TRPARCEL\x01\0\0\0\0\0\0\0\
     \x11\0\0\0\0\0\0\0\0\x08\0\0\0\0\0\0\
     \0\xa5\x1e\xac\xc5\0\0\0\0";
 
-/// The same, the end one of CPU 256.
+/// The two pieces of `STREAM`, the end one of CPU 256.
 const OTHER_CPU: &[u8] = b"TRPARCEL\x01\0\0\0\0\0\0\0\
     \x60\0\0\0\0\0\0\0\x88\x77\x66\x55\x44\x33\x22\x11\
     \0\0\0\0\0\0\0\0\x05\0\0\0\0\0\0\0\

@@ -27,7 +27,7 @@ is_far holds runs are (suc k) run at =
     let apart = are.apart k (get_or runs k run) run before at in
     omega arith
 
--- the same of the run at an index
+-- the first number of the run at an index is at least twice as large as the number of runs before it
 pub is_far_at : (holds : ℕ → Type 0) (runs : List (ℕ × ℕ)) → AreRuns holds runs → (k : ℕ) (run : ℕ × ℕ)
     → k < length runs → run ≡ get_or runs k run → k + k ≤ run.0
 is_far_at holds runs are k run lt is = is_far holds runs are k run (slice_get-get_or runs k run lt ∙ ap Some (sym is))

@@ -14,7 +14,7 @@ use Rattle.page_numbers.specs.declared.fault.ParcelFault.TheVariants.{NoMemory}
 use Rattle.page_numbers.specs.Faults.{parcel_fault, HasReading}
 use Rattle.library_values.specs.CollectorAdding.{IsNoParcel}
 
--- the same is stated of missed records
+-- with bytes after them, they state the same of missed records
 reports_more : (commit : Commit) (behind more : List ℕ) (missed : Missed) → ReportsMissed commit behind missed
     → ReportsMissed commit (behind ++ more) missed
 reports_more commit behind more none r = r

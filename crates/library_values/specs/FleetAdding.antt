@@ -20,7 +20,7 @@ abbrev pub place_of : Piece → ℕ × ℕ
 place_of (Parcel stream parcel) = (stream.0, parcel.cpu)
 place_of (Mark stream cpu mark) = (stream.0, cpu.0)
 
--- the bytes begin with this piece, which takes so many of them
+-- the bytes begin with this piece, which takes `len` of them
 pub record IsAtFront (bytes : List ℕ) (piece : Piece) (len : ℕ) : Type 0 where
   pub begins : BeginsWith bytes (piece_seen piece)
   pub len_is : len ≡ length (bytes_of_piece (piece_seen piece))

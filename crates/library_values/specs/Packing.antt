@@ -17,7 +17,7 @@ pub record PacksSo (stream : ℕ) (bytes out : List ℕ) (put : Put) (left : Lis
   pub sound : IsPiece (parcel_piece stream parcel time contents)
   pub puts : PutsSo (bytes_of_piece (parcel_piece stream parcel time contents)) out put left
 
--- The pieces are put into the buffer, or have no room there, which tell just what is known of a stream.
+-- The pieces are put into the buffer, or have no room there, which state exactly what is known of a stream.
 pub record PacksSnapshot (id : ℕ) (stream : Stream) (out : List ℕ) (put : Put) (left : List ℕ) : Type 0 where
   pub bytes : List ℕ
   pub is_snapshot : IsSnapshot id stream bytes

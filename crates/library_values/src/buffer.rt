@@ -6,7 +6,7 @@ ghost use Rattle.library_values.specs.Buffer.{PutsSo};
 pub enum Put {
     /// They are there; how many they are.
     Done(usize),
-    /// The buffer is shorter than they are, which are so many. Nothing was put.
+    /// The buffer is shorter than they are. Nothing was put. The number is theirs.
     NoRoom(usize),
 }
 

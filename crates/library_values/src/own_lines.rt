@@ -47,7 +47,7 @@ impl<H: Copy> OwnLines<H> {
         }
     }
 
-    /// No line, with room for so many, which have so many bytes in all. Memory is taken twice, however many there are.
+    /// No line, with room for `lines` lines of `bytes` bytes in all. Memory is taken twice, however many there are.
     pub(crate) fn with_room(
         alloc: Global,
         lines: usize,

@@ -25,7 +25,7 @@ fn least_known(cpus: KnownCpus<'_>, from: u32) -> Option<u32>
     None
 }
 
-/// The same of CPUs that have marks.
+/// The least CPU, from `from` on, of those that have marks.
 fn least_marked(cpus: MarkedCpus<'_>, from: u32) -> Option<u32>
     requires { IsStrictlyIncreasing cpus }
     ensures least { IfSome result (λ cpu. IsLeastFrom (Contains cpus.entry) from cpu) }

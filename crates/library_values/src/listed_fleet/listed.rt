@@ -137,7 +137,7 @@ impl ListedFleet {
         Ok(count)
     }
 
-    /// The same of what is before the cuts of the CPUs at a moment.
+    /// Lists the records that are before the cuts of the CPUs at a moment. The answer is how many lines there are.
     pub fn list_before(&mut self, alloc: Global, moment: Moment) -> Result<usize, NoMemory>
         ensures listing { OnOk result (IsListingBefore self.old.fleet moment.0 (lines_of self.new.lines)) }
         ensures count { IfOk result (λ count. count ≡ length self.new.lines) }

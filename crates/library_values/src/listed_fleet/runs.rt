@@ -24,7 +24,7 @@ impl ListedFleet {
         put_runs(known_of(&self.fleet, stream, &empty).missing(cpu), out)
     }
 
-    /// The same of those that are unknown yet.
+    /// Puts the runs of the numbers of a CPU that are unknown yet, as `put_missing` puts the missing ones.
     pub fn put_unknown(&self, alloc: Global, stream: StreamId, cpu: CpuId, out: &mut [Run]) -> usize
         ensures { PutsRuns (IsUnknownYet (stream_at self.now.fleet stream.0) cpu.0) out.old result out.new }
     {
@@ -32,7 +32,7 @@ impl ListedFleet {
         put_runs(known_of(&self.fleet, stream, &empty).unknown(cpu), out)
     }
 
-    /// The same of those that are undelivered.
+    /// Puts the runs of the numbers of a CPU that are undelivered, as `put_missing` puts the missing ones.
     pub fn put_undelivered(
         &self,
         alloc: Global,
