@@ -179,7 +179,7 @@ fn packed(alloc: Global, stream: StreamId, known: &StreamCollector) -> Result<Ve
 }
 
 impl Fleet {
-    /// A snapshot of a stream: packed pieces that state exactly what is known of it, the bounds and ends of its CPUs first,
+    /// A snapshot of a stream: packed pieces that state exactly what is known of it, its CPUs' bounds and ends first,
     /// then what was given up, then the kept parcels. A fleet that they are added to knows of the stream what this one
     /// does, and streams may be put one after the other.
     pub fn pack(&self, alloc: Global, stream: StreamId) -> Result<Vec<u8>, NoMemory>

@@ -7,6 +7,6 @@ module _ {H : Type 0} where
   abbrev pub line_in : List ℕ → LinePlace H → H × List ℕ
   line_in bytes place = (place.head, take place.len (drop place.start bytes))
 
-  -- the place is within that many bytes
+  -- the place is within the first `count` bytes
   abbrev pub StandsIn : ℕ → LinePlace H → Type 0
   StandsIn count place = place.start + place.len ≤ count

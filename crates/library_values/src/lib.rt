@@ -1,4 +1,4 @@
-//! The values that the handles of the library for C stand for: a box as its pointer, pages as bytes in a caller's buffer, and
+//! What the handles of the library for C stand for: a box as its pointer, pages as bytes in a caller's buffer, and
 //! collectors and fleets for callers that have numbers and buffers alone.
 #![tactic(auto)]
 

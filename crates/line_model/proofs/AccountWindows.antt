@@ -61,7 +61,7 @@ module _ (script : Script) (asked : ℕ) where
   acts_due front (leave payload) may = tt
   acts_due front wished may = tt
 
-  -- the run behind an event, by its history and window
+  -- the run after an event, by its history and window
   from_there : (front : List RingEvent) (event : RingEvent) (behind : List RingEvent) (h : List HistoryEvent)
       (w : Window)
       → history_events_of (front ++ event ∷ []) ≡ h
@@ -84,7 +84,7 @@ module _ (script : Script) (asked : ℕ) where
   abbrev After : List RingEvent → List RingEvent → Type 0
   After front behind = RunsOn (history_events_of front) (window_at script.start front) behind
 
-  -- one event, and the run behind it
+  -- one event, and the run after it
   passes : (front : List RingEvent) (event : RingEvent) (behind : List RingEvent)
       → Due front event
       → After (front ++ event ∷ []) behind

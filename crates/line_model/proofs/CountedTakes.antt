@@ -22,7 +22,7 @@ use Rattle.world_model.specs.Lanes.{Lane, lane_behind, ReaderRun, HasTakeAnswer}
 use Rattle.line_model.proofs.Standing.{steps_of, IsAtHead}
 use Rattle.line_model.proofs.ReaderLines.{TakesNone, TakesOne, IsInTheWay, Stays, one_stays, by_case}
 
--- What the reader knows to be closed after `total` steps of a take, of which it had made so many before.
+-- What the reader knows to be closed after `total` steps of a take, of which it had made `made` before.
 pub record SeesBy (made total : ℕ) (c after : Core) : Type 0 where
   pub early : total < 2 → after.reader.seen ≡ c.reader.seen
   pub now : made < 2 → 2 ≤ total → after.reader.seen ≡ c.done

@@ -1,4 +1,4 @@
--- Each line of a script, from a ring that stands beside an account: a line of the account, and it stands again.
+-- Each line of a script, from a ring that matches an account: it is one of the account, and the ring matches again.
 use Rattle.std.proofs.Common.{◌≡◌, ◌≢◌, ℕ, List, [], refl, inl, inr}
 use Rattle.std.specs.Prelude.{⊤}
 use Rattle.trace_model.specs.Window.{RingEvent}
@@ -57,7 +57,7 @@ module _ (script : Script) (cpu : ℕ) where
     due = none_due script state.wish state.events;
   }
 
--- A line of the account, after which the ring stands beside it.
+-- A line of the account, after which the ring matches it.
 pub record LineStands (script : Script) (cpu : ℕ) (command : Command) (state : CpuState) (next : Lane) : Type 0 where
   pub after : CpuState
   pub line : IsLine script cpu command state after

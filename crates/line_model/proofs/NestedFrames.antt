@@ -34,7 +34,7 @@ module _ (next : LineFrame) (below : List LineFrame) where
   EndsByLeaving own =
       (front : List RingEvent) × (written : Option (List ℕ)) × (own ≡ front ++ acts (leave written) ∷ [])
 
-  -- one event more in front
+  -- one event more before them
   one_more : (event : RingEvent) (own : List RingEvent) → EndsByLeaving own → EndsByLeaving (event ∷ own)
   one_more event own (front, written, is) = (event ∷ front, written, ap (λ (l : List RingEvent). event ∷ l) is)
 

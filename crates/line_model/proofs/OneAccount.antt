@@ -346,7 +346,7 @@ module _ (script : Script) (asked seen : ℕ) (below : List LineFrame) where
 
 -- ---- a line
 
--- no frame on the stack may be amid a move of the head
+-- no frame on the stack may be moving the head
 abbrev AreStill : List LineFrame → Type 0
 AreStill [] = ⊤
 AreStill (frame ∷ frames) = (frame.losing ≡ false) × AreStill frames

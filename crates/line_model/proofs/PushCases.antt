@@ -28,7 +28,7 @@ pub data PushCases (Refused : Type 0) (kind : Purpose) (event : HistoryEvent) (c
       → after ≡ c
       → PushCases Refused kind event c answer after
 
--- why a record frame is refused, if so many are on the stack
+-- why a record frame is refused, if `many` frames are on the stack
 abbrev pub Refuses : (size moment len many : ℕ) → Type 0
 Refuses size moment len many = (MAX_FRAMES ≤ many) ⊎ (size < encoded_len len 0 true) ⊎ (MOMENT_LIMIT ≤ moment)
 

@@ -62,7 +62,7 @@ pub record Stays (c after : Core) : Type 0 where
   pub opened : after.opened ≡ c.opened
   pub wish : after.wish ≡ c.wish
 
--- a frame is amid a move of the head
+-- a frame is moving the head
 abbrev pub IsInTheWay : Core → Type 0
 IsInTheWay c = (f : ℕ) × IsMoved c.frames f
 
@@ -234,7 +234,7 @@ wish_is n size c answer after (end_early paid frame below e top early a is) = ab
 wish_is n size c answer after (read_step e step) = absurd (subst IsWishes e tt)
 wish_is n size c answer after (store_wish_step e a is) = is
 
--- ---- steps behind one that goes on
+-- ---- steps after one that goes on
 
 module _ (c between after : Core) (first : GoesOn c between) (stays : Stays c between) where
   none_behind : TakesNone between after → TakesNone c after

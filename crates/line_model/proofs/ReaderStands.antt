@@ -1,4 +1,4 @@
--- The lines of a reader, from a ring that stands beside an account: they are lines of the account, and it stands again.
+-- The lines of a reader, from a ring that matches an account: they are lines of the account, and it matches again.
 use Rattle.std.proofs.Common.{◌≡◌, ℕ, zero, suc, ◌+◌, ◌<◌, ◌≤◌, ◌⊎◌, ltb, Bool, true, false, List, [], ◌∷◌, ◌++◌}
 use Rattle.std.proofs.Common.{length, Option, Some, None, refl, sym, ap, ◌∙◌, subst, inl, inr, ⊎_elim, arith}
 use Rattle.std.proofs.Common.{append_assoc, append-nil}
@@ -38,7 +38,7 @@ resting (loading_done page fill) none = absurd (cc)
 resting (storing_spare_link page fill) none = absurd (cc)
 resting (swapping page fill) none = absurd (cc)
 
--- no frame is amid a move, if the top one isn't and none below is
+-- no frame is moving the head, if the top one isn't and none below is
 none_moving : (top : LineFrame) (frames : List LineFrame)
     → top.losing ≡ false
     → (IsMoving frames → ⊥)
@@ -48,7 +48,7 @@ none_moving top frames is apart (frame, (zero, low, at), moving) =
     let both : true ≡ false = sym moving ∙ ap (λ (f : LineFrame). f.losing) (sym at) ∙ is in cc
 none_moving top frames is apart (frame, (suc k, low, at), moving) = apart (frame, (k, omega (arith, low), at), moving)
 
--- a frame may be amid a move, or none is
+-- a frame may be moving the head, or none is
 moving_or_not : (frames : List LineFrame) → IsMoving frames ⊎ (IsMoving frames → ⊥)
 moving_or_not [] = inr (λ (frame, (k, low, at), moving). omega (arith, low))
 moving_or_not (top ∷ frames) = by_top (moving_or_not frames) top.losing refl
@@ -62,7 +62,7 @@ moving_or_not (top ∷ frames) = by_top (moving_or_not frames) top.losing refl
         (λ (frame, (k, low, at), moving). inl (frame, (suc k, omega (arith, low), at), moving))
         (λ apart. inr (none_moving top frames is apart)) rest
 
--- A line's part adds these events, each of them due, and the ring stands beside the account again.
+-- A line's part adds these events, each of them due, and the ring matches the account again.
 pub record PartStands (script : Script) (Part : CpuState → List RingEvent → CpuState → Type 0) (state : CpuState)
     (next : Lane)
     : Type 0 where
@@ -89,7 +89,7 @@ module _ (script : Script) (asked : ℕ) where
       let sum = length-append front (event ∷ rest) in
       absurd (let no : ⊥ = omega (arith, long, sum) in no)
 
-  -- one event more in front
+  -- one event more before them
   pub more_due : (before own : List RingEvent) (event : RingEvent)
       → IsDue (situation_after script asked before) event
       → AreDue script asked (before ++ event ∷ []) own
@@ -158,7 +158,7 @@ module _ (script : Script) (lane next : Lane) (state : CpuState) (stands : Stand
       wish = stands.wish ∙ sym stays.wish;
     }
 
-    -- so many steps of the take are made
+    -- the number of steps that the take has made
     known : (made : ℕ) → IsAtHead next.core made → (steps : ℕ) → Some made ≡ Some steps → IsAtHead next.core steps
     known made at steps is = subst (IsAtHead next.core) (some_is made steps is) at
 

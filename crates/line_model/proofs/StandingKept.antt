@@ -63,13 +63,13 @@ some_lines (frame ∷ frames) [] [] stand some = absurd stand
 some_lines (frame ∷ frames) (payload ∷ payloads) [] stand some = absurd stand
 some_lines frames payloads (line ∷ lines) stand some = (line, lines, refl)
 
--- a frame that owns the UPDATE is amid a move
 -- the window allows the history event at any time, and stays as it is
 abbrev pub BeginsNone : HistoryEvent → Type 0
 BeginsNone a = (n : ℕ) (history : List HistoryEvent) (w : Window)
     → MayMove n history w (acts a) × (window_after w (acts a) ≡ w)
 
 module _ (f : ℕ) where
+  -- a frame that owns the UPDATE is moving the head
   owner_moves : (frames : List Frame) (payloads : List (List ℕ)) (lines : List LineFrame) (k : ℕ) (frame : Frame)
       → FramesStand frames payloads lines
       → slice_get frames k ≡ Some frame
@@ -94,7 +94,7 @@ pub way_moves : (frames : List Frame) (payloads : List (List ℕ)) (lines : List
 way_moves frames payloads lines f stand moved =
     let (frame, at, owns) = moved.moves in owner_moves f frames payloads lines moved.by frame stand at owns
 
--- as many frames have all payloads
+-- all payloads are left if there are as many as frames
 pub all_left : (frames : List Frame) (payloads : List (List ℕ))
     → length payloads ≡ length frames
     → payloads_left frames payloads ≡ payloads

@@ -1,4 +1,4 @@
--- One step of the frame on top, beside an account: what is needed and due, and what stands after the step, if the frame
+-- One step of the frame on top, beside an account: what is needed and due, and what holds after the step, if the frame
 -- is still there or has gone.
 use Rattle.std.proofs.Common.{◌≡◌, ◌≢◌, ℕ, suc, ◌+◌, ◌<◌, ◌≤◌, ◌⊎◌, Bool, List, [], ◌∷◌, ◌++◌, length, Option, Some}
 use Rattle.std.proofs.Common.{None, refl, sym, ap, ◌∙◌, subst, inl, inr, arith, append-nil}
@@ -128,7 +128,7 @@ module _ (t : TopStep) where
   pub due_one : (what : RingEvent) → IsDue s what → DueFrom t.script t.state.wish t.state.events (what ∷ [])
   due_one what due = (subst (λ (x : Situation). IsDue x what) (sym sit) due, tt)
 
-  -- ---- what stands after the step
+  -- ---- what holds after the step
 
   pub events_are : (own : List RingEvent)
       → fills_taken c.head own ≡ []

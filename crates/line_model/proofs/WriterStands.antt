@@ -1,4 +1,4 @@
--- The lines of a writer, from a ring that stands beside an account: they are lines of the account, and it stands again.
+-- The lines of a writer, from a ring that matches an account: they are lines of the account, and it matches again.
 use Rattle.std.proofs.Common.{◌≡◌, ◌≢◌, ℕ, ◌≤◌, List, [], ◌∷◌, ◌++◌, length, Some, None, refl, sym}
 use Rattle.std.proofs.Common.{ap, ◌∙◌, subst, inl, inr, ⊎_elim, arith, append_assoc}
 use Rattle.std.specs.List.{fold}
@@ -68,7 +68,7 @@ module _ (script : Script) (lane : Lane) (state : CpuState) (stands : Stands scr
     wish = stands.wish;
   }
 
-  -- A push: the ring stands with the frame, or it was refused, and nothing is done.
+  -- A push: the ring matches the account with the frame, or it was refused, and nothing is done.
   data PushStands (Refused : Type 0) (event : HistoryEvent) (payload : List ℕ) (answer : Answer) (between : Lane)
       : Type 0 where
     now_pushed : answer ≡ pushed

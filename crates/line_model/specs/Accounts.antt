@@ -33,7 +33,7 @@ pub record LineFrame : Type 0 where
 -- events: what was done to the ring so far, in one order. frames: the stack, the top first. seen: the reader knows the
 -- fills below this one to be closed. in_take: an `r` line may have left a take under way. made: how many steps that
 -- take has made, 0 if none is under way; not known if the reader may have to look for the head: a fill was lost since
--- it found that, or a frame was amid a move. wish: one more than the number of the fill that the reader asks for, 0
+-- it found that, or a frame was moving it. wish: one more than the number of the fill that the reader asks for, 0
 -- before its first wish.
 pub record CpuState : Type 0 where
   pub events : List RingEvent
@@ -105,7 +105,7 @@ with_own before own frames =
 abbrev pub IsIdle : CpuState → List RingEvent → CpuState → Type 0
 IsIdle before own after = (own ≡ []) × (after ≡ before)
 
--- a frame that was just pushed, for this payload
+-- a frame as it is pushed, for this payload
 abbrev pub new_frame : List ℕ → LineFrame
 new_frame payload = record { payload = Some payload; stage = resting; losing = false }
 
@@ -147,8 +147,8 @@ MayDo s closing_fills event = event ≡ closes
 MayDo s asking event = event ≡ acts wished
 MayDo s off event = ⊥
 
--- Or it makes none, and leads to the stage `next`. A search may go on, or be over if another frame began the fill; in
--- how many steps it comes to its event isn't said. Who asks, and finds no wish, closes fills that were begun meanwhile,
+-- Or it makes none, and leads to the stage `next`. A search may go on, or be over if another frame began the fill; how
+-- many steps it takes to its event isn't said. Who asks, and finds no wish, closes fills that were begun meanwhile,
 -- or is off.
 abbrev pub MayPass : Situation → (below : List LineFrame) → Option (List ℕ) → Stage → Stage → Type 0
 MayPass s below payload resting next = (next ≡ searching) × IsFillNeeded s × (HasNoFill s → ⊥)
@@ -165,7 +165,7 @@ stepped w below frame event = record (frame_after frame event) {
   stage = stage_after w below (frame_after frame event).payload event;
 }
 
--- So many steps of a frame, after these events of its ring, while this is the reader's wish. Each makes an event, or
+-- `count` steps of a frame, after these events of its ring, while this is the reader's wish. Each makes an event, or
 -- none.
 abbrev pub Steps : Script → (reader_wish : ℕ) → (below : List LineFrame) → (count : ℕ) → (before : List RingEvent)
     → LineFrame → (own : List RingEvent) → LineFrame → Type 0
@@ -222,13 +222,13 @@ pub data WritesWhole (script : Script) (Refused : Type 0) (event : HistoryEvent)
       → after ≡ with_own before own before.frames
       → WritesWhole script Refused event payload before own after
 
--- a frame on the stack may be amid a move of the head
+-- a frame on the stack may be moving the head
 abbrev pub IsMoving : List LineFrame → Type 0
 IsMoving frames = (frame : LineFrame) × Contains frames frame × (frame.losing ≡ true)
 
--- `t`: the oldest fill is taken; nothing only if no closed fill is unread, or a frame may be amid a move of the head,
--- in which a fill may be taken or not. The reader then knows which fills are closed; or no more than before, only if
--- nothing was taken in such a move, or an `r` line came before. It has found the head, if not in such a move.
+-- `t`: the oldest fill is taken; nothing only if no closed fill is unread, or a frame may be moving the head, when a
+-- fill may be taken or not. The reader then knows which fills are closed; or only what it knew before, if nothing was
+-- taken during such a move, or an `r` line came before. It has found the head, if there was no such move.
 pub record TakesPage (start : ℕ) (before : CpuState) (own : List RingEvent) (after : CpuState) : Type 0 where
   pub own_is : (own ≡ takes ∷ [])
       ⊎ ((own ≡ []) × (IsMoving before.frames
@@ -245,11 +245,11 @@ pub record TakesPage (start : ℕ) (before : CpuState) (own : List RingEvent) (a
     made = made;
   }
 
--- what the reader knows to be closed after the second step of a take that had made so many before this line
+-- what the reader knows to be closed after the second step of a take that had made `made` before this line
 abbrev pub seen_by : (start made : ℕ) → CpuState → ℕ
 seen_by start made before = if nat_lt made 2 then (window_at start before.events).done else before.seen
 
--- A take with nothing in its way had made so many steps before this line, and has made `total` in all: the first finds
+-- A take with nothing in its way had made `made` steps before this line, and has made `total` in all: the first finds
 -- the head, the second which fills are closed, and the fourth takes the oldest. It ends after the second if that isn't
 -- closed.
 pub data TakeSteps (start made total : ℕ) (before : CpuState) (own : List RingEvent) (after : CpuState) : Type 0 where

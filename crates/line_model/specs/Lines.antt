@@ -116,7 +116,7 @@ state_after p a = record {
   finishing = finishing_after p.frames p.finishing a;
 }
 
--- the same with this window, after an event that is no history event
+-- the state with another window, after an event that is no history event
 abbrev pub state_moved : LineState → Window → LineState
 state_moved p w = record p { window = w }
 

@@ -102,6 +102,6 @@ CommitsWholeLines IsOfLines = (n size start : ℕ) (lines : List Command) (histo
 abbrev pub WholeLinesCommit : Type 0
 WholeLinesCommit = CommitsWholeLines IsMadeByLines
 
--- The same of the lines so far: a `w` or `c` line leaves no frame open.
+-- They commit if the lines so far have made the history: a `w` or `c` line leaves no frame open.
 abbrev pub WholeLinesHaveCommitted : Type 0
 WholeLinesHaveCommitted = CommitsWholeLines IsBegunByLines

@@ -72,7 +72,7 @@ pub fn report_any(at: At, answer: &Answer, log: &mut Vec<LogLine>) -> Result<(),
     Ok(())
 }
 
-/// The same of an answer that isn't needed any more: nothing is logged of most answers to a writer.
+/// Appends to the log what is logged of an answer that isn't needed any more: of most answers to a writer nothing.
 #[inline(always)]
 pub fn report(at: At, answer: Answer, log: &mut Vec<LogLine>) -> Result<(), NoMemory>
     ensures { OnOk result ((size : ℕ) (reported : model.Answer) → IsAnswerOf size answer reported

@@ -211,7 +211,7 @@ asked start h s bottom top_is gone some k =
           ) o);
     }
 
--- the same, by the number as it is worked out
+-- what a bottom frame that asks leaves of the stack, by the number as it is worked out
 pub asked_at : (start : ℕ) (h : List HistoryEvent) (s : Stack) (bottom : Frame) (below : List Frame) (noted : ℕ)
     → noted ≡ opened s → s.frames ≡ bottom ∷ below → IsAtBottom (bottom ∷ below) → s.tail.bytes ≢ [] → IsStack start h s
     → IsStack start (h ++ wished ∷ []) (record s { frames = record bottom { progress = Left (Some noted) } ∷ below })

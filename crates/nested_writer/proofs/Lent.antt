@@ -111,7 +111,7 @@ pub slot_place : (frames : List Frame) (slot : Slot) (place : Place) → IsTopSl
 slot_place [] slot place none at = absurd none
 slot_place (top ∷ below) slot place has at = some_is slot.place place (ap place_of (sym has) ∙ at)
 
--- as many pages are open, whatever is written
+-- two lists of equal length: whichever of them is taken has it
 cond_long : (b : Bool) (xs ys : List Contents) → length xs ≡ length ys → length (cond b xs ys) ≡ length xs
 cond_long true xs ys same = refl
 cond_long false xs ys same = sym same

@@ -373,7 +373,7 @@ reserved_record start h s top below moment len noted tail' place top_is purpose 
           low);
     }
 
--- the same, by the numbers as they are worked out
+-- what a reserve leaves of the stack, by the numbers as they are worked out
 pub reserved_with : (start : ℕ) (h : List HistoryEvent) (s : Stack) (top : Frame) (below : List Frame) (moment len : ℕ)
     (noted : Option ℕ) (tail' : Contents) (place : Place) (raised number fill : ℕ)
     → raised ≡ max moment s.last_moment

@@ -17,7 +17,7 @@ use Rattle.nested_writer.specs.declared.frame.Frame.{Frame}
 use Rattle.nested_writer.specs.Stack.{kind_of, state_of}
 use Rattle.nested_writer.specs.IsStack.{IsOpenPage, IsUnwritten, IsNoted, StandsAt, AreBefore, FramesStand}
 
--- a record lies unwritten in this page, if that is open and has its place, and the record keeps its number
+-- a record is unwritten in this page, if that is open and has its place, and the record keeps its number
 pub unwritten_in : {done done' : ℕ} {older older' : List Contents} {tail tail' : Contents}
     {records records' : List Reservation} {len : ℕ} {slot : Slot} (page : Contents)
     (lies : IsUnwritten done older tail records len slot)

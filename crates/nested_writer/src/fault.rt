@@ -3,7 +3,7 @@
 /// Why a write, or a step of its frame, is refused. Where several hold, the first of these is answered.
 #[derive(Clone, Copy, Debug, PartialEq, Eq)]
 pub enum WriteFault {
-    /// As many frames are on the writer's stack as can be: `MAX_FRAMES`.
+    /// The writer's stack is full: it has `MAX_FRAMES` frames.
     TooDeep,
     /// The record has no room on an empty page.
     TooLong,

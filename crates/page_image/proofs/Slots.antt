@@ -1,4 +1,4 @@
--- What a store into the header of a slot makes of it, and of the data behind it.
+-- What a store into the header of a slot makes of it, and of the data after it.
 use Rattle.std.proofs.Common.{◌≡◌, ℕ, ◌+◌, ◌-◌, ◌≤◌, List, [], ◌++◌, length, take, drop, replicate, refl, sym, ap, ◌∙◌}
 use Rattle.std.proofs.Common.{arith, append_assoc, length-append, length-take-le, length-drop}
 use Rattle.std.proofs.Math.Seq.{take-append-add, drop-append-add}
@@ -13,7 +13,7 @@ use Rattle.page_image.specs.Slot.{SlotHeader, StoresHeader, slot_bytes, no_heade
 
 -- ---- a number of the header
 
--- bytes behind others are overwritten
+-- bytes after others are overwritten
 overwritten-behind : (front behind new : List ℕ) (at : ℕ) → length front ≡ 8
     → overwritten (front ++ behind) (8 + at) new ≡ front ++ overwritten behind at new
 overwritten-behind front behind new at eight =
@@ -36,7 +36,7 @@ overwritten-later : (number : ℕ) (behind new result : List ℕ) (at : ℕ) →
 overwritten-later number behind new result at is =
     overwritten-behind (le64 number) behind new at (length-le64 number) ∙ ap (λ (b : List ℕ). le64 number ++ b) is
 
--- what is behind the header stays
+-- what is after the header stays
 module _ (old : List ℕ) (at n : ℕ) (within : at + 8 ≤ 48) (long : 48 ≤ length old) where
   front_long : length (take at old ++ le64 n) ≡ at + 8
   front_long = let front = length-take-le at old (omega arith) in

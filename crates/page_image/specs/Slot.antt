@@ -1,4 +1,4 @@
--- A slot: the bytes in which a page lies, a header of six numbers and the page's data after it. Up to the data that is
+-- A slot: the bytes in which a page is, a header of six numbers and the page's data after it. Up to the data that is
 -- committed they are the bytes of a parcel before which no records were missed.
 use Rattle.std.specs.Prelude.{◌≡◌, ℕ, List, ◌++◌, length, drop}
 use Rattle.trace_model.specs.Image.{le64}
@@ -25,7 +25,7 @@ slot_bytes header behind =
 abbrev pub no_header : SlotHeader
 no_header = record { cpu = 0; fill = 0; first = 0; missed = 0; time = 0; commit = 0 }
 
--- A store into a slot makes this of its header, and nothing of what is behind it.
+-- A store into a slot makes this of its header, and nothing of what is after it.
 pub record StoresHeader (old new : List ℕ) (stored : SlotHeader → SlotHeader) : Type 0 where
   pub header :
       (was : SlotHeader) (behind : List ℕ) → old ≡ slot_bytes was behind → new ≡ slot_bytes (stored was) behind

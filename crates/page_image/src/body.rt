@@ -163,7 +163,7 @@ impl Body {
         }
     }
 
-    /// Stores in the header that so many bytes of data are committed.
+    /// Stores in the header how many bytes of data are committed.
     #[inline(always)]
     pub(crate) fn store_commit(&mut self, commit: usize)
         ensures { self.new ≡ self.old }

@@ -216,7 +216,7 @@ impl Page {
         self.body.store_commit(self.end);
     }
 
-    /// The same page under another first number and fill. The header of the body's slot keeps those that it was begun
+    /// This page under another first number and fill. The header of the body's slot keeps those that it was begun
     /// with.
     pub fn numbered(self, first: RecordNo, fill: FillNo) -> Page
         ensures { result ≡ record self { first = first.0; fill = fill.0 } }

@@ -96,7 +96,7 @@ impl Parcel {
         })
     }
 
-    /// The same parcel, with a page of its own that is as long as its data, so that it has no room that isn't used.
+    /// A copy of the parcel, with a page of its own that is as long as its data, so that no room in it is unused.
     pub fn trimmed(&self, alloc: Global) -> Result<Parcel, NoMemory>
         ensures { IfOk result (λ parcel. parcel ≡ fitted_parcel self.now.cpu self.now.page self.now.missed) }
     {
@@ -166,7 +166,7 @@ impl Parcel {
         Arc::strong_count(&self.page)
     }
 
-    /// The same parcel once more, of the same page. No byte of it is copied.
+    /// The parcel once more, of the same page. No byte of it is copied.
     pub fn share(&self) -> Result<Parcel, NoMemory>
         ensures { IfOk result (λ parcel. parcel ≡ self.now) }
     {

@@ -31,7 +31,7 @@ same_before xs ys n at d fits before =
     let other : k ≢ at = λ e. absurd (omega arith) in
     get_or-take n xs k 0 under ∙ d.kept k other ∙ sym (get_or-take n ys k 0 under))
 
--- and all behind it
+-- and all after it
 same_behind : (xs ys : List ℕ) (n at : ℕ) → DifferAt xs ys at → at < n → drop n xs ≡ drop n ys
 same_behind xs ys n at d behind =
     let len = d.same_length in

@@ -26,7 +26,7 @@ number_same n bytes more long =
     ∙ ap from_le64 (take-append-le 8 (drop n bytes) more (omega (arith, length-drop n bytes)))
     ∙ from_le64-take (drop n bytes)
 
--- what is stated is the same behind more bytes
+-- what is stated is the same with more bytes after it
 record SameHead (bytes whole : List ℕ) : Type 0 where
   longer : length bytes ≤ length whole
   packed : HasMagic bytes → HasMagic whole

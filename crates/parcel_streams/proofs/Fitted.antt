@@ -1,4 +1,4 @@
--- The bytes of a parcel whose page has no unused room: its image's commit word tells them from all others.
+-- The bytes of a parcel whose page has no unused room: its image's commit word distinguishes them from all others.
 use Rattle.std.proofs.Common.{◌≡◌, ℕ, ◌+◌, ◌-◌, ◌^◌, ◌<◌, ◌≤◌, Bool, true, false, cond, ltb, leb, ◌&&◌, List, [], ◌++◌}
 use Rattle.std.proofs.Common.{length, drop, replicate, refl, sym, ap, ◌∙◌, subst, arith, append-nil, length-append}
 use Rattle.std.proofs.lemmas.List.{drop-drop, nil_from_length}
@@ -15,7 +15,7 @@ use Rattle.trace_model.proofs.images.Images.{length-image_of}
 use Rattle.trace_model.proofs.images.ParcelParts.{HasNumbers-are}
 use Rattle.parcel_streams.specs.Faults.{IsFitted}
 
--- the commit word is the one that is written where all bytes behind it are data
+-- the commit word is the one that is written if all bytes after it are data
 abbrev pub IsTight : List ℕ → Type 0
 IsTight body =
     from_le64 (drop 40 body) ≡ commit_word

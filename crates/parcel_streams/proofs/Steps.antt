@@ -13,7 +13,7 @@ use Rattle.parcel_streams.specs.Answers.{piece_seen, pieces_seen, piece_fault, s
 use Rattle.parcel_streams.proofs.Answered.{cause_is, fault_named}
 use Rattle.parcel_streams.proofs.Streams.{one_more, all_joined, one_stream, stream_no_fault, one_stream_fault}
 
--- these pieces were read, and they take so many bytes
+-- these pieces were read, and they take `at` bytes
 pub record StandsAt (bytes : List ℕ) (pieces : List Piece) (at : ℕ) : Type 0 where
   pub within : at ≤ length bytes
   pub sound : AreAllPieces (pieces_seen pieces)

@@ -96,7 +96,7 @@ pub record IsParcelBody (body : List ℕ) (parcel : ParcelValue) : Type 0 where
       ≡ bytes_of_parcel (as_parcel parcel) parcel.page.time parcel.page.bytes (length parcel.page.bytes)
   pub sound : (stream : ℕ) → stream < 2 ^ 64 → IsPiece (piece_of_parcel stream parcel)
 
--- the mark of this kind that a body states: its numbers are behind the CPU's
+-- the mark of this kind that a body states: its numbers are after the CPU's
 abbrev pub mark_stated : (kind : ℕ) → List ℕ → Mark
 mark_stated kind body =
     let first = from_le64 (drop 8 body) in
@@ -150,7 +150,7 @@ pub record HasPieceAt (bytes : List ℕ) (index at : ℕ) : Type 0 where
   pub before : ReadsTo bytes index at rest
   pub piece : HasPiece rest
 
--- The piece at the front of the bytes, which takes so many of them, is put after those that were read.
+-- The piece at the front of the bytes, which takes `len` of them, is put after those that were read.
 pub record PutsPiece (bytes : List ℕ) (old new : List Piece) (len : ℕ) : Type 0 where
   pub piece : Piece
   pub new_is : new ≡ old ++ piece ∷ []

@@ -68,7 +68,7 @@ pub record IsDecided (bytes : List ℕ) : Type 0 where
   pub long : HEAD ≤ length bytes
   pub there : HasLength bytes → length_in bytes ≤ length bytes
 
--- So many bytes decide it: a head, then what it states; and where it states nothing that may be, those that are there.
+-- How many bytes decide it: a head, then what it states; and if it states nothing that may be, those that are there.
 pub record IsWanted (bytes : List ℕ) (wanted : ℕ) : Type 0 where
   pub short : length bytes < HEAD → wanted ≡ HEAD
   pub stated : HasLength bytes → wanted ≡ length_in bytes
@@ -150,7 +150,7 @@ FirstPieceFault bytes (bad_parcel cause) = HoldsParcel bytes × FirstParcelFault
 FirstPieceFault bytes loose = HoldsParcel bytes × IsLoose (body_in bytes)
 FirstPieceFault bytes bad_mark = HoldsMark bytes × IsBadMark (kind_in bytes) (body_in bytes)
 
--- So many whole pieces are at the front, which take so many bytes, and this follows them.
+-- `index` whole pieces are at the front, which take `at` bytes, and `rest` follows them.
 pub record ReadsTo (bytes : List ℕ) (index at : ℕ) (rest : List ℕ) : Type 0 where
   pub before : List Packed
   pub sound : AreAllPieces before

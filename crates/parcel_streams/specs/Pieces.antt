@@ -10,7 +10,7 @@ use Rattle.trace_model.specs.declared.limits.TheConstants.{MAX_CPUS, MAX_SIZE}
 use Rattle.parcel_streams.specs.declared.piece.Mark.{Mark}
 use Rattle.parcel_streams.specs.declared.piece.Mark.TheVariants.{End, Forgotten, Undelivered}
 
--- What a piece says. A parcel, with the time and the data of its page; or a mark of a CPU: that it has so many records,
+-- What a piece says. A parcel, with the time and the data of its page; or a mark of a CPU: how many records it has,
 -- that what is below a number is kept no longer, or that a run of numbers was given up. Both are of one stream.
 pub data Packed : Type 0 where
   parcel_piece : (stream : ℕ) (parcel : Parcel) (time : ℕ) (contents : List ℕ) → Packed

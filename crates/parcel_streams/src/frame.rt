@@ -98,7 +98,7 @@ pub(crate) fn read_frame(bytes: &[u8]) -> Result<Frame<'_>, PieceFault>
 }
 
 /// How many bytes decide what the piece at the front is: its head; then the length that the head states, if it may be
-/// one; else the bytes that are there, which have a fault. Of fewer bytes more have to be read. Those behind them
+/// one; else the bytes that are there, which have a fault. Of fewer bytes more have to be read. Those after them
 /// change nothing.
 pub fn wanted(bytes: &[u8]) -> usize
     ensures wanted { IsWanted bytes.now result }

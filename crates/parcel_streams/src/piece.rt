@@ -13,7 +13,7 @@ pub struct StreamId(pub u64);
 /// What is said of the numbers of a CPU's records.
 #[derive(Clone, Copy, Debug, PartialEq, Eq)]
 pub enum Mark {
-    /// The CPU has so many records: there is none of this number, nor of a greater one.
+    /// How many records the CPU has: there is none of this number, nor of a greater one.
     End(u64),
     /// What is below this number, which isn't 0, is kept no longer. All of it was accounted for.
     Forgotten(u64),

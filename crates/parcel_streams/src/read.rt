@@ -25,7 +25,7 @@ pub fn read_piece(alloc: Global, bytes: &[u8]) -> Result<(Piece, usize), PieceFa
     read(alloc, bytes)
 }
 
-/// The same, each fault by what it says.
+/// The piece at the front of the bytes, and how many of them it takes; or their first fault, each by what it says.
 fn read(alloc: Global, bytes: &[u8]) -> Result<(Piece, usize), PieceFault>
     ensures piece { IfOk result (λ read. BeginsWith bytes.now (piece_seen read.0)) }
     ensures len { IfOk result (λ read. read.1 ≡ length (bytes_of_piece (piece_seen read.0))) }
@@ -69,7 +69,7 @@ pub fn read_stream(alloc: Global, bytes: &[u8]) -> Result<Vec<Piece>, StreamFaul
     read_pieces(alloc, bytes)
 }
 
-/// The same, each fault by what it says.
+/// The pieces of a stream, or its first fault, each fault by what it says.
 fn read_pieces(alloc: Global, bytes: &[u8]) -> Result<Vec<Piece>, StreamFault>
     ensures stream { IfOk result (λ pieces. IsStream bytes.now (pieces_seen pieces.items)) }
     ensures fault { IfErr result (λ fault. IsStreamFault bytes.now fault) }

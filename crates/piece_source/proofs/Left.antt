@@ -1,4 +1,4 @@
--- What is left behind bytes that were read.
+-- What is left after bytes that were read.
 use Rattle.std.proofs.Common.{◌≡◌, ⊎_elim, ℕ, ◌<◌, List, ◌++◌, length, drop, Option, Some, None, refl, sym, ap, ◌∙◌}
 use Rattle.std.proofs.Common.{subst, arith, append_assoc, append-nil, length-append}
 use Rattle.std.proofs.lemmas.List.{drop_at}

@@ -1,4 +1,4 @@
--- What is read of a source of pieces. The bytes that a source has yet to give are known, or they aren't; where they
+-- What is read of a source of pieces. The bytes that a source has yet to give are known, or they aren't. If they
 -- aren't, nothing is said of them.
 use Rattle.std.specs.Prelude.{◌≡◌, ℕ, ◌-◌, ◌^◌, ◌<◌, ◌≤◌, min, ◌⊎◌, ⊤, List, ◌++◌, length, Option, Some, None, Result}
 use Rattle.std.specs.Prelude.{Ok, Err}
@@ -35,8 +35,8 @@ pub record GivesPieces (first rest : Option (List ℕ)) (pieces : List Packed) :
   pub sound : AreAllPieces pieces
   pub taken : Consumes first rest (bytes_of_pieces pieces)
 
--- A reader has given these pieces of what was there at first, and the rest is left; so many they are, and so many bytes
--- they have. The two numbers stop at 2^64 - 1.
+-- A reader has given these pieces of what was there at first, and the rest is left. `index` is how many they are, and
+-- `at` how many bytes they have. The two numbers stop at 2^64 - 1.
 pub record HasGiven (first rest : Option (List ℕ)) (index at : ℕ) (pieces : List Packed) : Type 0 where
   pub gives : GivesPieces first rest pieces
   pub index_is : index ≡ min (length pieces) (2 ^ 64 - 1)
@@ -50,7 +50,7 @@ OnNoPiece (Err fault) holds = holds
 
 -- ---- steps of a reader
 
--- so many bytes more were read behind those that were there, and none only at the end
+-- `count` bytes more were read after those that were there, and none only at the end
 pub record ReadsMore (unread now : List ℕ) (remaining rest : Option (List ℕ)) (count : ℕ) : Type 0 where
   pub more : List ℕ
   pub now_is : now ≡ unread ++ more
@@ -58,7 +58,7 @@ pub record ReadsMore (unread now : List ℕ) (remaining rest : Option (List ℕ)
   pub count_is : length more ≡ count
   pub at_end : count ≡ 0 → IsAtEnd rest
 
--- more bytes were read behind those that were there, or none
+-- more bytes were read after those that were there, or none
 pub record ReadsOn (unread now : List ℕ) (remaining rest : Option (List ℕ)) : Type 0 where
   pub more : List ℕ
   pub now_is : now ≡ unread ++ more

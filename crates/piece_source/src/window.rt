@@ -9,7 +9,7 @@ use std::alloc::Global;
 use std::io;
 use trace_model::NoMemory;
 
-/// Bytes of a source that were read: the piece that was given last, and behind it those that weren't given yet.
+/// Bytes of a source that were read: the piece that was given last, and after it those that weren't given yet.
 #[derive(Drop)]
 pub(crate) struct Window {
     /// What is read before the piece, the piece, and what wasn't given.

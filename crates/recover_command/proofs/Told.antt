@@ -1,4 +1,4 @@
--- The pieces that regions tell.
+-- The pieces that regions state.
 use Rattle.std.proofs.Common.{◌≡◌, ◌<◌, ℕ, Bool, true, false, true≢false, List, [], ◌∷◌, ◌++◌, map, append_assoc}
 use Rattle.std.proofs.Common.{append-nil, Option, Some, None, All, refl, sym, ap, ◌∙◌, subst}
 use Rattle.std.proofs.lemmas.List.Elements.{All-nil, All-cons}
@@ -57,7 +57,7 @@ parcel_told : (stream : ℕ) (piece : Piece) (pieces : List Piece) (parcel : Par
 parcel_told stream (ParcelPiece of own) pieces parcel rest is = (tt, cc)
 parcel_told stream (MarkPiece of cpu mark) pieces parcel rest is = absurd (cc)
 
--- Each of a region's pieces is one that may be told.
+-- Each of a region's pieces is one that a region may state.
 pieces_told : (header : Header) (pieces : List Piece) (parcels : List ParcelValue) (count : Option ℕ)
     → header.cpu.0 < MAX_CPUS
     → pieces_seen pieces ≡ map (piece_of_parcel header.stream.0) parcels ++ end_pieces header count

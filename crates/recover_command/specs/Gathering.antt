@@ -43,7 +43,7 @@ abbrev pub AddsOne : Piece → (old new : Gathering) → Type 0
 AddsOne piece old new =
     Gathers piece old.fleet old.buffer old.contents old.failed new.fleet new.buffer new.contents new.failed
 
--- These pieces were added behind whatever was added before. Each is one that can be read again.
+-- These pieces were added after whatever was added before. Each is one that can be read again.
 pub record AddsAll (pieces : List Piece) (old new : Gathering) : Type 0 where
   pub sound : AreAllPieces (pieces_seen pieces)
   pub adds : (start : Option (List ℕ)) (before : List Piece) → Has start old before
@@ -56,7 +56,7 @@ pub record AreCounted (pieces : List Piece) (index at : ℕ) : Type 0 where
   pub index_is : index ≡ capped (length pieces)
   pub at_is : at ≡ capped (length (bytes_of_pieces (pieces_seen pieces)))
 
--- The next piece behind these isn't added to the fleet: memory was refused, or the fleet refuses the piece.
+-- The next piece after these isn't added to the fleet: memory was refused, or the fleet refuses the piece.
 abbrev pub IsStop : (pieces : List Piece) (piece : Piece) (fleet : List (ℕ × Stream)) → Stop → Type 0
 IsStop pieces piece fleet NoMemory = ⊤
 IsStop pieces piece fleet (Refused index at stream cpu refusal) =
@@ -71,8 +71,8 @@ pub record StopsAmong (pieces : List Piece) (old new : Gathering) (stop : Stop) 
   pub adds : AddsAll front old new
   pub why : IsStop front piece new.fleet stop
 
--- These are some of the pieces that a region tells, from the first one on, and why the next one isn't added: memory was
--- refused, for it or before the pieces were there; or the fleet refuses it.
+-- These are some of the pieces that a region states, from the first one on, and why the next one isn't added: memory
+-- was refused, for it or before the pieces were there; or the fleet refuses it.
 abbrev pub IsRegionStop : Region → (pieces : List Piece) (fleet : List (ℕ × Stream)) → Stop → Type 0
 IsRegionStop region pieces fleet NoMemory =
     (pieces ≡ []) ⊎ ((rest : List Packed) × IsToldBy region (pieces_seen pieces ++ rest))
@@ -80,7 +80,7 @@ IsRegionStop region pieces fleet (Refused index at stream cpu refusal) =
     (piece : Piece) × (behind : List Piece) × IsToldBy region (pieces_seen (pieces ++ piece ∷ behind))
     × AreCounted pieces index at × IsOrigin piece stream cpu × IsRefusal fleet piece refusal
 
--- all pieces that a region tells were added
+-- all pieces that a region states were added
 pub record AddsRegion (region : Region) (old new : Gathering) : Type 0 where
   pub pieces : List Piece
   pub told : IsToldBy region (pieces_seen pieces)
@@ -92,7 +92,7 @@ pub record StopsInRegion (region : Region) (old new : Gathering) (stop : Stop) :
   pub adds : AddsAll pieces old new
   pub why : IsRegionStop region pieces new.fleet stop
 
--- all pieces that these regions tell were added
+-- all pieces that these regions state were added
 pub record AddsRegions (regions : List Region) (old new : Gathering) : Type 0 where
   pub pieces : List Piece
   pub told : AreToldBy regions pieces

@@ -42,7 +42,7 @@ pub record IsEndingFor (regions : List Region) (ending : Ending) : Type 0 where
   pub sound : AreSound regions → ending ≡ Done
   pub damaged : ¬ AreSound regions → ending ≡ Damaged
 
--- what the fleet has was written, and behind it the lines of the damaged slots
+-- what the fleet has was written, and after it the lines of the damaged slots
 pub record IsListed (form : Form) (regions : List Region) (fleet : List (ℕ × Stream))
     (contents after : Option (List ℕ)) (failed : Bool) (ending : Ending) : Type 0 where
   pub shown : Shown
@@ -76,8 +76,8 @@ TellsStop input (Refused index at stream cpu refusal) contents after failed endi
     ⊎ ((is_memory_refusal refusal ≡ true) × IsMemoryLine contents after failed ending)
 
 module _ {R : Type 0} (remaining : R → Option (List ℕ)) (count : R → ℕ) (has_failed : R → Bool) where
-  -- All inputs are regions, and the fleet of exactly the pieces that they tell is listed, and below it their damaged
-  -- slots; or memory was refused before the first line. The bytes of the pieces that were new are kept.
+  -- All inputs are regions, and the fleet of exactly the pieces that they state is listed, and below it their
+  -- damaged slots; or memory was refused before the first line. The bytes of the pieces that were new are kept.
   pub record ListsAll (form : Form) (old new : List R) (keep keep_after : Option (List ℕ)) (keep_failed : Bool)
       (contents after : Option (List ℕ)) (failed : Bool) (outcome : Outcome) : Type 0 where
     pub regions : List Region
@@ -90,7 +90,7 @@ module _ {R : Type 0} (remaining : R → Option (List ℕ)) (count : R → ℕ) 
     pub told : IsListed form regions fleet contents after failed outcome.ending
         ⊎ IsMemoryLine contents after failed outcome.ending
 
-  -- All inputs are regions, and a piece of one contradicts what was told before it, or memory was refused. Why is all
+  -- All inputs are regions, and a piece of one contradicts what was stated before it, or memory was refused. Why is all
   -- that is written. The bytes of what was new before are kept.
   pub record ListsNone (old new : List R) (keep keep_after : Option (List ℕ)) (keep_failed : Bool)
       (contents after : Option (List ℕ)) (failed : Bool) (outcome : Outcome) : Type 0 where

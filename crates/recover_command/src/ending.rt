@@ -9,14 +9,13 @@ pub enum Ending {
     Done,
     /// All is printed, and a line says of each damaged slot what is wrong with it.
     Damaged,
-    /// An input isn't a region, or a piece of it contradicts what the others tell, and a line says so: the input before
-    /// which there are so many.
+    /// The input of this index isn't a region, or a piece of it contradicts what the others state, and a line says so.
     Malformed(usize),
     /// Memory was refused, and a line says so.
     NoMemory,
-    /// A read of this input failed, before which there are so many.
+    /// A read of the input of this index failed.
     NotRead(usize),
-    /// This input is longer than what is read, before which there are so many.
+    /// The input of this index is longer than what is read.
     TooLong(usize),
     /// A write failed.
     NotWritten,

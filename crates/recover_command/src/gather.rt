@@ -1,4 +1,4 @@
-//! A fleet of all pieces that the regions tell, and the pieces that are new.
+//! A fleet of all pieces that the regions state, and the pieces that are new.
 ghost use Rattle.std.specs.Prelude.{◌≡◌, ◌<◌, false, [], All, IfOk, IfErr, OnOk, ℕ, List, Option};
 ghost use Rattle.trace_model.specs.declared.limits.TheConstants.{MAX_CPUS};
 ghost use Rattle.parcel_streams.specs.Pieces.{IsPiece, bytes_of_piece};
@@ -44,8 +44,8 @@ impl Gatherer {
 /// Why not all pieces are added.
 #[derive(Clone, Copy, Debug, PartialEq, Eq)]
 pub(crate) enum Stop {
-    /// The next piece is refused, which is of this CPU of a stream. Before it are so many pieces and bytes of the
-    /// stream of its region's pieces.
+    /// The next piece is refused, which is of this CPU of a stream. `index` pieces and `at` bytes of the stream of
+    /// its region's pieces are before it.
     Refused {
         index: u64,
         at: u64,
@@ -57,7 +57,7 @@ pub(crate) enum Stop {
     NoMemory,
 }
 
-/// Of which region not all pieces are added, and why: before it are so many others.
+/// The index of the region of which not all pieces are added, and why.
 #[derive(Clone, Copy, Debug, PartialEq, Eq)]
 pub(crate) struct StoppedAt {
     pub(crate) input: usize,
@@ -162,7 +162,7 @@ fn add_pieces<K: Sink>(
     Ok(())
 }
 
-/// Adds the pieces that a region tells.
+/// Adds the pieces that a region states.
 fn add_region<K: Sink>(
     alloc: Global,
     region: &Region,
@@ -185,7 +185,7 @@ fn add_region<K: Sink>(
     }
 }
 
-/// Adds the pieces that the regions tell, those of one after those of the other.
+/// Adds the pieces that the regions state, those of one after those of the other.
 pub(crate) fn add_regions<K: Sink>(
     alloc: Global,
     regions: &[Region],

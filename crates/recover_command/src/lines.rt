@@ -12,7 +12,7 @@ use record_words::WordFault;
 use ring_region::{Damaged, Header, Region, RegionFault, SlotCause};
 use text_buffer::TextBuffer;
 
-/// Puts a number behind a text.
+/// Puts a number after a text.
 fn put_numbered<W: Sink>(buffer: &mut TextBuffer, writer: &mut W, before: &[u8], number: usize)
     requires { has_failed buffer.old ≡ W.failed writer.old }
     ensures tied { has_failed buffer.new ≡ W.failed writer.new }

@@ -19,7 +19,7 @@ pub(crate) enum Unread {
     NoMemory,
 }
 
-/// Which input gives no region, and why: before it are so many others.
+/// The index of the input that gives no region, and why.
 #[derive(Clone, Copy, Debug, PartialEq, Eq)]
 pub(crate) struct Stopped {
     pub(crate) input: usize,

@@ -28,7 +28,7 @@ fn new_gathering(alloc: Global) -> Result<(Gatherer, TextBuffer), NoMemory>
     Ok((gatherer, buffer))
 }
 
-/// Lists what all inputs, each a region, tell together: their records by time, and which numbers are missing or
+/// Lists what all inputs, each a region, state together: their records by time, and which numbers are missing or
 /// unknown; and below that the slots that are damaged. The bytes of each piece that is new are written to `keep`.
 /// Nothing is written to either sink before all inputs are read, and nothing to `writer` before all pieces are added;
 /// memory is asked for only before the first byte is written to `writer`.

@@ -125,7 +125,7 @@ module _ (n size start : ℕ) (v : FramesValue) (c : Core) (k : AreFrames n size
       (let same : (slot.place.start + slot.place.len) - slot.place.start ≡ slot.place.len = omega arith in same)
       ∙ sym (bytes_are n size start v c k t.top t.rest slot t.stack_is t.has _ _ model_is lies.page lies.open_page)
 
-  -- as many as the slot has room for
+  -- there are as many bytes as the slot has room for
   pub top_long : length (top_bytes v.stack v.stack.frames) ≡ slot.place.len
   top_long =
       let (moment, len, kind, lies) = stands n size start v c k t.top t.rest slot t.stack_is t.has _ _ model_is in

@@ -23,7 +23,7 @@ use Rattle.ring_frames.specs.Value.{FramesValue}
 use Rattle.ring_frames.specs.AreFrames.{frames_in_phases, AreBelow, NotedAlike, AreNotedAlike, AreFrames}
 use Rattle.ring_frames.proofs.Reshown.{reshown}
 
--- as many frames as the stack has
+-- there are as many frames with phases as the stack has
 pub as_many : (frames : List Frame) (phase : Phase) (below : List Phase) → AreBelow frames below
     → length (frames_in_phases frames (phase ∷ below)) ≡ length frames
 as_many [] phase below are = refl

@@ -44,7 +44,7 @@ means size (Moving fill body) reported t = subst (λ (a : model.Answer). Means a
 means size (Taken page missed) reported t = subst (λ (a : model.Answer). Means a (Taken page missed)) (sym t.1) tt
 means size (Wished fill) reported t = subst (λ (a : model.Answer). Means a (Wished fill)) (sym t) tt
 
--- the same of an answer that is known
+-- what an answer means, if it is known
 meant : (size : ℕ) (result : Answer) (reported is : model.Answer) → IsAnswerOf size result reported → reported ≡ is
     → Means is result
 meant size result reported is t e = subst (λ (a : model.Answer). Means a result) e (means size result reported t)

@@ -55,7 +55,7 @@ KeepsPayloads old new = (slot : Slot)
     → HoldSlot old.frames slot
     → HoldSlot new.frames slot × (bytes_in old slot ≡ bytes_in new slot)
 
--- As the frame on top ends, each slot that was reserved keeps its bytes, and that of a frame below stays reserved.
+-- When the frame on top ends, each slot that was reserved keeps its bytes, and that of a frame below stays reserved.
 abbrev pub EndsPayload : Stack → Stack → Type 0
 EndsPayload old new = (slot : Slot)
     → HoldSlot old.frames slot

@@ -90,7 +90,7 @@ impl PackedPhase {
         }
     }
 
-    /// Whether the phase is `Idle`: one test, where `get` moves all fields.
+    /// Whether the phase is `Idle`: one test, while `get` moves all fields.
     #[inline(always)]
     pub(crate) fn is_idle(&self) -> bool
         ensures { IsTrue result ↔ self.now ≡ Idle }

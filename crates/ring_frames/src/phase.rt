@@ -84,7 +84,7 @@ impl StepAnswer {
     ghost use Rattle.std.specs.Prelude.{◌≡◌};
     ghost use Rattle.ring_frames.specs.Phases.{as_answer};
 
-    /// As the ring's answer.
+    /// The answer as one of the ring.
     #[inline(always)]
     pub fn answer(self) -> Answer
         ensures { result ≡ as_answer self }

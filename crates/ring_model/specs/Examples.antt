@@ -74,8 +74,8 @@ writing moment payload number =
     ++ ending payload full
     ++ stepping (gone ∷ [])
 
--- the same where the reader wishes for the page: the frame finds that, looks, opens the next page, and closes the
--- one that was wished for
+-- a record that fits in the tail page, if the reader wishes for that page: the frame finds that, looks, opens the next
+-- page, and closes the one that was wished for
 abbrev pub writing_for_wish : (moment : ℕ) → List ℕ → (number : ℕ) → List Exchange
 writing_for_wish moment payload number =
     pushing moment (length payload)
@@ -92,8 +92,8 @@ writing_on_free moment payload number =
     ++ ending payload full
     ++ stepping (going ∷ gone ∷ [])
 
--- the same in a full ring, whose head it moves: it notes the need, looks, claims the head, looks at the next
--- link, marks it, clears its UPDATE, opens the page and reserves
+-- a record that is written on a new page in a full ring, whose head it moves: it notes the need, looks, claims the
+-- head, looks at the next link, marks it, clears its UPDATE, opens the page and reserves
 abbrev pub writing_over_head : (moment : ℕ) → List ℕ → (number : ℕ) → List Exchange
 writing_over_head moment payload number =
     pushing moment (length payload)
@@ -105,7 +105,7 @@ writing_over_head moment payload number =
 abbrev pub closing_above : List Exchange
 closing_above = pushing_close ++ stepping (going ∷ going ∷ gone ∷ [])
 
--- the same with none below it: it closes the page before, and finds no wish
+-- a close frame with none below it: it begins a page, closes the page before, and finds no wish
 abbrev pub closing : List Exchange
 closing = pushing_close ++ stepping (after_going 4 gone)
 

@@ -107,7 +107,7 @@ word_slot cpu bytes (TimeOverflow at) known small limit commit is bad = (
       (word_faulty cpu bytes time_overflow at known small (cut-whole cpu bytes limit commit is) bad),
 )
 
--- what is told of a fault of the image
+-- what a fault of the image says of the slot
 abbrev SlotRead : (cpu : ℕ) → List ℕ → Reading → Type 0
 SlotRead cpu bytes read = IsSlotOf cpu bytes (reading_seen cpu read)
 

@@ -22,7 +22,7 @@ use Rattle.ring_region.specs.Answers.{unmissed, reading_seen, found_seen, IsScan
 use Rattle.ring_region.proofs.ByFill.{by_fill_else, get_pushed}
 use Rattle.ring_region.proofs.Keeping.{put_seen}
 
--- the damaged ones of slots, and of more behind them
+-- the damaged ones of slots, and of more after them
 damaged_from-append : (size number : ℕ) (slots more : List Slot)
     → damaged_from size number (slots ++ more)
     ≡ damaged_from size number slots ++ damaged_from size (number + length slots) more
@@ -157,7 +157,7 @@ slot_sliced size at number bytes at_is =
     ap (λ (n : ℕ). take n (drop at bytes)) (let e : at + 48 + size - at ≡ 48 + size = omega arith in e)
     ∙ ap (λ (n : ℕ). take (48 + size) (drop n bytes)) at_is
 
--- so many slots were read
+-- `count` slots were read
 pub record AreScannedTo (header : Header) (bytes : List ℕ) (count : ℕ) (scan : Scan) : Type 0 where
   pub slots : List Slot
   pub count_is : length slots ≡ count

@@ -90,7 +90,7 @@ told cpu bytes (faulty NumberOverflow) (is, bad) = told_fault number_overflow is
 told cpu bytes (faulty SameFill) is = absurd is
 told cpu bytes (faulty Overlap) is = absurd is
 
--- what is told is one slot
+-- what the bytes say is one slot
 one_told : (cpu : ℕ) (bytes : List ℕ) (slot other : Slot) → Told cpu bytes slot → Told cpu bytes other → slot ≡ other
 one_told cpu bytes slot other (told_blank none is) (told_blank also too) = is ∙ sym too
 one_told cpu bytes slot other (told_blank none is) (told_other some differs too) = absurd (some none)

@@ -39,7 +39,7 @@ pub record AreTaken (records : List Record) (cpu taken : ℕ) (before : List Par
 -- above what was; and, if no slot is damaged, each page that was taken is there, or ends below all that are.
 --
 -- So it is in a ring's region, whenever its process is killed. A slot up to its commit has records of one fill that
--- were committed, from the fill's first number on: commit is set to 0 before the slot's page is begun anew, and then
+-- were committed, from the fill's first number on: commit is set to 0 before the slot's page is begun again, then
 -- stands for whole records alone. The page that was taken last stays in the reader's slot until the next take, which
 -- sets that slot's commit to 0 as it gives the slot back to the ring. A page that was overwritten stays in its slot
 -- until the next fill is begun there, while the reader may take a later page, before which its numbers are missing.

@@ -100,7 +100,7 @@ pub record AddsSlot (header : Header) (bytes : List ℕ) (slots : List Slot) (sc
   pub slot_is : IsUnpassedSlotOf header bytes slot
   pub scanned : IsScanned header (slots ++ slot ∷ []) scan
 
--- The page was put among those by fill, behind all of no higher fill.
+-- The page was put among those by fill, after all of no higher fill.
 pub record PutsByFill (found : FoundAnswer) (old new : List FoundAnswer) : Type 0 where
   pub at : ℕ
   pub within : at ≤ length old

@@ -21,7 +21,7 @@ stride_of size = (HEAD + size + (ALIGN - 1)) / ALIGN * ALIGN
 abbrev pub slot_at : (size number : ℕ) → ℕ
 slot_at size number = START + stride_of size * number
 
--- how many bytes the region of a ring of so many pages has: there is a slot for each of them, and one for the reader's
+-- how many bytes the region of a ring of `pages` pages has: there is a slot for each of them, and one for the reader's
 abbrev pub region_len : (pages size : ℕ) → ℕ
 region_len pages size = slot_at size (pages + 1)
 

@@ -15,13 +15,13 @@ unpassed taken blank = blank
 unpassed taken (intact parcel) = if nat_lt (end_of parcel) taken then blank else intact parcel
 unpassed taken (faulty cause) = faulty cause
 
--- The bytes of a slot of a region with this header are this one, where pages that were passed are left out.
+-- The bytes of a slot of a region with this header are this one, if pages that were passed are left out.
 pub record IsUnpassedSlotOf (header : Header) (bytes : List ℕ) (slot : Slot) : Type 0 where
   pub read : Slot
   pub read_is : IsSlotOf header.cpu.0 bytes read
   pub slot_is : slot ≡ unpassed header.taken.0 read
 
--- The first slots of a region with this header are these, where pages that were passed are left out.
+-- The first slots of a region with this header are these, if pages that were passed are left out.
 abbrev pub AreSlots : Header → List ℕ → List Slot → Type 0
 AreSlots header bytes slots = (number : ℕ) (slot : Slot)
     → slice_get slots number ≡ Some slot
@@ -39,7 +39,7 @@ pub record Recovered : Type 0 where
 abbrev pub damaged_in : (size : ℕ) → List Slot → List Found → List Damaged
 damaged_in size slots found = damaged_from size 0 slots ++ damaged_behind size None found
 
--- In the slots behind this header is what is held.
+-- In the slots after this header is what is held.
 pub record IsHeld (bytes : List ℕ) (held : Recovered) : Type 0 where
   pub slots : List Slot
   pub count_is : length slots ≡ held.header.pages + 1

@@ -1,4 +1,4 @@
--- A slot of a region: the numbers of a parcel, the header of a page's image, and the page's data. What is behind its
+-- A slot of a region: the numbers of a parcel, the header of a page's image, and the page's data. What is after its
 -- commit says nothing.
 use Rattle.std.specs.Prelude.{◌≡◌, ◌≢◌, ℕ, ◌+◌, ◌<◌, ◌≤◌, List, ◌++◌, length, take}
 use Rattle.trace_model.specs.Faults.{Cause, cut, bad_length, time_overflow}
@@ -49,8 +49,8 @@ pub record IsCommitted (cpu : ℕ) (bytes : List ℕ) : Type 0 where
 abbrev pub HasBadWord : List ℕ → Cause → (at : ℕ) → Type 0
 HasBadWord bytes cause at = FirstParcelFault (committed_in bytes) (bad_image (bad_word cause at))
 
--- The first fault of a slot in a region of this CPU, the causes being looked at in this order. The last two are told
--- only of several slots together.
+-- The first fault of a slot in a region of this CPU, the causes being looked at in this order. The last two are
+-- reported only of several slots together.
 abbrev pub FirstSlotFault : (cpu : ℕ) → List ℕ → SlotCause → Type 0
 FirstSlotFault cpu bytes OtherCpu = (commit_in bytes ≢ 0) × (number_in bytes SLOT_CPU_AT ≢ cpu)
 FirstSlotFault cpu bytes Missed = IsOfCpu cpu bytes × (number_in bytes MISSED_AT ≢ 0)
@@ -88,7 +88,7 @@ cause_at Overlap = FIRST_AT
 
 -- ---- what a writer leaves
 
--- the bytes of a page's slot up to its commit, where all its data is committed
+-- the bytes of a page's slot up to its commit, if all its data is committed
 abbrev pub slot_of_page : (cpu : ℕ) → Contents → List ℕ
 slot_of_page cpu page =
     with_numbers cpu page.fill page.first 0 (le64 page.time ++ (le64 (length page.bytes) ++ page.bytes))

@@ -54,8 +54,8 @@ impl From<NoMemory> for RegionFault {
     }
 }
 
-/// Why a slot isn't a page of its region. What is looked at first is what is listed here first; the last two are told
-/// only of several slots together.
+/// Why a slot isn't a page of its region. What is looked at first is what is listed here first; the last two are
+/// reported only of several slots together.
 #[derive(Clone, Copy, Debug, PartialEq, Eq)]
 pub enum SlotCause {
     /// It is of another CPU than the region.

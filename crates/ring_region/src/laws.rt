@@ -37,7 +37,7 @@ pub fn constants_are()
     ensures commit_at { COMMIT_AT ≡ 40 }
 {}
 
-/// A slot holds one thing, whatever its bytes are, and what is behind its commit changes nothing.
+/// A slot holds one thing, whatever its bytes are, and what is after its commit changes nothing.
 pub fn slots_hold_one_thing()
     ensures some { (cpu : ℕ) (bytes : List ℕ) → cpu < MAX_CPUS → AreBytes bytes → length bytes ≤ HEAD + MAX_SIZE
         → (slot : Slot) × IsSlotOf cpu bytes slot }

@@ -57,7 +57,7 @@ impl Numbered {
         self.page.first().0 + self.page.count()
     }
 
-    /// The page as a parcel of this CPU, with so many numbers missing before it.
+    /// The page as a parcel of this CPU, with `missed` numbers missing before it.
     pub(crate) fn parcel(self, alloc: Global, cpu: CpuId, missed: u64) -> Result<Parcel, NoMemory>
         requires cpu { cpu.0 < MAX_CPUS }
         requires missed { missed ≤ self.first }

@@ -27,7 +27,7 @@ pub struct Region {
     pub header: Header,
     /// Its pages as parcels, by rising fill, but for those that were passed, which end below `taken`. Before each of
     /// them the numbers from the end of the one before it on are missing; before the first one those from `taken` on,
-    /// unless it begins below. If any slot is damaged, none is missing: nothing is known of what lies between the
+    /// unless it begins below. If any slot is damaged, none is missing: nothing is known of what is between the
     /// others.
     pub parcels: Vec<Parcel>,
     /// The slots that are damaged: those that aren't pages, in their order, and then those that can't be beside others.
@@ -82,7 +82,7 @@ fn recover(alloc: Global, header: Header, scan: Scan) -> Result<Region, NoMemory
     })
 }
 
-/// Reads a region, whatever left it. Bytes behind the last slot aren't looked at. Memory is asked for after all faults
+/// Reads a region, whatever left it. Bytes after the last slot aren't looked at. Memory is asked for after all faults
 /// of the header.
 pub fn read_region(alloc: Global, bytes: &[u8]) -> Result<Region, RegionFault>
     ensures region { IfOk result (λ region. IsRegion bytes.now (region_seen region)) }
@@ -95,7 +95,7 @@ pub fn read_region(alloc: Global, bytes: &[u8]) -> Result<Region, RegionFault>
     read(alloc, bytes)
 }
 
-/// The same, each fault by what it says.
+/// The region of the bytes, or their first fault, each fault by what it says.
 fn read(alloc: Global, bytes: &[u8]) -> Result<Region, RegionFault>
     ensures region { IfOk result (λ region. IsRegion bytes.now (region_seen region)) }
     ensures fault { IfErr result (λ fault. IsRegionFault bytes.now fault) }

@@ -27,7 +27,7 @@ pub enum Slot {
     Damaged(SlotFault),
 }
 
-/// The same, the page alone.
+/// What a slot holds, of a page its numbers and data alone.
 #[derive(Drop)]
 pub(crate) enum Reading {
     Blank,
@@ -35,7 +35,7 @@ pub(crate) enum Reading {
     Damaged(SlotFault),
 }
 
-/// Reads a slot of a region of this CPU: 48 bytes, and as many as a page has data. What is behind its commit isn't
+/// Reads a slot of a region of this CPU: 48 bytes, and as many as a page has data. What is after its commit isn't
 /// looked at. Memory is asked for after all that may be wrong.
 pub fn read_slot(alloc: Global, cpu: CpuId, slot: &[u8]) -> Result<Slot, NoMemory>
     requires cpu { cpu.0 < MAX_CPUS }
@@ -52,7 +52,7 @@ pub fn read_slot(alloc: Global, cpu: CpuId, slot: &[u8]) -> Result<Slot, NoMemor
     read(alloc, cpu, slot)
 }
 
-/// The same, by what it answers.
+/// Reads a slot, as `read_slot` does.
 fn read(alloc: Global, cpu: CpuId, slot: &[u8]) -> Result<Slot, NoMemory>
     requires cpu { cpu.0 < MAX_CPUS }
     requires head { HEAD ≤ length slot.now }

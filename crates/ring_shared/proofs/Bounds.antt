@@ -79,7 +79,7 @@ module _ {v x : WriterValue} (view_is : v ≡ x) (w : AreWriterFields x) where
   pub pages_called : v.frames.stack.pages ≡ x.shape.pages
   pages_called = ap (λ (y : WriterValue). y.frames.stack.pages) view_is ∙ w.frames_are.pages_is
 
-  -- as many pages as the frames answer are the ring's, and what the frame on top saw of the head holds
+  -- the number of pages that the frames answer is the ring's, and what the frame on top saw of the head holds
   pub fits_called : x.frames.stack.frames ≢ [] → {phase : code.Phase} → x.frames.phase ≡ phase → (pages : ℕ)
       → pages ≡ v.frames.stack.pages → pages ≤ MAX_PAGES
       → (pages ≡ v.shape.pages)

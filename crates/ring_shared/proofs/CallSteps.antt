@@ -1,4 +1,4 @@
--- A call makes few steps: those of the frame on top stand in a row.
+-- A call makes few steps: those of the frame on top are consecutive.
 use Rattle.std.specs.Prelude.{Result, Ok, Err}
 use Rattle.std.proofs.Common.{◌≡◌, ℕ, suc, ◌+◌, ◌≤◌, ◌⊎◌, true, List, [], ◌∷◌, ◌++◌, length, None, refl, sym, ap}
 use Rattle.std.proofs.Common.{◌∙◌, subst, arith, inl, inr, length-append}
@@ -83,7 +83,7 @@ reached_last shape w r =
 
 -- ---- one call
 
--- all that was made from the first part to the second stands in a row
+-- all that was made from the first part to the second is consecutive
 abbrev InARow : Writing → Writing → Type 0
 InARow before after = length after.made + steps_in_a_row before.made ≤ length before.made + steps_in_a_row after.made
 
@@ -169,7 +169,7 @@ module _ (shape : Shape) (frame : Frame) (below : List Frame) (before : Writing)
         let one = one_longer shape r.between model.steps result after r.last in
         omega arith
 
-    -- after which it still stands
+    -- after which it is still on the stack
     reserves_row : (next : Frame) → after.frames ≡ next ∷ below → InARow before after
     reserves_row next above =
         let (row, still) = reserving_row is r.between r.goes in
@@ -311,7 +311,7 @@ module _ (shape : Shape) (before after : Writing) (moment : ℕ) where
       pushed_few result next r =
           reserves_few shape begun.frame before.frames pushed begun.top begun.reserves result next (by_kind result next r)
 
-      -- all but its push are no more than `finish_top` makes
+      -- all but its push are at most what `finish_top` makes
       with_push : MakesAtMost (most_to_finish shape) pushed after → MakesAtMost (most_to_write shape) before after
       with_push few = let one = one_longer shape before (model.pushes moment len) Pushed pushed push in omega arith
 

@@ -131,7 +131,7 @@ module _ (v new : WriterValue) (shape_is : new.shape ≡ v.shape) (knows : v.pas
       one_phase v.part.frames (looking noted) (claiming o p) top at in
       cc))
 
--- the same of a call of a writer whose view is that one, whose frame on top is in a quiet phase
+-- a call brings the frame nearer, if the writer's view is that one and its frame on top is in a quiet phase
 pub stays_near : {v x new : WriterValue} {result : Answer} → v ≡ x → AreWriterFields x → x.frames.stack.frames ≢ []
     → (phase : Phase) → phase_of x.frames.phase ≡ phase → MakesSome x model.steps result new → v.passed ≤ new.passed
     → IsQuiet x.part.opened phase → IsNearer x new

@@ -1,4 +1,4 @@
--- Where the steps of each end stand in the run of both.
+-- Where the steps of each end are in the run of both.
 use Rattle.std.proofs.Common.{◌≡◌, Bool, true, false, List, [], ◌∷◌, ◌++◌, refl, sym, ap, ◌∙◌, append-nil, append_assoc}
 use Rattle.trace_model.specs.Ring.{Core}
 use Rattle.trace_model.specs.Steps as model
@@ -25,7 +25,7 @@ module _ {M : Type 0} (is : model.Event → Bool) (made : model.Exchange → Cor
   abbrev made_in : (a : Core) (exchanges : List model.Exchange) (b : Core) → RunTo a exchanges b → List M
   made_in a exchanges b run = made_by is made (trace_of shape.pages shape.size a exchanges b run)
 
-  -- it stands in a run of these exchanges
+  -- it is in a run of these exchanges
   pub record Stands (exchanges : List model.Exchange) (earlier : List M) (one : M) : Type 0 where
     pub before : List model.Exchange
     pub x : model.Exchange
@@ -38,7 +38,7 @@ module _ {M : Type 0} (is : model.Event → Bool) (made : model.Exchange → Cor
     pub part_is : made x core ≡ one
     pub steps_are : made_in from (before ++ x ∷ []) core front ≡ earlier ++ one ∷ []
 
-  -- in the rest of the run; or it is the step that was made just now
+  -- in the rest of the run; or it is the step that was made last
   module _ (done : List model.Exchange) (c : Core) (front : RunTo from done c) (x : model.Exchange) (between : Core)
       (step : model.Step shape.pages shape.size c x.event x.answer between) (exchanges : List model.Exchange)
       (run : RunTo between exchanges last) (one : M) (later : List M) where

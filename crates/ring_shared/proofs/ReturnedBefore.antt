@@ -20,7 +20,7 @@ module _ {M : Type 0} (is : Event → Bool) (made : Exchange → Core → M) whe
     step_is : made step.0 step.1 ≡ one
     earlier_are : made_by is made front ≡ earlier
 
-  -- and with one more in front of them
+  -- and with one more before them
   at_later : (x : Exchange) (c : Core) (trace : Trace) (earlier all : List M) (one : M)
       → ((front : Trace) → made_by is made front ≡ earlier → made_by is made ((x, c) ∷ front) ≡ all)
       → IsMadeAt trace earlier one → IsMadeAt ((x, c) ∷ trace) all one

@@ -57,6 +57,6 @@ MakesAtMost most before after = length after.made ≤ length before.made + most
 abbrev pub most_to_finish : Shape → ℕ
 most_to_finish shape = frame_limit shape.pages + 1
 
--- the most that `write` makes, 3N + 54: its push, and then no more than these
+-- the most that `write` makes, 3N + 54: its push, and then at most these
 abbrev pub most_to_write : Shape → ℕ
 most_to_write shape = most_to_finish shape + 1

@@ -25,7 +25,7 @@ RunsAreReached = (shape : Shape) (writing : Writing) (reading : Reading) (run : 
     → model.Run shape.pages shape.size run.from before core
     → IsReached shape.pages shape.size shape.start core
 
--- A step of an end stands in the run of both: a front of the run ends with it, in which this end made its earlier steps
+-- A step of an end is in the run of both: a front of the run ends with it, in which this end made its earlier steps
 -- and this one; it leads to a state with the part that the end had after this step, and the rest of the run leads from
 -- there to the last state.
 pub record StepStands {Made : Type 0} (is : model.Event → Bool) (made : model.Exchange → Core → Made) (shape : Shape)

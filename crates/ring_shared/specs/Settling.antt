@@ -25,7 +25,7 @@ use Rattle.ring_shared.specs.declared.settling.Settled.{Settled}
 abbrev pub unread_page : Settled → Option Contents
 unread_page settled = if settled.tail.count == 0 then None else Some settled.tail
 
--- as a piece, before which nothing is skipped
+-- the unread page as a piece, before which nothing is skipped
 abbrev pub piece_unread : Option Contents → List Piece
 piece_unread None = []
 piece_unread (Some page) = record { skipped = 0; records = records_of_page page } ∷ []
@@ -64,7 +64,7 @@ pub record IsOneRun (shape : Shape) (writing : Writing) (reading : Reading) : Ty
 -- What holds of both ends at any moment. All that they asked is one run (`one_run`). The committed records are what the
 -- reader took, with what it reports as missed; then those that were overwritten since; and then those that are unread
 -- in the ring, which are all from the first number of the run's head on. After the committed ones come those that are
--- reserved by frames that stand, or that have ended above one that does; none if no frame stands. Each page that was
+-- reserved by open frames, or by frames that have ended above an open one; none if no frame is open. Each page that was
 -- taken is a whole fill of this writer's history, under that fill's number.
 pub record IsStopped (shape : Shape) (writing : Writing) (reading : Reading) : Type 0 where
   pub one_run : IsOneRun shape writing reading

@@ -75,7 +75,7 @@ pub fn tails_are_the_rest()
 {}
 
 /// Whatever calls were made on the two ends of a ring, in whatever threads: once the ends are settled, the steps of all
-/// calls are one run of the ring's model, and after each step of an end the run has come to a state with that end's
+/// calls are one run of the ring's model, and after each step of an end the run has reached a state with that end's
 /// part. So what is proved of states that steps reach, and of runs, holds of it.
 pub fn both_ends_made_one_run()
     ensures reached { RunsAreReached }
@@ -90,8 +90,8 @@ pub fn calls_end_runs()
     ensures reader { ReaderStepsEndRuns }
 {}
 
-/// Of the steps that a writer's end has made by now, at most 3N + 52 stand in a row at the end of which each brought the
-/// same frame nearer to being gone, its record's end among them: whatever the reader did in between.
+/// Of the steps that a writer's end has made by now, the last ones that each brought the same frame nearer to being
+/// gone are at most 3N + 52, its record's end among them: whatever the reader did in between.
 pub fn frames_make_few_steps()
     ensures { FramesMakeFewSteps }
 {}

@@ -117,7 +117,7 @@ module _ (shape : Shape) where
     pub head_le : c.head ≤ next.head
     pub reported : reports (slice_index words i) (reads after, carried_after me.1 act)
 
-  -- the same state is shown with what a reader knows that is the same
+  -- a state that is shown with what a reader knows is shown with anything equal to that
   abbrev pub shown_as : (c : Core) (r v : Reading) (words : List ℕ) (homes : Homes) → r ≡ v → IsShownBy c r words homes
       → IsShownBy c v words homes
   shown_as c r v words homes same s = record {

@@ -22,14 +22,14 @@ run_on n size from c [] x after run step =
 run_on n size from c (y ∷ exchanges) x after (between, first, run) step =
     (between, first, run_on n size between c exchanges x after run step)
 
--- the same state
+-- a run that leads to a state, to an equal one
 abbrev pub run_at : (n size : ℕ) (from c d : Core) (exchanges : List Exchange) → c ≡ d → Run n size from exchanges c
     → Run n size from exchanges d
 run_at n size from c d [] same run = run ∙ same
 run_at n size from c d (x ∷ exchanges) same (between, step, run) =
     (between, step, run_at n size between c d exchanges same run)
 
--- the same ring
+-- a run of a ring of a shape, of one of an equal shape
 abbrev pub run_as : (shape other : Shape) (from c : Core) (exchanges : List Exchange) → shape ≡ other
     → Run shape.pages shape.size from exchanges c → Run other.pages other.size from exchanges c
 run_as shape other from c [] same run = run
@@ -50,7 +50,7 @@ trace_on n size from c [] x after run step = refl
 trace_on n size from c (y ∷ exchanges) x after (between, first, run) step =
     ap (λ (trace : Trace). (y, between) ∷ trace) (trace_on n size between c exchanges x after run step)
 
--- the same
+-- a run to an equal state goes through the same
 pub trace_at : (n size : ℕ) (from c d : Core) (exchanges : List Exchange) (same : c ≡ d)
     (run : Run n size from exchanges c)
     → trace_of n size from exchanges d (run_at n size from c d exchanges same run)
@@ -153,7 +153,7 @@ reached_on n size start c event answer after r step = record {
   run = run_on n size r.from c r.exchanges record { event = event; answer = answer } after r.run step;
 }
 
--- the same state
+-- a state equal to one that is reached is reached
 abbrev pub reached_at : (n size start : ℕ) (c d : Core) → c ≡ d → IsReached n size start c → IsReached n size start d
 reached_at n size start c d same r = record {
   from = r.from;
@@ -163,7 +163,7 @@ reached_at n size start c d same r = record {
   run = run_at n size r.from c d r.exchanges same r.run;
 }
 
--- the same ring
+-- what is reached in a ring of a shape is reached in one of an equal shape
 abbrev pub reached_as : (shape other : Shape) (c : Core) → shape ≡ other
     → IsReached shape.pages shape.size shape.start c → IsReached other.pages other.size other.start c
 reached_as shape other c same r = record {

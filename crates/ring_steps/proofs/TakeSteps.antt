@@ -301,7 +301,7 @@ module _ (shape : Shape) (before after : Reading) (link : Link) (answer : model.
         behind,
       )
 
--- the same by the mark of a link whose word was found
+-- a step at the hint, by the mark of a link whose word was found
 module _ (shape : Shape) (before after : Reading) (found : ℕ)
     (read : IsReadStep shape before (IsWordInto shape before.reader.hint found) after)
     (at : before.reader.phase ≡ loading_head) (slot : after.keeps_spare ≡ false) (l : code.Link)

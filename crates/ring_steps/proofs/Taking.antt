@@ -80,7 +80,7 @@ words_on n c words reader a = record {
   spare = a.spare;
 }
 
--- the same pages at home, in which the spare's slot is empty unless the reader keeps it
+-- the pages at home stay, in which the spare's slot is empty unless the reader keeps it
 pub homes_on : (n size : ℕ) (c : Core) (r : Reading) (homes : Homes) (reader : Reader) (link : Link) (b : Bool)
     → AreHomes n size c r homes → (b ≡ false → get_elem? homes c.spare ≡ some (some None))
     → AreHomes n size (gone_on c reader link) (reading_of (gone_on c reader link) b) homes

@@ -95,7 +95,7 @@ by_writer trace = made_by is_by_writer writer_made trace
 abbrev pub by_reader : Trace → List ReaderMade
 by_reader trace = made_by is_by_reader reader_made trace
 
--- The trace is made of the steps of both ends, each end's in its own order, and of no others: where it has a step of an
+-- The trace is made of the steps of both ends, each end's in its own order, and of no others. At each step of an
 -- end, the state after it has this end's part as it was then.
 pub record AreMadeByBoth (writers : List WriterMade) (readers : List ReaderMade) (trace : Trace) : Type 0 where
   pub by_writer_are : by_writer trace ≡ writers

@@ -14,7 +14,7 @@ use crate::views::View;
 use atomic_table::{Join, Split};
 use std::marker::{Brand, PhantomData};
 
-/// The writer's seat goes on with the part that is picked, and the receipt has what was made to come to it.
+/// The writer's seat goes on with the part that is picked, and the receipt has what was made to reach it.
 struct Given<J> {
     of: PhantomData<J>,
 }
@@ -38,7 +38,7 @@ impl Join<View> for Learned {
     ghost spent = { spent };
 }
 
-/// A load by which the writer's seat comes to the part that the caller picks, and a receipt is cut off. `given` is what
+/// A load by which the writer's seat gets the part that the caller picks, and a receipt is cut off. `given` is what
 /// the caller states to the proof; no code reads it.
 #[inline(always)]
 fn cut<J: ChosenPart, G>(board: &Board, shape: Shape, seat: &mut TableSeat, given: &G) -> TableSeat

@@ -8,7 +8,7 @@ impl Page {
     ghost use Rattle.std.specs.Prelude.{◌≡◌, length, IfOk};
     ghost use Rattle.page_image.specs.Contents.{IsPage};
 
-    /// The same page in a body of its own that is exactly as long as its data: it has no room for another record.
+    /// A copy of the page in a body of its own that is exactly as long as its data: it has no room for another record.
     pub fn fitted(&self, alloc: Global) -> Result<Page, NoMemory>
         ensures page { IfOk result (λ page. page ≡ record self.now { size = length self.now.bytes }) }
         ensures reads { IfOk result (λ page. IsPage self.now → IsPage page) }

@@ -42,7 +42,7 @@ impl Parcel {
         Parcel::read(alloc, bytes)
     }
 
-    /// The same, each fault by what it says.
+    /// The parcel of the bytes, or their first fault, each fault by what it says.
     fn read(alloc: Global, bytes: &[u8]) -> Result<Parcel, ParcelFault>
         ensures reads { IfOk result (λ parcel. DecodesParcel bytes.now (as_parcel parcel)) }
         ensures page { IfOk result (λ parcel. IsPageRead bytes.now parcel.page) }
@@ -99,7 +99,7 @@ impl Parcel {
         self.written(alloc)
     }
 
-    /// The same, part by part.
+    /// The parcel as bytes, part by part.
     fn written(&self, alloc: Global) -> Result<Vec<u8>, NoMemory>
         ensures bytes { IfOk result (λ bytes. bytes.items ≡ bytes_of_page self.now.cpu self.now.page self.now.missed) }
         ensures fits { OnOk result (length self.now.page.bytes ≤ self.now.page.size) }

@@ -36,7 +36,7 @@ use Rattle.ring_model.proofs.contents.OpenPageSteps.{tail_page_is}
 use Rattle.ring_model.proofs.contents.PageChanges.{nothing, pages_later, pages_reserved, pages_begun, pages_finished}
 use Rattle.ring_model.proofs.contents.PageChanges.{pages_swapped}
 
--- the same cuts and records, by equations
+-- pages are kept if the cuts and records are equal
 same_pages : (n start : ℕ) (order : List ℕ) (held : List PageRecords) (cuts cuts' : List ℕ) (xs xs' : List Reservation)
     (head opened : ℕ) → cuts' ≡ cuts → xs' ≡ xs → PagesKept n start order held cuts xs head opened
     → PagesKept n start order held cuts' xs' head opened

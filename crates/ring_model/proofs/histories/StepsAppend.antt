@@ -33,7 +33,7 @@ use Rattle.ring_model.specs.HistoryLaws.{StepsAppend, AppendedIsOne}
 use Rattle.ring_model.proofs.links.FramePhases.{none_some}
 use Rattle.ring_model.proofs.histories.HistorySteps.{top_agrees}
 
--- the same history
+-- a step after which the ring is as before appends nothing to the history
 same : (c after : Core) → after ≡ c → after.history ≡ c.history ++ []
 same c after is = ap (λ (d : Core). d.history) is ∙ sym (append-nil c.history)
 

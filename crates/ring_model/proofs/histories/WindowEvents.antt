@@ -51,7 +51,7 @@ module _ (n : ℕ) (c after : Core) where
   opens_alone takes h g = let e = same_heads (acts open_fill) takes h g in absurd (omega arith)
   opens_alone loses h g = let e = same_heads (acts open_fill) loses h g in absurd (omega arith)
 
-  -- the same, whichever history event it is
+  -- an event that moves the window as a history event does is that one
   acts_alone : (a : HistoryEvent) (other : RingEvent) → MovesWindow n c (acts a) after → MovesWindow n c other after
       → acts a ≡ other
   acts_alone a other h g =

@@ -250,7 +250,7 @@ map_frames n links links' order order' head head' done done' opened opened' [] s
 map_frames n links links' order order' head head' done done' opened opened' (frame ∷ below) step k =
     (step frame.phase k.0, map_frames n links links' order order' head head' done done' opened opened' below step k.1)
 
--- the same, if none of the frames has set the UPDATE at the position of fill f
+-- frames are kept after a change, if none of them has set the UPDATE at the position of fill f
 pub map_others : (n : ℕ) (links links' : List Link) (order order' : List ℕ) (head head' done done' opened opened' f : ℕ)
     (frames : List Frame)
     → (HasMover frames f → ⊥)

@@ -171,7 +171,7 @@ module _ (n : ℕ) (c : Core) (answer : Answer) (after : Core) where
             ∙ ap (λ (p : ℕ). get_or c.held p empty_page) (sym head.page_is));
       }
     where
-      -- the same page is taken
+      -- the page that is taken is the same after a private step
       swap_again : IsHeadTaken n c page fill
           → (frames : List Frame) (history : List HistoryEvent) (held : List PageRecords)
           → get_or held page empty_page ≡ get_or c.held page empty_page

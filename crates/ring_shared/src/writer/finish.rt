@@ -102,7 +102,7 @@ impl Writer {
         }
     }
 
-    /// As `leave_on`, with the answer of `finish_top`.
+    /// Finishes a frame that leaves, as `leave_on` does, and gives the answer of `finish_top`.
     #[inline(always)]
     fn finish_leaving(&mut self) -> Answer
         requires { HasLeavingTop self.old }
@@ -175,7 +175,7 @@ impl Writer {
         }
     }
 
-    /// As `reserve_top`: the refusal that the frame met, if any.
+    /// Reserves the record of the frame on top, as `reserve_top` does, and answers the refusal that it met, if any.
     #[inline(never)]
     pub(crate) fn reserve_on(&mut self) -> Option<WriteFault>
         requires writer { IsWriter self.old }

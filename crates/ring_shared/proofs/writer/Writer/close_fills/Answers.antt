@@ -32,7 +32,7 @@ loop-self-init c =
       payloads = same_stack c.args.self.now.frames.stack c.args.self.now.frames.stack refl;
     }
 
--- while it closes fills, the frame stands
+-- while it closes fills, the frame is on the stack
 still_framed : (shape : Shape) (first : Writing) (now : WriterValue) → IsWriter now
     → (frame : Frame) × (below : List Frame) × (first.frames ≡ frame ∷ below)
     → ((frame : Frame) (below : List Frame) → first.frames ≡ frame ∷ below → Closes shape below first Going now.part)
