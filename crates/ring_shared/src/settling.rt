@@ -62,7 +62,7 @@ pub fn settle(alloc: Global, writer: Writer, reader: Reader) -> Result<Settled, 
     })
 }
 
-/// Joins the two ends of a ring at any moment: whatever frames are open, whatever is unread, and during a take.
+/// Joins the two ends of a ring at any moment: whatever frames are open, whatever is unread, also during a take.
 /// Each committed record is on a page that was taken, is counted as missed before one, was overwritten since, or is
 /// unread in the ring; and all that both ends asked so far, with all that was answered, is one run of the model.
 pub fn stop(writer: Writer, reader: Reader) -> SettledSeats

@@ -15,7 +15,7 @@ const FIRST: &[u8] = b"\0\0\0\0\0\0\0\0\0\0\0\0\0\0\0\0\
     \x01\0\0\0\0\0\0\0\x08\0\0\0\0\0\0\0\
     \x01\0\0\0\x11\x11\x11\x11";
 
-/// The same records in a page that ends in padding.
+/// The record of `FIRST` in a page that ends in padding.
 const PADDED: &[u8] = b"\0\0\0\0\0\0\0\0\0\0\0\0\0\0\0\0\
     \0\0\0\0\0\0\0\0\0\0\0\0\0\0\0\0\
     \x01\0\0\0\0\0\0\0\x10\0\0\0\0\0\0\0\

@@ -67,7 +67,7 @@ impl Gate for Counting {
 /// Where a gate is asked: by which end, of which CPU's ring, and at which fill.
 pub type Asked = (Who, u32, u64);
 
-/// The same as a gate is given it.
+/// What a gate is asked, as it is given: the end, the CPU and the fill.
 #[derive(Clone, Copy, Debug, PartialEq, Eq)]
 struct Place {
     who: Who,

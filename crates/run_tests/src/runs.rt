@@ -176,7 +176,7 @@ fn an_overflow_is_taken_or_missed(rt: HostRuntime) -> Result<(), Fail> {
     Ok(())
 }
 
-/// Each collector of a run has one record of each of so many CPUs.
+/// Each collector of a run has one record of each of the first `cpus` CPUs.
 fn compare_wide(rt: &impl Abort, ran: &Ran, cpus: u8, collectors: usize) {
     assert!(rt; ran.collectors.len() == collectors);
     check_audits(rt, ran);

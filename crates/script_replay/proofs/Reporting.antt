@@ -161,7 +161,7 @@ module _ (line cpu : ℕ) (asked : Asked) (answer : Answer) (ring : CoreValue) (
         others = t.others;
       }
 
--- what is logged of the answer, and what is told of the step, is the report
+-- what is logged of the answer, and the text of the step, is the report
 pub step_reported : (line cpu : ℕ) (asked : Asked) (answer : Answer) (ring : CoreValue) (old new : ReportsValue)
     → IsStepTold line cpu asked answer ring old.steps new.steps
     → ((size : ℕ) (reported : model.Answer)

@@ -238,7 +238,7 @@ told_none script lines line collector cpu fill w after old new d told so_far =
     (printed_log_line (delivery_line line collector cpu fill no_page)) old new (tells_none d refl)
     (ap (λ (v : World). v.lanes) d.after_is) told so_far
 
--- what is told of a page that the collector has
+-- the text of a page that the collector has
 pub known_told : (line collector cpu fill : ℕ) (added : Added) (parcel : Parcel) (old new : Option StepTextValue)
     → added ≡ Known
     → IsTextTold (printed_log_line (delivery_line line collector cpu fill (delivery_of added))) old new

@@ -106,7 +106,7 @@ pub record IsReady {T : Type 0} (script : Script) (command : Command) (state : R
   pub lines : List (ℕ × Command)
   pub part_way : IsStateAfter script lines state
 
--- One line more is obeyed, whichever were obeyed before; and a text that is asked for is still told.
+-- One line more is obeyed, whichever were obeyed before; and a text that is asked for goes on.
 abbrev pub LeadsOn : {T : Type 0} → Script → ℕ × Command → ReplayState T → ReplayState T → Type 0
 LeadsOn script line old new = (lines : List (ℕ × Command))
     → IsStateAfter script lines old

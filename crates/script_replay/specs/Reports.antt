@@ -15,12 +15,12 @@ use Rattle.step_telling.specs.declared.asked.Asked.{Asked}
 use Rattle.step_telling.specs.Known.{StepTextValue, Knows, KnowsOthers}
 use Rattle.step_telling.specs.Tells.{IsStepOf, MayTell, IsTextTold}
 
--- what contracts see of the reports: the log, and what is told of steps, if that is asked for
+-- what contracts see of the reports: the log, and the text of steps, if that is asked for
 pub record ReportsValue : Type 0 where
   pub log : List LogLine
   pub steps : Option StepTextValue
 
--- ---- what is told of exchanges
+-- ---- the text of exchanges
 
 -- The text of these steps of the ring of a CPU is appended, and the ring is known to be in the state after them.
 pub record HaveTold (n size line cpu : ℕ) (before : Core) (exchanges : List Exchange) (after : Core)

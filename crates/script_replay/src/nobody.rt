@@ -1,4 +1,4 @@
-//! Who is told of steps where nobody is.
+//! A teller for replays whose steps nobody is told of.
 use log_text::{At, LogLine};
 use page_numbers::Parcel;
 use ring_core::{Answer, Core};

@@ -109,7 +109,7 @@ fn deliver<T: Teller>(
 }
 
 /// Obeys a line of the script. What it leaves if memory is refused is not used. `obey_ring` and `Lane::obey` are
-/// inlined into each arm, where the kind is known, so that it is matched once.
+/// inlined into each arm, which knows the kind, so that it is matched once.
 #[inline(always)]
 fn obey<'a, T: Teller>(
     alloc: Global,
@@ -193,7 +193,7 @@ pub fn world_of(alloc: Global, script: &Script) -> Result<World, NoMemory>
     Ok(World { collectors, log })
 }
 
-/// The same with the fault type of `run`: it answers no fault but `NoMemory`.
+/// Replays a script, with the fault type of `run`. It answers no fault but `NoMemory`.
 pub fn replay(alloc: Global, script: &Script) -> Result<World, ReplayFault>
     ensures headline { IfOk result (λ world. IsHeadline script.now world.collectors.items world.log.items) }
     ensures memory { IsOkUnless result no_memory }

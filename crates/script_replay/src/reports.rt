@@ -57,7 +57,7 @@ impl<T: Teller> Reports<T> {
         report_any(at, answer, &mut self.log)
     }
 
-    /// The same of an answer that isn't needed any more.
+    /// Reports a step of a ring by an answer that isn't needed any more, whether or not steps are told.
     #[cold]
     #[inline(never)]
     fn report_told(

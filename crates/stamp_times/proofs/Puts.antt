@@ -4,7 +4,7 @@ use Rattle.std.proofs.lemmas.List.{drop_at, drop-drop, append-nil, drop_all, tak
 use borrow.Rule.Slice.PartMut.{put_mid}
 use Rattle.record_words.specs.Puts.{Puts}
 
--- a write at the front of what is at an offset: that is behind the offset then
+-- a write at the front of what is at an offset: what is written is at the offset then
 pub put_at : (old part a : List ℕ) (at k : ℕ) → at ≤ length old → k ≡ length old - at
     → Puts (take k (drop at old)) part a
     → drop at (put_mid at k old part) ≡ a ++ drop (at + length a) old

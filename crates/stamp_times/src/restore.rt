@@ -30,7 +30,7 @@ struct Reached {
 impl Reached {
     ghost use Rattle.std.specs.Prelude.{◌≡◌, ◌+◌, ◌%◌, ◌^◌};
 
-    /// Past a word that moves the time by this much, where the next one is at `next`.
+    /// Past a word that moves the time by this much. The next one is at `next`.
     fn past(self, next: usize, delta: u64) -> Reached
         ensures next { result.at ≡ next }
         ensures time { result.before ≡ (self.before + delta) % 2 ^ 64 }

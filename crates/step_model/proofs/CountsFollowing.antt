@@ -94,7 +94,7 @@ onto_more kind waiting below stands = refl
 onto_more kind (reserved number) below stands = refl
 onto_more kind left below stands = absurd (stands refl)
 
--- the frames have left if and only if none of them stands in the history
+-- the frames have left if and only if none of them is open in the history
 settled_as : (frames : List Frame) → FramesAgree frames → rests_on (pushed_frames frames) ≡ all_have_left frames
 settled_as [] agree = refl
 settled_as (frame ∷ []) agree = onto_left frame.kind frame.state

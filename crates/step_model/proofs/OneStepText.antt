@@ -1,4 +1,4 @@
--- A script has one step text: each line is told in one way, from a world that is one.
+-- A script has one step text: each line has one text, from a world that is one.
 use Rattle.std.proofs.Common.{◌≡◌, ℕ, List, [], ◌∷◌, ◌++◌, Some, refl, sym, ap, ◌∙◌, subst}
 use Rattle.std.specs.List.{slice_get}
 use Rattle.std.proofs.lemmas.Option.{slice_get_within}

@@ -15,7 +15,7 @@ use Rattle.trace_model.proofs.histories.Committed.{whole_front}
 
 -- ---- the records after an event
 
--- as many records, and the same last moment
+-- two lists have equally many records, and the same last moment
 pub record Alike (records others : List Reservation) : Type 0 where
   pub count : length others ≡ length records
   pub moment : last_moment others ≡ last_moment records

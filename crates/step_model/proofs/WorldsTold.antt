@@ -1,4 +1,4 @@
--- A step text is that of the script's world: what its lines tell, they do.
+-- A step text is that of the script's world: what the text of its lines says, the lines do.
 use Rattle.std.proofs.Common.{ℕ, List, [], ◌∷◌}
 use Rattle.text_model.specs.Script.{Command, begin_frame, step_frame, finish_frame, write, close, step_reader}
 use Rattle.text_model.specs.Script.{take_page, wish, deliver, Script}

@@ -1,4 +1,4 @@
-//! Who is told of the steps of a replay: what is asked of a ring at a step, and what a teller knows of each ring.
+//! Tellers of the steps of a replay: what is asked of a ring at a step, and what a teller knows of each ring.
 #![tactic(auto)]
 
 mod asked;

@@ -1,4 +1,4 @@
-//! Who is told of a replay's steps.
+//! Tellers of a replay's steps.
 ghost use Rattle.std.specs.Prelude.{◌≡◌, Option, None, flat_map, IfSome, IsFalse, OnOk};
 ghost use Rattle.text_model.specs.Printing.{printed_log_line};
 ghost use Rattle.log_text.specs.LogTypes.{shown_log_line};

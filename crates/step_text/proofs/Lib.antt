@@ -10,5 +10,5 @@ pub mod ChangesKnown
 -- rings: the text of new ones
 pub mod NewRingWritten
 pub mod OneRingMore
--- telling: a step of a ring, and of the rings
+-- the text of a step of a ring, and of the rings
 pub mod Telling

@@ -16,7 +16,7 @@ none_left olds news position (inl short) = rw (drop_all position olds short) ref
 none_left olds news position (inr short) =
     rw (drop_all position news short) (none_new (map link_of (drop position olds)))
 
--- behind the shorter of two lists of links none differs
+-- after the end of the shorter of two lists of links none differs
 pub none_behind : (olds news : List Link) (position : ℕ) → min (length olds) (length news) ≤ position
     → links_differ (map link_of (drop position olds)) (map link_of (drop position news)) ≡ false
 none_behind olds news position past =

@@ -12,7 +12,7 @@ use Rattle.step_model.specs.Seen.{Change, link_is, page_is}
 use Rattle.step_model.specs.Changes.{all_links, all_pages, link_changes, page_changes, unless_same}
 use Rattle.step_model.specs.StepTexts.{change_text}
 
--- what stands past the end of links
+-- what is read past the end of links
 abbrev pub past_end : Link
 past_end = record { mark = Normal; page = 0; fill = 0 }
 

@@ -1,4 +1,4 @@
--- What telling a step rests on: the stack is not deep, and a ring keeps its number of positions.
+-- What the text of a step rests on: the stack is not deep, and a ring keeps its number of positions.
 use Rattle.std.proofs.Common.{zero, suc, [], ◌∷◌, map, get_or, Some, slice_get, slice_set, ◌≡◌, ℕ, ◌<◌, ◌^◌, List}
 use Rattle.std.proofs.Common.{length, ◌++◌, append_assoc, sym, ap, ◌∙◌, subst, arith}
 use Rattle.std.proofs.lemmas.List.{map-set}
@@ -55,7 +55,7 @@ pub join_told : (o p q r line changes a b c d : List ℕ) → p ≡ o ++ line �
     → r ≡ o ++ (line ++ changes ++ a ++ b ++ c ++ d)
 join_told o p q r line changes a b c d e f g = rw (g, f, e) (simp append_assoc)
 
--- ---- in the words of who tells
+-- ---- in the terms of the teller
 
 pub known_of : (k : KnownValue) (c : Core) → ring_in k ≡ ring_known c → IsKnownOf k c
 known_of k c is = record {
@@ -98,7 +98,7 @@ item_known (ring ∷ rings) zero item c e at =
     let same : ring_of ring ≡ ring_known c = cc in known_of (known_in item) c (ap ring_of e ∙ same)
 item_known (ring ∷ rings) (suc cpu) item c e at = item_known rings cpu item c e at
 
--- the text, and what is known of the rings, where only the ring of one CPU is another one
+-- the text, and what is known of the rings, if only the ring of one CPU is another one
 abbrev pub with_ring : Inside → (cpu : ℕ) → List ℕ → Known → StepTextValue
 with_ring w cpu text item = record { text = text; rings = map ring_of (slice_set w.rings.items cpu item) }
 

@@ -18,7 +18,7 @@ pub record KnownValue : Type 0 where
 abbrev pub known_in : Known → KnownValue
 known_in k = record { links = map link_of k.links.items; order = k.order.items; parts = k.parts }
 
--- in the words of who tells
+-- in the terms of the teller
 abbrev pub ring_in : KnownValue → RingKnown
 ring_in k = record {
   links = k.links;

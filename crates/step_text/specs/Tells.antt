@@ -1,4 +1,4 @@
--- What is told of a step of a ring.
+-- The text of a step of a ring.
 use Rattle.std.specs.Prelude.{◌≡◌, ℕ, List, ◌++◌}
 use Rattle.trace_model.specs.Ring.{Core}
 use Rattle.trace_model.specs.Steps as model

@@ -71,7 +71,7 @@ pub(crate) fn new_ring(alloc: Global, script: &Script) -> Result<Known, NoMemory
     })
 }
 
-/// The same once more.
+/// A copy of what is known of a ring.
 fn copy_of(alloc: Global, known: &Known) -> Result<Known, NoMemory>
     ensures { IfOk result (λ copy. known_in copy ≡ known_in known.now) }
 {
@@ -82,7 +82,7 @@ fn copy_of(alloc: Global, known: &Known) -> Result<Known, NoMemory>
     })
 }
 
-/// As many of them as there are CPUs.
+/// Copies of what is known of a ring, one for each CPU.
 pub(crate) fn copies_of(alloc: Global, known: &Known, cpus: u32) -> Result<Vec<Known>, NoMemory>
     ensures count { IfOk result (λ rings. length rings.items ≡ cpus) }
     ensures each { IfOk result (λ rings. All (λ copy. known_in copy ≡ known_in known.now) rings.items) }
@@ -139,7 +139,7 @@ fn put_new_line(out: &mut Vec<u8>, cpu: u64) -> Result<(), NoMemory>
     Ok(())
 }
 
-/// The first fill of a ring of so many pages: it has no record yet.
+/// The first fill of a ring of `pages` pages: it has no record yet.
 fn put_first_fill(out: &mut Vec<u8>, fill: u64, pages: u64) -> Result<(), NoMemory>
     requires { 0 < pages }
     ensures { OnOk result (out.new.items

@@ -108,7 +108,7 @@ fn owns_from(before: Phase, after: Phase) -> bool
 }
 
 impl Parts {
-    /// Whether the frame on top has claimed the head, where these are the frames now.
+    /// Whether the frame on top has claimed the head, if these are the frames now.
     fn top_claims(&self, depth: u64, top: Option<FrameSeen>) -> bool
         ensures { result ≡ top_claims_in self.now depth top }
     {
@@ -134,7 +134,7 @@ impl Parts {
         }
     }
 
-    /// The head after a step with this answer, where these are the frames now.
+    /// The head after a step with this answer, if these are the frames now.
     fn head_after(&self, answer: &Answer, depth: u64, top: Option<FrameSeen>) -> u64
         requires { self.now.counts.head < 2 ^ 63 }
         ensures { result ≡ head_in self.now answer.now depth top }
@@ -170,7 +170,7 @@ impl Parts {
         }
     }
 
-    /// The number of committed records after a step, where these are the frames and the records now.
+    /// The number of committed records after a step, if these are the frames and the records now.
     fn committed_after(&self, depth: u64, top: Option<FrameSeen>, records: u64) -> u64
         ensures { result ≡ (if all_have_left_in depth top then records else self.now.counts.committed) }
     {

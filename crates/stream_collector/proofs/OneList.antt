@@ -18,7 +18,7 @@ rest_apart x xs a = record {
   apart = λ k p q at next. a.apart (suc k) p q at next;
 }
 
--- numbers of later runs are behind
+-- numbers of later runs are after those of a run
 behind_at : (x : ℕ × ℕ) (xs : List (ℕ × ℕ)) → AreApart (x ∷ xs) → (k : ℕ) (run : ℕ × ℕ) → slice_get xs k ≡ Some run
     → suc x.1 < run.0
 behind_at x [] a k run at = absurd (none-some run at)

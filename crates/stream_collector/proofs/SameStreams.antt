@@ -15,7 +15,7 @@ use Rattle.stream_collector.specs.Same.{IsSameStream, IsSameOnOwn, AllMarksSame}
 use Rattle.stream_collector.proofs.MarkWalks.{HasMarks, has_marks_or_not}
 use Rattle.stream_collector.proofs.OneList.{one_runs}
 
--- the same runs are those of the same numbers
+-- two lists of runs are equal if and only if they are of the same numbers
 pub runs_same : (P Q : ℕ → Type 0) (xs ys : List (ℕ × ℕ)) → AreRuns P xs → AreRuns Q ys
     → (xs ≡ ys ↔ ((n : ℕ) → (P n ↔ Q n)))
 runs_same P Q xs ys r q = (
@@ -33,7 +33,7 @@ listed_records s cpu xs l = same_listed xs
     (λ n r h. record { has = h.has; up = h.from })
     l
 
--- the same list is that of the same records
+-- two lists of records are equal if and only if they have the same records
 pub records_same : (s o : Stream) (cpu : ℕ) (xs ys : List (ℕ × Record))
     → AreRecordsFrom s.parcels cpu (bound_of s cpu) xs → AreRecordsFrom o.parcels cpu (bound_of o cpu) ys
     → (xs ≡ ys ↔ ((n : ℕ) (r : Record) → (HasRecord s cpu n r ↔ HasRecord o cpu n r)))

@@ -1,4 +1,4 @@
--- How a number stands.
+-- The state of a number.
 use Rattle.std.proofs.Common.{◌≡◌, ◌⊎◌, ℕ, ◌<◌, ◌≤◌, Bool, true, false, List, ⊎_elim, inl, inr, refl, sym, ◌∙◌, Option}
 use Rattle.std.proofs.Common.{Some, None, IfNone, arith}
 use Rattle.std.proofs.lemmas.Bool.{false≢true, cases_lt}

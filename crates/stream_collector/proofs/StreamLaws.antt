@@ -72,7 +72,7 @@ one_raised old new cpu bound up raised = record { rise = rise; ends = ends; kept
         (λ (apart : c ≡ cpu → ⊥). ap (λ (m : Marks). m.end) (raised.others c apart))
         (cases_eq c cpu)
 
--- the same was given up
+-- equal parcels of given up numbers give up the same
 pub given_same : (old new : Stream) → new.given_up ≡ old.given_up → IsGivenUpSame old new
 given_same old new same c n from = (
   λ m. subst (λ (ps : List Parcel). Misses ps c n) (sym same) m,

@@ -21,7 +21,7 @@ pub record IsKnownSame (stream other : Stream) (cpu : ℕ) : Type 0 where
   pub records : (number : ℕ) (r : Record) → (HasRecord stream cpu number r ↔ HasRecord other cpu number r)
   pub missing : (number : ℕ) → (IsMissing stream cpu number ↔ IsMissing other cpu number)
 
--- the same numbers of the CPU are undelivered
+-- both have the same undelivered numbers of the CPU
 abbrev pub IsUndeliveredSame : Stream → Stream → (cpu : ℕ) → Type 0
 IsUndeliveredSame stream other cpu = (number : ℕ) → (IsUndelivered stream cpu number ↔ IsUndelivered other cpu number)
 

@@ -1,4 +1,4 @@
--- What is known of one stream, and how each number of a CPU stands.
+-- What is known of one stream, and the state of each number of a CPU.
 use Rattle.std.specs.Prelude.{◌≡◌, ℕ, ◌<◌, ◌≤◌, ◌⊎◌, List, Option, Some}
 use Rattle.trace_model.specs.Record.{Record}
 use Rattle.trace_model.specs.Parcel.{Parcel}
@@ -27,7 +27,7 @@ end_of stream cpu = (marks_at stream.marks cpu).end
 abbrev pub IsUpToEnd : Stream → (cpu bound : ℕ) → Type 0
 IsUpToEnd stream cpu bound = (end : ℕ) → end_of stream cpu ≡ Some end → bound ≤ end
 
--- ---- how a number stands
+-- ---- the state of a number
 
 -- it isn't below the bound of its CPU, and has this record
 pub record HasRecord (stream : Stream) (cpu number : ℕ) (r : Record) : Type 0 where

@@ -19,7 +19,7 @@ impl StreamCollector {
 
     /// What is below this bound of a CPU was forgotten, as the mark of a snapshot says: the CPU's bound is raised to
     /// it, if it is higher, and the parcels that end below are dropped. Whoever wrote the mark has seen to it that
-    /// nothing below it is still to come. The kept parcels are shared anew, so it takes time in proportion to all of
+    /// nothing below it is still to come. The kept parcels are shared again, so it takes time in proportion to all of
     /// them: raise bounds by many records at a time.
     pub fn forgotten(&mut self, cpu: CpuId, bound: RecordNo) -> Result<Marked, MarkFault>
         requires { cpu.0 < MAX_CPUS }
@@ -43,8 +43,9 @@ impl StreamCollector {
         }
     }
 
-    /// The same, if all numbers of the CPU from its bound up to this one are accounted for: if each has a record or is
-    /// missing, or was given up. Just the bounds up to the watermark are taken, and none of those is above the end.
+    /// Forgets what is below this bound of a CPU, if all numbers from the CPU's bound up to it are accounted for: each
+    /// has a record, is missing or was given up. Exactly the bounds up to the watermark are taken; none of those is
+    /// above the end.
     pub fn forget(&mut self, cpu: CpuId, bound: RecordNo) -> Result<Marked, MarkFault>
         requires { cpu.0 < MAX_CPUS }
         ensures known { (result ≡ Ok KnownMark) ↔ (bound.0 ≤ bound_of self.old cpu.0) }

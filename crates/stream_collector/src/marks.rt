@@ -37,7 +37,7 @@ impl CpuMarks {
         }
     }
 
-    /// The same marks once more.
+    /// A copy of the marks.
     pub(crate) fn copied(&self) -> Result<CpuMarks, NoMemory>
         ensures { IfOk result (λ copy. copy.cpus.entries ≡ self.now.cpus.entries) }
     {

@@ -114,7 +114,7 @@ impl StreamCollector {
         true
     }
 
-    /// The same for one CPU.
+    /// Whether the same is known of one CPU, from its bounds on.
     fn known_same_on(&self, other: &StreamCollector, cpu: CpuId) -> bool
         ensures { IsTrue result ↔ IsKnownSame self.now other.now cpu.0 }
     {
@@ -149,7 +149,7 @@ impl StreamCollector {
         true
     }
 
-    /// The same for one CPU.
+    /// Whether both have the same undelivered numbers of one CPU.
     fn undelivered_same_on(&self, other: &StreamCollector, cpu: CpuId) -> bool
         ensures { IsTrue result ↔ IsUndeliveredSame self.now other.now cpu.0 }
     {

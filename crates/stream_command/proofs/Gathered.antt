@@ -1,4 +1,4 @@
--- What pieces that are added one after the other tell, and what is kept of them.
+-- What pieces that are added one after the other state, and what is kept of them.
 use Rattle.std.proofs.Common.{◌≡◌, ℕ, Bool, List, [], ◌∷◌, ◌++◌, append_assoc, append-nil, Option, sym, subst}
 use Rattle.std.proofs.lemmas.List.{map-append}
 use Rattle.parcel_streams.specs.Pieces.{Packed, bytes_of_pieces}
@@ -18,7 +18,7 @@ use Rattle.text_buffer.specs.Putting.{HasPut}
 use Rattle.stream_command.specs.Reading.{Placed, TakesAll}
 use Rattle.stream_command.specs.Gathering.{AreAdded, none_added, one_more, kept_of, Gathers, HasGathered, pieces_in}
 
--- ---- what they tell
+-- ---- what they state
 
 stays_known : (old new : List (ℕ × Stream)) (piece : Piece) → AddsPiece old new piece Known → new ≡ old
 stays_known old new (ParcelPiece stream parcel) a = a.unchanged

@@ -73,7 +73,7 @@ module _ {R : Type 0} (remaining : R → Option (List ℕ)) (has_failed : R → 
     pub end : IsAtEnd left
     pub sound : has_failed (source_of new) ≡ false
 
-  -- these are all of the inputs, before which there are so many others
+  -- these are all of the inputs, the first of which has this index
   abbrev pub AreWhole : (input : ℕ) (old new : List (PieceReader R)) → List Placed → Type 0
   AreWhole input [] [] pieces = pieces ≡ []
   AreWhole input (old ∷ olds) (new ∷ news) pieces =

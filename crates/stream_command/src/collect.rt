@@ -27,7 +27,7 @@ fn tell_memory<W: Sink>(writer: &mut W) -> Ending
     write_text(writer, &MEMORY_LINE, Ending::NoMemory, Ending::NotWritten)
 }
 
-/// Reports why an input isn't read to its end, behind what was put.
+/// Reports why an input isn't read to its end, after what was put.
 fn tell_stop<W: Sink>(buffer: TextBuffer, writer: &mut W, stopped: Stopped) -> Ending
     requires { has_failed buffer ≡ W.failed writer.old }
     ensures { (start : Option (List ℕ)) (text : List ℕ)
@@ -57,7 +57,7 @@ fn tell_stop<W: Sink>(buffer: TextBuffer, writer: &mut W, stopped: Stopped) -> E
     }
 }
 
-/// Lists what a fleet has, behind nothing.
+/// Lists what a fleet has. Nothing was put before.
 fn list_fleet<W: Sink>(
     alloc: Global,
     form: Form,

@@ -7,11 +7,11 @@ use command_io::{DONE, END_FAILED, NO_MEMORY, REFUSED};
 pub enum Ending {
     /// All is printed.
     Done,
-    /// An input has a fault, or a piece of it is refused, and a line says so: the input before which there are so many.
+    /// The input of this index has a fault, or a piece of it is refused, and a line says so.
     Malformed(usize),
     /// Memory was refused, and a line says so.
     NoMemory,
-    /// A read of this input failed, before which there are so many.
+    /// A read of the input of this index failed.
     NotRead(usize),
     /// A write failed.
     NotWritten,

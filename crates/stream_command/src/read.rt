@@ -50,7 +50,7 @@ pub(crate) trait TakesPieces<W> {
 pub(crate) enum Stop {
     /// A read of it failed.
     Read,
-    /// Nothing is made of the next piece. Before it are so many pieces and bytes of the input.
+    /// Nothing is made of the next piece. `index` pieces and `at` bytes of the input are before it.
     Piece {
         index: u64,
         at: u64,
@@ -58,7 +58,7 @@ pub(crate) enum Stop {
     },
 }
 
-/// Which input isn't read to its end, and why: before it are so many others.
+/// The index of the input that isn't read to its end, and why.
 #[derive(Clone, Copy, Debug, PartialEq, Eq)]
 pub(crate) struct Stopped {
     pub(crate) input: usize,
@@ -75,8 +75,7 @@ fn origin_of(piece: &Piece) -> (StreamId, CpuId)
     }
 }
 
-/// Reads an input to its end, and has its pieces taken. So many other inputs are before it. After a fault nothing more
-/// is read.
+/// Reads an input to its end, and has its pieces taken. `input` is its index. After a fault nothing more is read.
 fn read_input<R: Source, W, T: TakesPieces<W>>(
     alloc: Global,
     input: usize,

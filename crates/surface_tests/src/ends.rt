@@ -150,7 +150,7 @@ fn a_closed_page_is_taken(rt: HostRuntime) -> Result<(), Fail> {
     Ok(())
 }
 
-/// Both ends are joined with records unread, amid another one.
+/// Both ends are joined with records unread, while another one is being written.
 #[test]
 fn two_ends_stop_at_any_moment(rt: HostRuntime) -> Result<(), Fail> {
     let body = Body::new(rt.alloc(), 32)?;

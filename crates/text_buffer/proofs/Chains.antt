@@ -15,7 +15,7 @@ put_more all xs ys b0 b1 b2 c0 c1 c2 f0 f1 f2 is first second = λ start text ha
     subst (λ (t : List ℕ). HasPut start c2 f2 t b2) (append_assoc text xs ys ∙ ap (λ (t : List ℕ). text ++ t) (sym is))
     (second start (text ++ xs) (first start text has))
 
--- a text is put, and then a second one behind it
+-- a text is put, and then a second one after it
 pub put_then : (first second : List ℕ) {b0 b1 b2 : TextBuffer} {c0 c1 c2 : Option (List ℕ)} {f0 f1 f2 : Bool}
     → Puts first b0 c0 f0 b1 c1 f1 → Puts second b1 c1 f1 b2 c2 f2 → Puts (first ++ second) b0 c0 f0 b2 c2 f2
 put_then first second {b0} {b1} {b2} {c0} {c1} {c2} {f0} {f1} {f2} is_first is_second =

@@ -20,7 +20,7 @@ pub record HasPut (start contents : Option (List ℕ)) (failed : Bool) (text : L
   pub going_on : failed ≡ false → (sent : List ℕ) × (text ≡ sent ++ waiting buffer) × Appends start contents sent
   pub cut_off : failed ≡ true → AppendsPrefix start contents text
 
--- These bytes were put behind whatever was put before. Before, the buffer was `old`, and the writer had `contents`, and
+-- These bytes were put after whatever was put before. Before, the buffer was `old`, and the writer had `contents`, and
 -- had failed or not; now they are the three that follow.
 abbrev pub Puts : List ℕ → (old : TextBuffer) (contents : Option (List ℕ)) (failed : Bool)
     → (new : TextBuffer) (contents_now : Option (List ℕ)) (failed_now : Bool) → Type 0

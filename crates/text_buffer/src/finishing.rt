@@ -20,7 +20,7 @@ pub fn finish<W: Sink, E: Copy>(buffer: TextBuffer, writer: &mut W, wanted: E, n
     }
 }
 
-/// Reports that memory was refused, behind what was put. The answer is `no_memory`, or `not_written` if a write failed.
+/// Reports that memory was refused, after what was put. The answer is `no_memory`, or `not_written` if a write failed.
 pub fn finish_memory<W: Sink, E: Copy>(
     buffer: TextBuffer,
     writer: &mut W,

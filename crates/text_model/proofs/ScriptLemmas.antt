@@ -291,7 +291,7 @@ pub script_from_settings : (end : ℕ) (lines : List NumberedLine)
 unfolding script_from
 script_from_settings end lines = refl
 
--- as many lines as settings
+-- there are as many lines as settings
 header_length : (header : List NumberedLine) (settings : List Setting) (values : List ℕ)
     → GiveSettings header settings values → length header ≡ length settings
 header_length [] [] [] h = refl

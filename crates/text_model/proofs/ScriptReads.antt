@@ -95,7 +95,7 @@ one_by_one (Ok v) (Ok w) (Err e) u lines = refl
 one_by_one (Ok v) (Ok w) (Ok x) (Err e) lines = refl
 one_by_one (Ok v) (Ok w) (Ok x) (Ok y) lines = refl
 
--- the same by parts
+-- the script in a text, read line by line
 abbrev pub by_lines : List ℕ → Read Script
 by_lines text = script_from (end_line_after 0 text) (significant_lines_after 0 text)
 

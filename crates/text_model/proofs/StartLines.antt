@@ -81,7 +81,7 @@ commands_begin_no_start cpus collectors (line ∷ lines) (command ∷ commands) 
     command_is_no_start cpus collectors line.1 command.1 h.0
 commands_begin_no_start cpus collectors (line ∷ lines) [] h = absurd h
 
--- the same, with more lines after them
+-- no start line is first, with more lines after these
 pub begins_no_start_before : (front : List NumberedLine) (line : NumberedLine) (behind : List NumberedLine)
     → BeginsNoStart front → (length front ≡ 0 → is_start_line line.1 ≡ false) → BeginsNoStart (front ++ line ∷ behind)
 begins_no_start_before [] line behind h first = first refl

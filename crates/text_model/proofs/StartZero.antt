@@ -45,7 +45,7 @@ value_then_in_front_of line (Ok value) (Ok x) rest = refl
 value_then_in_front_of line (Ok value) (Err e) rest = refl
 value_then_in_front_of line (Err fault) others rest = refl
 
--- as many lines as settings decide what is read, and the number of the last line isn't looked at
+-- what is read is decided by as many lines as there are settings, and the number of the last line isn't looked at
 settings_of_front : (end : ℕ) (settings : List Setting) (header rest : List NumberedLine)
     → length header ≡ length settings
     → settings_from end settings (header ++ rest) ≡ (settings_from 0 settings header >>= in_front_of rest)

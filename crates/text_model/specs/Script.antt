@@ -85,7 +85,7 @@ SpellsSteps cpus word cpu count fields =
     × (cpu_in cpus x ≡ Ok cpu)
     × (count_in k ≡ Ok count)
 
--- The same by the commands: what fields spell each.
+-- Fields that spell a command: what they are for each kind of command.
 abbrev pub SpellsCommand : ℕ → ℕ → Command → List (List ℕ) → Type 0
 SpellsCommand cpus collectors (begin_frame cpu moment payload) fields =
     SpellsRecord cpus (codes "b") cpu moment payload fields

@@ -224,7 +224,7 @@ pub fn put_payload(out: &mut Vec<u8>, payload: &[u8]) -> Result<(), NoMemory>
     drop_if_refused(out, start, put)
 }
 
-/// The answer of a call that put text behind the first `start` bytes of `out`. If memory was refused, what was put is
+/// The answer of a call that put text after the first `start` bytes of `out`. If memory was refused, what was put is
 /// dropped.
 pub fn drop_if_refused<T>(
     out: &mut Vec<u8>,

@@ -76,7 +76,7 @@ module _ {Gate : Type 0} (answers : Gate → Who → (cpu fill : ℕ) → Bool �
     passed = λ were. passed_more found now next is last (on.passed were);
   }
 
--- what is known of the pages that are passed on to a gate behind something is known of that gate
+-- what is known of the pages that are passed on to a gate within something is known of that gate
 pub gate_behind : {Gate Other : Type 0} (answers : Gate → Who → (cpu fill : ℕ) → Bool → Type 0) (behind : Other → Gate)
     (passing : Other) (cpu : ℕ) (before : ReaderEndValue) (result : Result ReaderEndValue Stop)
     → HasTaken (λ p. answers (behind p)) passing cpu before result

@@ -2,6 +2,6 @@
 use Rattle.trace_dat.specs.Contents.{EventFormat}
 use Rattle.host_files.specs.declared.formats.FormatText.{FormatText}
 
--- a format that was read, without where it lies in memory
+-- a format that was read, without its place in memory
 abbrev pub format_read : FormatText → EventFormat
 format_read format = record { system = format.system.items; text = format.text.items }

@@ -85,7 +85,7 @@ fn list<'b>(rt: &HostRuntime, asked: &CollectCall<'b>) -> Result<u8, Trial<'b>>
         return Ok(refuse(rt, sentence));
     }
     let is_watched = rt.stderr().is_terminal();
-    // What a terminal shows of the output tells how far it is.
+    // What a terminal shows of the output says how far it is.
     let is_unseen = is_watched && !rt.stdout().is_terminal();
     let inputs = open_inputs(rt, &asked.files, is_watched)?;
     let is_for_streams = asked.keep.is_some() || asked.parcels;

@@ -93,7 +93,7 @@ pub(crate) fn open_inputs<'a, 'b>(
     Ok(inputs)
 }
 
-/// The name of the input before which there are so many.
+/// The name of the input of this index.
 pub(crate) fn name_of<'b>(files: &[CpuFile<'b>], input: usize) -> &'b str {
     match files.get(input) {
         Some(file) => file.path,
@@ -101,7 +101,7 @@ pub(crate) fn name_of<'b>(files: &[CpuFile<'b>], input: usize) -> &'b str {
     }
 }
 
-/// Standard output, which tells how far it is if that is wanted.
+/// Standard output, which reports how far it is if that is wanted.
 pub(crate) fn open_output(
     rt: &HostRuntime,
     is_watched: bool,

@@ -1,4 +1,4 @@
-//! The program `tracering`: replays scripts of writers, readers and collectors of a trace ring, tells their steps, runs
+//! The program `tracering`: replays scripts of writers, readers and collectors of a trace ring, lists their steps, runs
 //! them by threads, prints page images, and lists what a kernel wrote, streams of parcels say, or rings left in files.
 #![tactic(auto)]
 

@@ -42,7 +42,7 @@ fn form_of(asked: &RecoverCall<'_>) -> Form
     if asked.json { Form::Json } else { Form::Text }
 }
 
-/// Says on standard error that there is something with the input before which there are so many.
+/// Says on standard error that there is something with the input of this index.
 fn tell_file(rt: &HostRuntime, files: &[&str], trouble: Trouble, input: usize) {
     let name = match files.get(input) {
         Some(file) => *file,
@@ -118,7 +118,7 @@ fn list_files<'b>(rt: &HostRuntime, asked: &RecoverCall<'b>) -> Result<u8, Trial
     }
     let is_watched = rt.stderr().is_terminal();
     let readers = open_regions(rt, &asked.files, is_watched)?;
-    // What a terminal shows of the output tells how far it is.
+    // What a terminal shows of the output says how far it is.
     let is_unseen = is_watched && !rt.stdout().is_terminal();
     let outcome = list(rt, asked, readers, is_unseen)?;
     if let (Some(name), false) = (asked.keep, outcome.is_kept) {

@@ -25,7 +25,7 @@ list_fails before errors.NoMemory first others h = tt
 list_fails before (errors.Fault f) (Ok x) others h = absurd cc
 list_fails before (errors.Fault f) (Err d) others h = h
 
--- what is left, where the next thing is known
+-- what is left, if the next thing is known
 next_known : {X Y A : Type 0} (see : X → Y) (of : Y → Reading (List A)) (xs : List X) (i : ℕ) (x : X)
     → i < length xs → x ≡ get_or xs i x
     → each_of of (map see (drop i xs)) ≡ (of (see x) >>= then_others (each_of of (map see (drop (i + 1) xs))))

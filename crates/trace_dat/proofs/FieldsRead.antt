@@ -32,12 +32,12 @@ same_part a b p q =
     let two : record { at = b.at; bytes = a.bytes } ≡ b = ap (λ bs. record { at = b.at; bytes = bs }) q in
     one ∙ two
 
--- a part begins with these bytes, and this is the part behind them
+-- a part begins with these bytes, and this is the part after them
 pub record Begins (part : FilePart) (bytes : List ℕ) (rest : FilePart) : Type 0 where
   pub whole : part.bytes ≡ bytes ++ rest.bytes
   pub after : rest.at ≡ part.at + length bytes
 
--- the first of two pieces, and the second behind it
+-- the first of two pieces, and the second after it
 pub Begins-split : (part : FilePart) (x y : List ℕ) (rest : FilePart) → Begins part (x ++ y) rest
     → (mid : FilePart) × Begins part x mid × Begins mid y rest
 Begins-split part x y rest p = (

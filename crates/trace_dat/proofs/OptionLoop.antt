@@ -17,7 +17,7 @@ IsReadTo before part total =
 abbrev rest_of : ℕ → Option FileOption × FilePart → Reading (List FileOption × FilePart)
 rest_of count first = option_then first.0 (options_among count first.1) first.1
 
--- what is read, where the first option is known
+-- what is read, if the first option is known
 from_first : (before : List FileOption) (count less : ℕ) (part : FilePart) → count ≡ suc less
     → with_front before (options_among count part) ≡ with_front before (option_at part >>= rest_of less)
 unfolding options_among

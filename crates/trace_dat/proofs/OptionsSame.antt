@@ -17,7 +17,7 @@ use Rattle.trace_dat.proofs.Spelled.{bind_ok, guard_ok}
 use Rattle.trace_dat.proofs.SpelledFile.{chosen}
 use Rattle.trace_dat.proofs.FieldsRead.{step}
 
--- Where two parts have the same bytes, the field gives the same value, and the parts behind it have the same bytes.
+-- If two parts have the same bytes, the field gives the same value, and the parts after it have the same bytes.
 abbrev pub IsSame : {A : Type 0} → (FilePart → Reading (A × FilePart)) → Type 0
 IsSame {A} field =
     (p q : FilePart) (x : A) (rest : FilePart) → p.bytes ≡ q.bytes → field p ≡ Ok (x, rest)
@@ -91,7 +91,7 @@ if_same id other k x y z t found same then otherwise e =
       | inr isnt ↦ rw (test, isnt.0) (otherwise isnt.1)
     ]
 
--- the same options, wherever they are
+-- the options are equal, wherever they are
 abbrev pub AreSame : List FileOption → List FileOption → Type 0
 AreSame [] [] = Unit {0}
 AreSame [] (y ∷ ys) = ⊥

@@ -54,7 +54,7 @@ section_reads file offset id body s =
 
 -- ---- the chain
 
--- the place of a pointer: the least offset that it may have, where it is, and its bytes
+-- the place of a pointer: the least offset that it may have, its offset, and its bytes
 abbrev place_of : ℕ → ℕ → List ℕ → Place
 place_of least at bytes = record { least = least; pointer = record { at = at; bytes = bytes } }
 
@@ -85,7 +85,7 @@ linked_reads file offset options next h =
       ),
     )
 
--- the part behind a pointer
+-- the part after a pointer
 abbrev behind_pointer : ℕ → ℕ → List ℕ → FilePart
 behind_pointer at n rest = record { at = at + length (to_le_bytes w64 n); bytes = rest }
 

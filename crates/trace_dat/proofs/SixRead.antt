@@ -27,7 +27,7 @@ use Rattle.trace_dat.proofs.OptionsSame.{AreSame, instances_same, counters_same}
 
 -- ---- options
 
--- this option, where its body begins at this offset
+-- this option, if its body begins at this offset
 abbrev option_from : ℕ → FileOption → FileOption
 option_from at option = record { id = option.id; body = record { at = at; bytes = option.body.bytes } }
 

@@ -24,7 +24,7 @@ use Rattle.trace_dat.proofs.SpelledSections.{SpellsLink, SpellsChain, link_takes
 
 -- ---- the chain
 
--- the sections after a pointer, where the first of them is known
+-- the sections after a pointer, if the first of them is known
 chain_next : (file : List ℕ) (count : ℕ) (place : Place) (first others : List FileOption) (next : Option Place)
     → SpellsLink file place first next
     → ((later : Place) → IsBytes later.pointer.bytes → options_of_chain file count later ≡ Ok others

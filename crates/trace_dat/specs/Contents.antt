@@ -27,7 +27,7 @@ pub record Contents : Type 0 where
   pub buffers : List TraceBuffer
   pub counters : List (List ℕ)
 
--- the same without where it lies in memory
+-- a format without its place in memory
 abbrev pub format_seen : Format → EventFormat
 format_seen format = record { system = format.system.now; text = format.text.now }
 

@@ -12,7 +12,7 @@ pub record FileOption : Type 0 where
   pub id : ℕ
   pub body : FilePart
 
--- an option without where it lies in memory
+-- an option without its place in memory
 abbrev pub option_seen : Entry → FileOption
 option_seen entry = record { id = entry.id; body = seen entry.body }
 

@@ -42,7 +42,7 @@ behind len part = record { at = part.at + len; bytes = drop len part.bytes }
 abbrev pub front : ℕ → FilePart → FilePart
 front len part = record { at = part.at; bytes = take len part.bytes }
 
--- as many bytes, as a part of their own
+-- this number of bytes at the front of a part, as a part of their own, and the rest
 unfoldable pub part_at : ℕ → FilePart → Reading (FilePart × FilePart)
 part_at len part = if nat_lt (length part.bytes) len then fault_at Cut part else Ok (front len part, behind len part)
 
@@ -87,7 +87,7 @@ range_at file part = do
   if nat_lt (length from.0.bytes) size.0 then fault_at OutsideFile part
       else Ok (take size.0 from.0.bytes, size.1)
 
--- This count of fields, one after the other, of which each gives a list, joined. The field is told its index.
+-- This count of fields, one after the other, of which each gives a list, joined. The field is given its index.
 unfoldable pub all_at : {A : Type 0} → (ℕ → FilePart → Reading (List A × FilePart)) → ℕ → ℕ → FilePart
     → Reading (List A × FilePart)
 all_at field index zero part = Ok ([], part)

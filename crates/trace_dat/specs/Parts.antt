@@ -7,6 +7,6 @@ pub record FilePart : Type 0 where
   pub at : ℕ
   pub bytes : List ℕ
 
--- a part without where it lies in memory
+-- a part without its place in memory
 abbrev pub seen : Part → FilePart
 seen part = record { at = part.at; bytes = part.bytes.now }

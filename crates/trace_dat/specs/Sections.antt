@@ -31,7 +31,7 @@ pub record Place : Type 0 where
   pub least : ℕ
   pub pointer : FilePart
 
--- a place without where it lies in memory
+-- a place without its address in memory
 abbrev pub place_seen : Next → Place
 place_seen next = record { least = next.least; pointer = seen next.pointer }
 

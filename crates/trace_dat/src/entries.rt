@@ -12,7 +12,7 @@ use crate::part::Part;
 pub const DONE: u16 = 0;
 /// The option that holds the counters of a CPU's ring.
 pub const COUNTERS: u16 = 2;
-/// The option that tells of a trace buffer.
+/// The option that describes a trace buffer.
 pub const BUFFER: u16 = 3;
 /// The option that points to the formats of the ring's own events, and the section that holds them.
 pub const RING_FORMATS: u16 = 17;

@@ -22,7 +22,7 @@ pub enum Cause {
     Misplaced,
     /// The bytes that are named here aren't in the file.
     OutsideFile,
-    /// The next section of options is named here, and lies no later in the file than this one.
+    /// The next section of options is named here, and is not later in the file than this one.
     Backward,
 }
 

@@ -15,7 +15,7 @@ at_position (suc h) n p below = let (f, low, high, at) = at_position h n p below
     dite (ℕ_discrete f h) (λ e. (f + n, omega arith, omega arith, add-mod_right f n ∙ at))
     (λ e. (f, omega arith, omega arith, at))
 
--- the same fill, one turn earlier where it is the last of the row
+-- the fill at the position of a fill, one turn earlier if that is the last of the row
 earlier : (h n f : ℕ) → suc h ≤ f → f < suc h + n
     → (g : ℕ) × (h ≤ g) × (g < h + n) × (g % n ≡ f % n) × ((f ≡ h + n) → g ≡ h) × ((f ≢ h + n) → g ≡ f)
 earlier h n f low high = dite (ℕ_discrete f (h + n))

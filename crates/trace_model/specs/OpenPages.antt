@@ -15,7 +15,7 @@ pub record IsOf (r : Record) (s : Reservation) : Type 0 where
   pub fills_slot : length r.bytes ≡ s.len
   pub bytes_are : IfSome s.bytes (λ bytes. r.bytes ≡ bytes)
 
--- the same of whole lists, one by one
+-- records are those of reservations, one by one
 abbrev pub AreOf : List Record → List Reservation → Type 0
 AreOf [] [] = Unit {0}
 AreOf [] (s ∷ reservations) = ⊥

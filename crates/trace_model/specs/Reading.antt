@@ -17,7 +17,8 @@ from_le32 bytes = from_le_bytes w32 bytes
 abbrev pub part_of : {X : Type 0} → ℕ → List ℕ → (List ℕ → X) → Option (X × List ℕ)
 part_of n bytes make = if nat_lt (length bytes) n then None else Some (make (take n bytes), drop n bytes)
 
--- the same for bytes with a length of four bytes first, which counts itself
+-- what is made of the bytes after a length of four bytes, which counts itself, up to that length, and the bytes after
+-- them
 abbrev pub part_with_length : {X : Type 0} → List ℕ → (List ℕ → X) → Option (X × List ℕ)
 part_with_length bytes make =
     if nat_lt (length bytes) 4 then None

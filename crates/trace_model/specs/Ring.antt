@@ -26,7 +26,7 @@ pub record HasRingLimits (pages size : ℕ) : Type 0 where
 abbrev pub link_into : ℕ → List Link → ℕ → Link
 link_into n links f = slice_index_or links (f % n) (normal_link 0 0)
 
--- the same links, with this one into the position of fill f
+-- links with this one into the position of fill f
 abbrev pub links_with : ℕ → List Link → ℕ → Link → List Link
 links_with n links f l = slice_set links (f % n) l
 

@@ -57,7 +57,7 @@ commands_push bytes more index start (l ∷ lines) line h end =
     (commands_push bytes more (suc index) l.end lines line h.2 end
     ∙ ap (λ (n : ℕ). commands_kept bytes (suc index) l.end lines ++ (n, shown more line) ∷ []) there)
 
--- the same of what the loop has
+-- the commands of the lines and one more, by what the loop has
 pub line_kept : (bytes after more : List ℕ) (lines all : List Kept) (line : Kept) (number : ℕ)
     → after ≡ bytes ++ more
     → all ≡ lines ++ line ∷ []
@@ -124,7 +124,7 @@ line_within from start len (l ∷ lines) (suc i) line h at =
     let rest = line_within (suc from) l.end len lines i line h.2 at in
     (rest.0, rest.1, omega (arith, rest.2))
 
--- ---- of two lists, one behind the other
+-- ---- of two lists, one after the other
 pub front_at : {X : Type 0} (front behind : List X) (i : ℕ) (x : X)
     → slice_get front i ≡ Some x
     → slice_get (front ++ behind) i ≡ Some x

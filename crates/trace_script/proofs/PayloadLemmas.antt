@@ -220,7 +220,7 @@ eight_and_rest (a ∷ b ∷ c ∷ d ∷ e ∷ f ∷ g ∷ []) some = absurd (ome
 eight_and_rest (a ∷ b ∷ c ∷ d ∷ e ∷ f ∷ g ∷ h ∷ left) some =
     ap (λ (bs : List ℕ). a ∷ b ∷ c ∷ d ∷ e ∷ f ∷ g ∷ h ∷ bs) (sym (take_rest (a ∷ b ∷ c ∷ d ∷ e ∷ f ∷ g ∷ h ∷ left) 8))
 
--- the same of the next bytes of a text
+-- one more pair of digits at the front of a text is put
 pub pair_turn : (text left old new after : List ℕ) (value : ℕ) → ArePut text left old new → 2 ≤ length left
     → value ≡ pair_value (get_or left 0 0) (get_or left 1 0) → value < 4096 → after ≡ new ++ value ∷ []
     → ArePut text (take (length left - 2) (drop 2 left)) old after

@@ -361,7 +361,7 @@ begins_as text end header behind start left rest commands settings first each so
       some = some;
     }
 
--- the same of the reader's lines, of which none is passed
+-- a text begins as a script, by the reader's lines, of which none is passed
 pub begins_there : (text : List ℕ) (end passed : ℕ) (rest : List ℕ) (header : Header) (behind : List NumberedLine)
     (start : ℕ) (left : List NumberedLine) → passed ≡ 0 → rest ≡ text
     → settings_from end model.header_settings (significant_lines_after passed rest) ≡ Ok (values_of header, behind)

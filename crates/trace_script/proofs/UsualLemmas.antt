@@ -99,7 +99,7 @@ begins_with cpus collectors text rest command fields spells are =
       shorter = omega (arith, ap (λ (bs : List ℕ). length bs) are, length-append (line_of fields) (10 ∷ rest));
     }
 
--- the same of what was asked
+-- a text whose first line spells what was asked
 pub begins_asked : (cpus collectors : ℕ) (text rest bytes : List ℕ) (kind : Kind) (cpu value : ℕ) (order : Kept)
     (fields : List (List ℕ))
     → order ≡ record { kind = kind; cpu = cpu; above = 0; end = 0; value = value }

@@ -12,7 +12,7 @@ use Rattle.text_model.specs.Text.{bytes_of_pairs}
 abbrev pub high_value : ℕ → ℕ
 high_value byte = if is_digit byte 16 then 16 * digit_value byte else 4096
 
--- the same of the second digit
+-- the value of a byte as the second digit of a pair, and more than the sum of eight digits if it is none
 abbrev pub low_value : ℕ → ℕ
 low_value byte = if is_digit byte 16 then digit_value byte else 4096
 

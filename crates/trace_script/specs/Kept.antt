@@ -67,20 +67,21 @@ abbrev pub PutsPayload : Result (Unit {0}) LineFault → List ℕ → List ℕ �
 PutsPayload (Ok _) old new read = (payload : List ℕ) × (new ≡ old ++ payload) × (read ≡ Ok payload)
 PutsPayload (Err fault) old new read = Fails fault read
 
--- the same of a whole command
+-- what a function appended to these bytes, and its answer, are the reading of a whole command, or its fault
 abbrev pub PutsCommand : Result Kept LineFault → List ℕ → List ℕ → Result model.Command text.LineFault → Type 0
 PutsCommand (Ok order) old new read =
     (payload : List ℕ) × (new ≡ old ++ payload) × (read ≡ Ok (shown payload order))
 PutsCommand (Err fault) old new read = Fails fault read
 
--- the same, with the number of the line
+-- what a function appended to these bytes, and its answer, are the reading of a command, or its fault with its line
 abbrev pub PutsCommandAt : Result Kept ScriptFault → List ℕ → List ℕ
     → Result model.Command (ℕ × text.LineFault) → Type 0
 PutsCommandAt (Ok order) old new read =
     (payload : List ℕ) × (new ≡ old ++ payload) × (read ≡ Ok (shown payload order))
 PutsCommandAt (Err fault) old new read = FailsAtLine fault read
 
--- the same of the first of these lines, if there is one, with its number and the lines after it
+-- What a function appended to these bytes, and its answer, are the reading of the first of these lines, if there is
+-- one, with its number and the lines after it; or its fault.
 abbrev pub PutsNext : ℕ → ℕ → Result (Option Kept) ScriptFault → List ℕ → List ℕ
     → List NumberedLine → ℕ → List NumberedLine → Type 0
 PutsNext cpus collectors (Ok None) old new lines number behind = (lines ≡ []) × (new ≡ old)

@@ -13,14 +13,15 @@ pub record IsNumberCut (text : List ℕ) (end : ℕ) (cut : NumberCut) : Type 0 
   pub are : text ≡ digits ++ end ∷ cut.rest.now
   pub spells : decimal_in digits ≡ Ok cut.number
 
--- the same of a field that names one of these CPUs, and the space after it
+-- the text begins with a field that names one of these CPUs; a space follows it, then the rest
 pub record IsCpuCut (cpus : ℕ) (text : List ℕ) (cut : NumberCut) : Type 0 where
   pub field : List ℕ
   pub are : text ≡ field ++ 32 ∷ cut.rest.now
   pub spells : cpu_in cpus field ≡ Ok cut.number
   pub small : cut.number < cpus
 
--- the same of a field that spells a payload, and the line feed after it; the payload's bytes were appended to old
+-- The text begins with a field that spells a payload; a line feed follows it, then the rest. The payload's bytes were
+-- appended to old.
 pub record IsPayloadCut (text rest old new : List ℕ) : Type 0 where
   pub field : List ℕ
   pub payload : List ℕ
@@ -36,7 +37,7 @@ pub record BeginsWith (cpus collectors : ℕ) (text rest : List ℕ) (command : 
   pub spells : command_in cpus collectors line ≡ Ok command
   pub shorter : length rest < length text
 
--- the same of the text after the name of a CPU and a space, whatever the name
+-- with the name of this CPU and a space before it, whatever the name, the text's first line spells this command
 abbrev pub BeginsBehindCpu : ℕ → ℕ → ℕ → (text rest : List ℕ) → Command → Type 0
 BeginsBehindCpu cpus collectors cpu text rest command = (field : List ℕ) → cpu_in cpus field ≡ Ok cpu
     → BeginsWith cpus collectors (field ++ 32 ∷ text) rest command
@@ -47,7 +48,7 @@ IsUsual cpus collectors text old new line = (payload : List ℕ)
     × (new ≡ old ++ payload)
     × BeginsWith cpus collectors text line.rest.now (shown payload line.order)
 
--- the same after the name of a CPU and a space
+-- what follows the name of a CPU and a space was read with its payload, which was appended to old
 abbrev pub IsUsualBehindCpu : ℕ → ℕ → ℕ → (text old new : List ℕ) → UsualLine → Type 0
 IsUsualBehindCpu cpus collectors cpu text old new line = (payload : List ℕ)
     × (new ≡ old ++ payload)

@@ -90,7 +90,7 @@ pub(crate) fn narrowed(line: Wide) -> Option<Narrow>
     })
 }
 
-/// The same command in wide numbers.
+/// A kept command in wide numbers.
 #[inline(always)]
 pub(crate) fn widened(line: Narrow) -> Wide
     ensures { result ≡ line }

@@ -71,7 +71,7 @@ impl KeptLines {
         self.wide[index - self.narrow.len()]
     }
 
-    /// Where the bytes of the command at this index begin: where those of the command before end.
+    /// The offset of the first byte of the command at this index, at which the bytes of the one before end.
     pub(crate) fn start(&self, index: usize) -> usize
         requires { index < length self.now }
         ensures { result ≡ start_of 0 self.now index }

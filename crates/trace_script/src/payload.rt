@@ -103,7 +103,7 @@ fn put_many<'a>(payloads: &mut Vec<u8>, text: &'a [u8]) -> &'a [u8]
     left
 }
 
-/// The same, eight at a time.
+/// Appends the bytes of the pairs of digits at a text's beginning, eight at a time, and returns the rest of the text.
 #[inline(always)]
 fn put_eights<'a>(payloads: &mut Vec<u8>, text: &'a [u8]) -> &'a [u8]
     ensures { ArePut text.now result.now payloads.old.items payloads.new.items }
@@ -143,7 +143,7 @@ fn put_eights<'a>(payloads: &mut Vec<u8>, text: &'a [u8]) -> &'a [u8]
     left
 }
 
-/// The same, four at a time.
+/// Appends the bytes of the pairs of digits at a text's beginning, four at a time, and returns the rest of the text.
 #[inline(always)]
 fn put_fours<'a>(payloads: &mut Vec<u8>, text: &'a [u8]) -> &'a [u8]
     ensures { ArePut text.now result.now payloads.old.items payloads.new.items }
@@ -172,7 +172,8 @@ fn put_fours<'a>(payloads: &mut Vec<u8>, text: &'a [u8]) -> &'a [u8]
     left
 }
 
-/// The same, one by one, up to what is no pair, or until memory is refused.
+/// Appends the bytes of the pairs of digits at a text's beginning, one by one, up to what is no pair or until memory
+/// is refused.
 #[inline(always)]
 fn put_each<'a>(payloads: &mut Vec<u8>, text: &'a [u8]) -> Result<&'a [u8], NoMemory>
     ensures { PutsPairs result text.now payloads.old.items payloads.new.items }

@@ -55,7 +55,7 @@ fn next_of_any_form(
     Ok(Some(order))
 }
 
-/// The same, by a shorter way for a line of a usual form, which nearly all lines have.
+/// The order of the next line, if there is one, by a shorter way for a line of a usual form, which nearly all have.
 #[inline(always)]
 fn next_order(
     cpus: u32,

@@ -84,7 +84,7 @@ fn steps_line(word: u8, cpu: CpuId, text: &[u8]) -> Option<UsualLine<'_>>
     })
 }
 
-/// The same from what follows `cX b ` or `cX w `.
+/// The line's order and the text after it, from what follows `cX b ` or `cX w `.
 #[inline(always)]
 fn record_line<'a>(
     word: u8,
@@ -105,7 +105,7 @@ fn record_line<'a>(
     })
 }
 
-/// The same from what follows `cX `.
+/// The line's order and the text after it, from what follows `cX `.
 #[inline(always)]
 fn line_of_cpu<'a>(cpu: CpuId, text: &'a [u8], payloads: &mut Vec<u8>) -> Option<UsualLine<'a>>
     requires { cpu.0 < 256 }

@@ -16,7 +16,7 @@ pub record IsUnadded (reader : ReaderValue) (unadded : Unadded) : Type 0 where
   pub taken_last : reader.empty_at ≡ None
 
 -- The CPU is one, and the reader is one, of a ring of limited size. Either there is a page that wasn't added, or the
--- body that the next take hands in has the ring's data size.
+-- body that the next take gives to the ring has the ring's data size.
 pub record IsHeldReader (end : HeldReader) : Type 0 where
   pub cpu : end.cpu.0 < MAX_CPUS
   pub reader : IsReader end.reader

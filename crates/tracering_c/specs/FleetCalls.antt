@@ -87,7 +87,7 @@ pub record IsListed (old : ListedFleet) (count : ℕ) (new : ListedFleet) : Type
   pub first : new.given ≡ 0
   pub fleet : new.fleet ≡ old.fleet
 
--- The same of what is before the cuts of the CPUs at a moment.
+-- What is before the cuts of the CPUs at a moment is listed: its lines are to be given, from the first on.
 pub record IsListedBefore (old : ListedFleet) (moment count : ℕ) (new : ListedFleet) : Type 0 where
   pub listing : IsListingBefore old.fleet moment (lines_of new.lines)
   pub count_is : count ≡ length new.lines
@@ -104,7 +104,7 @@ pub record HasForgottenSome (old : ListedFleet) (moment : ℕ) (new : ListedFlee
   pub streams : SomeForgottenBefore old.fleet new.fleet moment
   pub listing : new ≡ record old { fleet = new.fleet }
 
--- The fleet's frontier is told, or that there is none: all is complete.
+-- The fleet's frontier is answered, or that there is none: all is complete.
 pub record FrontierSo (listed : ListedFleet) (was : ℕ) (code : ℤ) (moment : ℕ) : Type 0 where
   pub answer : Option Moment
   pub frontier : IsFleetFrontier listed.fleet answer

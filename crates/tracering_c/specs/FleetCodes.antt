@@ -1,4 +1,4 @@
--- The numbers by which C is answered of fleets, and what is told beside them.
+-- The numbers by which C is answered of fleets, and what is stored beside them.
 use Rattle.std.specs.Prelude.{ℕ, ℤ, pos, negsuc, Option, Some, None, Result, Ok, Err}
 use Rattle.trace_model.specs.declared.numbers.Moment.{Moment}
 use Rattle.collector.specs.declared.fault.AddFault.TheVariants.{Clash, TakenAndMissing, NoMemory as NoMemoryToAdd}
@@ -64,7 +64,7 @@ parcel_number (ParcelRefused (Clash cpu number)) = Some number.0
 parcel_number (ParcelRefused (TakenAndMissing cpu number)) = Some number.0
 parcel_number (ParcelRefused NoMemoryToAdd) = None
 
--- the same of a mark, or of a bound that isn't raised
+-- the number of why a mark is refused, or a bound isn't raised
 abbrev pub mark_code : MarkFault → ℤ
 mark_code (OtherEnd number) = pos 42
 mark_code (BeyondEnd number) = pos 41
@@ -77,7 +77,7 @@ mark_number (BeyondEnd number) = Some number.0
 mark_number (NotFinal number) = Some number.0
 mark_number NoMemory = None
 
--- the same of a piece
+-- the number of why a piece is refused
 abbrev pub refusal_code : PieceRefusal → ℤ
 refusal_code (Parcel fault) = parcel_refusal_code fault
 refusal_code (Mark fault) = mark_code fault

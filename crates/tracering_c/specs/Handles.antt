@@ -1,4 +1,4 @@
--- What the calls of C make of what is behind a handle.
+-- What the calls of C make of what a handle holds.
 use Rattle.std.specs.Prelude.{◌≡◌, ℤ, pos, Option, Some, None, IfSome, IsSomeAnd}
 use Rattle.ring_shared.specs.Value.{WriterValue, SameWriter}
 use Rattle.ring_shared.specs.Calls.{IsWriter}

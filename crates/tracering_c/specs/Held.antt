@@ -28,7 +28,7 @@ heap = record { memory = record { seal = tt } }
 abbrev pub boxed : (R : RattleType) → Ptr → R.Denot → Fml
 boxed R p x = box_owns (ghosts.dealloc_token heap) R p x
 
--- The memory behind a handle: the box of what it holds, or nothing.
+-- The memory of a handle: the box of what it holds, or nothing.
 abbrev pub held : Ptr → Option End → Fml
 held p None = ftrue
 held p (Some (inl x)) = boxed writer.the_row p x

@@ -36,7 +36,7 @@ pub record PacksEnd (stream cpu count : ℕ) (out : List ℕ) (was : ℕ) (code 
   pub code_is : code ≡ packed_code answer
   pub len_is : len ≡ packed_len was answer
 
--- The pieces that tell just what is known of a stream are put to the buffer, or have no room there; or memory is
+-- The pieces that state exactly what is known of a stream are put to the buffer, or have no room there; or memory is
 -- refused, and nothing is put. The number and the length are those of the answer.
 pub record PacksStream (listed : ListedFleet) (stream : ℕ) (out : List ℕ) (was : ℕ) (code : ℤ) (left : List ℕ)
     (len : ℕ) : Type 0 where

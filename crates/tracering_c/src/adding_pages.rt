@@ -112,7 +112,7 @@ fn leave_page(
     }
 }
 
-/// The same answer, as parcel bytes get one.
+/// The answer to a page as one to parcel bytes.
 fn refusal_of(answer: Result<Added, AddFault>) -> Result<Added, AddRefusal>
     ensures { result ≡ page_answer answer }
 {

@@ -27,7 +27,7 @@ pub struct Unadded {
     pub missed: u64,
 }
 
-/// The reader, the CPU under which its pages are parcels, and the body that its next take hands in.
+/// The reader, the CPU under which its pages are parcels, and the body that its next take gives to the ring.
 #[derive(Drop)]
 pub struct HeldReader {
     /// The CPU under which the pages are parcels.

@@ -322,7 +322,7 @@ pub fn code_of_found(found: Option<u64>) -> i32
     }
 }
 
-/// The same of a CPU.
+/// The number of what CPU is found.
 pub fn code_of_found_cpu(found: Option<u32>) -> i32
     ensures { result ≡ found_code found }
 {

@@ -144,7 +144,7 @@ fn missing_of(
     code_of_room(room, *count)
 }
 
-/// The same of its unknown numbers yet.
+/// Puts the runs of the unknown numbers of a CPU, as `tracering_raw_fleet_missing` does the missing ones.
 #[unsafe(no_mangle)]
 pub extern "C" fn tracering_raw_fleet_unknown(
     alloc: Global,
@@ -183,7 +183,7 @@ fn unknown_of(
     code_of_room(room, *count)
 }
 
-/// The same of its undelivered numbers.
+/// Puts the runs of the undelivered numbers of a CPU, as `tracering_raw_fleet_missing` does the missing ones.
 #[unsafe(no_mangle)]
 pub extern "C" fn tracering_raw_fleet_undelivered(
     alloc: Global,
@@ -224,7 +224,7 @@ fn undelivered_of(
 
 ghost use Rattle.std.specs.Prelude.{cond, ltb};
 
-/// Whether so many runs have room.
+/// Whether `count` runs have room.
 fn code_of_room(room: usize, count: usize) -> i32
     ensures { result ≡ cond (ltb room count) (pos 17) (pos 0) }
 {

@@ -15,8 +15,8 @@ pub struct Opaque {
     first: u8,
 }
 
-/// A writer, a reader, a collector or a fleet, or nothing. Which of them it is only proofs see: C's types tell them
-/// apart.
+/// A writer, a reader, a collector or a fleet, or nothing. Which of them it is only proofs see: C's types distinguish
+/// them.
 #[repr(C)]
 #[derive(Drop)]
 pub struct Held {

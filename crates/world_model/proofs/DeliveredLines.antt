@@ -24,7 +24,7 @@ HasGot w collector parcel =
 abbrev Hands : World → Command → (collector : ℕ) → Parcel → Type 0
 Hands w command collector parcel = (command ≡ deliver collector parcel.cpu parcel.fill) × Contains w.taken parcel
 
--- what is behind an element is among a list with the element
+-- the last element of a list is in the list
 has_last : (earlier : List Parcel) (parcel : Parcel) → Contains (earlier ++ parcel ∷ []) parcel
 has_last [] parcel = contains_at (parcel ∷ []) 0 parcel refl
 has_last (first ∷ earlier) parcel =

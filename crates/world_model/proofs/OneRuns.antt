@@ -136,7 +136,7 @@ no_lines line cpu (of_cpu ∷ runs) none =
     ap₂ (λ (rs : List (ℕ × ℕ)) (text : List ℕ). flat_map (line cpu) rs ++ text) (none 0)
     (no_lines line (cpu + 1) runs (λ k. none (suc k)))
 
--- the same runs have one text
+-- equal runs have one text
 pub one_runs_text : (line : ℕ → ℕ × ℕ → List ℕ) (cpu : ℕ) (xs ys : List (List (ℕ × ℕ)))
     → ((k : ℕ) → slice_index_or xs k [] ≡ slice_index_or ys k []) → lines_from line cpu xs ≡ lines_from line cpu ys
 one_runs_text line cpu [] ys same = sym (no_lines line cpu ys (λ k. sym (same k)))

@@ -4,13 +4,13 @@ use Rattle.text_model.specs.Script.{Command, Script}
 use Rattle.world_model.specs.World.{World, ObeysAll}
 use Rattle.world_model.proofs.WorldsKept.{IsWorldKept, obeys_kept}
 
--- the lines behind the first one
+-- the lines after the first one
 abbrev pub other_lines : List (ℕ × Command) → List (ℕ × Command)
 other_lines [] = []
 other_lines (line ∷ lines) = lines
 
 module _ (script : Script) where
-  -- the world behind the first line, and what the others make of it
+  -- the world after the first line, and what the others make of it
   abbrev pub second_world : (lines : List (ℕ × Command)) (before after : World) → ObeysAll script lines before after
       → World
   second_world [] before after all = before

@@ -8,7 +8,7 @@ use Rattle.writer_thread.specs.declared.gate.Who.TheVariants as who
 use Rattle.writer_thread.specs.declared.writer.LineWriter.{LineWriter}
 use Rattle.writer_thread.specs.LineWriters.{IsLineWriter}
 
--- The writer was let pass at each fill that was closed since this many were, up to so many.
+-- The writer was let pass at each fill that was closed after the first `from` and among the first `to`.
 pub record HavePassed {Gate : Type 0} (answers : Gate → Who → (cpu fill : ℕ) → Bool → Type 0) (gate : Gate)
     (cpu from to : ℕ)
     : Type 0 where
@@ -39,7 +39,7 @@ pub record Asks {Gate : Type 0} (answers : Gate → Who → (cpu fill : ℕ) →
   pub same : SameWriter old.writer new.writer
   pub asked : HasAsked answers gate cpu old.writer.part.done new.writer.part.done result
 
--- The gate shut when the ring's writer had come to some state, in which the fill was closed.
+-- The gate shut when the ring's writer had reached some state, in which the fill was closed.
 pub record IsShut {Gate : Type 0} (answers : Gate → Who → (cpu fill : ℕ) → Bool → Type 0) (gate : Gate) (cpu : ℕ)
     (before : WriterValue) (asked : FillNo)
     : Type 0 where

@@ -22,7 +22,7 @@ pub enum Request {
     Of(Numbers, Vec<u8>),
     /// Which parcel has these bytes, and which bytes are written of it?
     Parcel(Vec<u8>),
-    /// Which pages has this capture of a CPU, of so many bytes each?
+    /// Which pages, of this many bytes each, has this capture of a CPU?
     Capture(CpuId, usize, Vec<u8>),
     /// The parcel with these bytes is added to a collector.
     Add(usize, Vec<u8>),

@@ -81,7 +81,7 @@ impl Value {
         value.close_and_take(alloc)
     }
 
-    /// The same: the tail, which is closed and taken for it.
+    /// What is unread: the tail, which is closed and taken for it.
     fn close_and_take(&mut self, alloc: Global) -> Result<String, NoMemory> {
         if self.depth() != 0 || !matches!(self.take(alloc)?, Answer::Empty(_, _)) {
             return unsettled(alloc);

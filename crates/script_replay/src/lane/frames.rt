@@ -102,7 +102,7 @@ impl<'a> Lane<'a> {
         Ok(())
     }
 
-    /// `follow`, also if steps are told.
+    /// `follow`, whether or not steps are told.
     #[cold]
     #[inline(never)]
     fn follow_told<T: Teller>(

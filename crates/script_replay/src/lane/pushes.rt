@@ -76,7 +76,7 @@ impl<'a> Lane<'a> {
         self.core.write_above(moment, payload)
     }
 
-    /// The same, step by step.
+    /// Writes a record of this moment and payload step by step.
     #[inline(never)]
     fn write_by_steps<T: Teller>(
         &mut self,
@@ -143,7 +143,7 @@ impl<'a> Lane<'a> {
         }
     }
 
-    /// The same, also if that is told.
+    /// `push_and_finish`, whether or not steps are told.
     #[cold]
     #[inline(never)]
     fn write_told<T: Teller>(

@@ -48,7 +48,7 @@ below_more ps qs more = record {
       record { index = k; parcel = h.parcel; at = at; missing = h.missing };
 }
 
--- the same parcels, in any order and with any repeats
+-- two collections of the same parcels, in any order and with any repeats, are the same
 pub same_parcels : (ps qs : List Parcel) → ((p : Parcel) → (Contains ps p ↔ Contains qs p)) → IsSame ps qs
 same_parcels ps qs each = below_both ps qs (below_more ps qs (λ p. (each p).0)) (below_more qs ps (λ p. (each p).1))
 

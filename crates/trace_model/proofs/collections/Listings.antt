@@ -37,7 +37,7 @@ before_before a b c f s = ⊎_elim
     s)
     f
 
--- the same moment, CPU and number
+-- two lines have the same moment, CPU and number
 pub record HasKeyOf (a b : Line) : Type 0 where
   pub moment : a.moment ≡ b.moment
   pub cpu : a.cpu ≡ b.cpu

@@ -75,7 +75,7 @@ one_more line (x ∷ lines) ordered apart = ⊎_elim
 
 -- ---- all lines
 
--- the same lines in order
+-- the second list has the lines of the first one, in order
 record IsOrdering (lines others : List Line) : Type 0 where
   ordered : IsTimeOrdered others
   of_them : (l : Line) → Stands others l → Stands lines l

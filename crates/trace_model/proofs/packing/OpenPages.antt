@@ -188,7 +188,7 @@ pub first_moment-plain : (fill : List Reservation) → first_moment (map plain f
 first_moment-plain [] = refl
 first_moment-plain (s ∷ fill) = refl
 
--- the same fill but for one record's bytes, which are those of the data
+-- the data holds a fill's records after the bytes of one of them are given, if those are in the data
 pub holds_finished : (time : ℕ) (bytes : List ℕ) (fill : List Reservation) (k : ℕ) (payload : List ℕ)
     → HoldsRecords time bytes fill
     → ((r : Record) → slice_get (records_in time bytes) k ≡ Some r → r.bytes ≡ padded payload)

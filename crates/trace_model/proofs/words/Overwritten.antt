@@ -70,7 +70,7 @@ bytes_of_word-with_payload (padding delta skipped) new is same = absurd is
 bytes_of_word-with_payload (time_extend delta) new is same = absurd is
 bytes_of_word-with_payload (time_stamp time) new is same = absurd is
 
--- as long a payload leaves the word as long
+-- a payload of the same length leaves the word's length as it is
 pub length-bytes_changed : (w : Word) (new : List ℕ) → IsData w → length new ≡ length (payload_of w)
     → length (bytes_of_word (with_payload w new)) ≡ length (bytes_of_word w)
 length-bytes_changed w new is same =

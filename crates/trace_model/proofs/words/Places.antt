@@ -187,7 +187,7 @@ Decodes-overwritten_last bytes time records start len new p ends fills reads =
           (h.2.is ∙ ap (λ (rs : List Record). h.2.front ++ record { moment = h.2.moment; bytes = new } ∷ rs) none) h.1,
     )
 
--- the same, if the records before the last one are known
+-- what is read after the last record is overwritten, if the records before it are known
 pub Decodes-overwritten_end : (bytes : List ℕ) (time : ℕ) (front : List Record) (r : Record) (start len : ℕ)
     (new : List ℕ) → IsPlaceIn bytes start len → start + len ≡ length bytes → length new ≡ len
     → Decodes bytes time (front ++ r ∷ [])

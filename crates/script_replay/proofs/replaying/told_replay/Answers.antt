@@ -8,7 +8,7 @@ use Rattle.script_replay.specs.Reports.{ReportsValue}
 use Rattle.script_replay.specs.Replay.{IsToldSoFar}
 use Rattle.script_replay.proofs.replaying.told_replay.Goals as goal
 
--- what is told so far behind the last line is the text of all
+-- the text so far is, after the last line, the text of all
 whole_text : (script : Script) (w : World) (steps : Option StepTextValue)
     → IfSome steps (λ s. IsToldSoFar script script.commands w s)
     → IfSome steps (λ s. (world : World) × IsStepText script world s.text)

@@ -1,4 +1,4 @@
--- Behind the shorter list no link differs.
+-- After the end of the shorter list no link differs.
 use Rattle.std.proofs.Common.{◌∙◌, sym, ◌≤◌, min, length, arith}
 use Rattle.step_text.proofs.LinksDiffer.{none_behind}
 use Rattle.step_text.proofs.step_line.do_links_differ.Goals as goal

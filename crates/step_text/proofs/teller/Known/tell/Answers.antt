@@ -1,4 +1,4 @@
--- A step is told by its first line, the keys that are new and what became of fills and records.
+-- The text of a step is its first line, the keys that are new, and what became of fills and records.
 use Rattle.std.proofs.Common.{sym, ◌∙◌}
 use Rattle.step_text.proofs.Telling.{depth_fits, links_alike, order_alike, knows_after, join_told}
 use Rattle.step_text.proofs.teller.Known.tell.Goals as goal

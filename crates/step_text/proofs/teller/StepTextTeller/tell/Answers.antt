@@ -1,4 +1,4 @@
--- The ring of the CPU is told of, and the others stay as they were.
+-- The text has the step of the CPU's ring, and the others stay as they were.
 use Rattle.std.proofs.Common.{◌≡◌, Some, sym, subst, slice_get}
 use Rattle.std.proofs.lemmas.Result.{IfOk-weaker}
 use Rattle.step_telling.specs.Known.{StepTextValue, ring_known}
