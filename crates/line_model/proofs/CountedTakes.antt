@@ -91,7 +91,8 @@ module _ (n size start : ℕ) (c : Core) (kept : IsRingKept n size start c) wher
     Counts phase = Counted (answer ≢ reading) (steps_of phase) (suc (steps_of phase)) c after
 
     none_moving : (fill : ℕ) → answer ≡ moving fill → ⊥
-    none_moving fill a = let (way, none) = moving_right n size start c reads fill after kept (same_step (moving fill) a) in
+    none_moving fill a =
+        let (way, none) = moving_right n size start c reads fill after kept (same_step (moving fill) a) in
         apart (way.lost + n, way.owner)
 
     one_counts : (phase : ReaderPhase)
@@ -186,7 +187,8 @@ module _ (n size start : ℕ) (c : Core) (kept : IsRingKept n size start c) wher
         absurd (link (has.0.stays (let e : fill ≡ c.head = omega (arith, fill_is, here) in e)))
 
     counts : Counts c.reader.phase
-    counts = one_counts c.reader.phase refl kept.links.reader (by_case n size start c answer after kept step (cases_of step))
+    counts =
+        one_counts c.reader.phase refl kept.links.reader (by_case n size start c answer after kept step (cases_of step))
 
 -- ---- the steps of a line
 

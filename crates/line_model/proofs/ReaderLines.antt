@@ -145,7 +145,8 @@ module _ (n size start : ℕ) (c : Core) (answer : Answer) (after : Core) (kept 
           sees = inl refl;
           knows = λ looked. inl refl;
           at_rest = refl;
-          at_head = inl (let at = hint_of page fill at in let low = kept.links.hint_le in omega (arith, at, low, le, up));
+          at_head =
+              inl (let at = hint_of page fill at in let low = kept.links.hint_le in omega (arith, at, low, le, up));
         },
       )
   reads_of (loading_done page fill) at (finds_closed closed a is) =

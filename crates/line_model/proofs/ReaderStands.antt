@@ -233,7 +233,8 @@ module _ (script : Script) (lane next : Lane) (state : CpuState) (stands : Stand
             after = with_seen (takes ∷ []) false (Some 0);
             part = may_take why next.core.reader.seen (seen_by sees) refl refl;
             due = one_due one;
-            stands = stands_again (takes ∷ []) false (Some 0) (one_taken one) (λ e. at_rest one.rests) (known 0 one.rests);
+            stands =
+                stands_again (takes ∷ []) false (Some 0) (one_taken one) (λ e. at_rest one.rests) (known 0 one.rests);
           }
           by_takes (inr none, sees) = record {
             own = [];

@@ -236,7 +236,8 @@ module _ (t : TopStep) where
           → OneStep t.script t.state.wish t.below t.state.events (line t.told t.losing t.stage) own (line q m to)
       by_turn (inl (none, may)) =
           let same : line q m t.stage ≡ line t.told t.losing t.stage =
-          subst (λ (xs : List RingEvent). Does t.below (line t.told t.losing t.stage) xs (line q m t.stage)) none does in
+          subst (λ (xs : List RingEvent). Does t.below (line t.told t.losing t.stage) xs (line q m t.stage)) none
+          does in
           inl (
             none,
             to,
@@ -296,7 +297,9 @@ module _ (t : TopStep) where
       never_off next.phase,
       ap (λ (xs : List Frame). length xs) is ∙ sym (ap (λ (xs : List Frame). length xs) t.top),
       stands_after own (line q m (stage_of next.phase) ∷ t.below) are
-          (subst (λ (xs : List Frame). FramesStand xs (payloads_left xs t.before.payloads) (line q m (stage_of next.phase) ∷ t.below))
+          (subst
+          (λ (xs : List Frame).
+          FramesStand xs (payloads_left xs t.before.payloads) (line q m (stage_of next.phase) ∷ t.below))
           (sym is)
           (subst (λ (xs : List (List ℕ)). FramesStand (next ∷ t.under) xs (line q m (stage_of next.phase) ∷ t.below))
           (sym (ap (payloads_left (next ∷ t.under)) t.paid

@@ -229,7 +229,8 @@ module _ (script : Script) (below : List LineFrame) (depth : ℕ) where
       due = d.due;
       steps = λ on_top. last_step script state.wish below state.events (line payload losing stage) d.own
           (line d.payload_after d.losing_after d.stage_after) (d.step on_top);
-      ends = subst (StaysOrGoes script before state d.own (line d.payload_after d.losing_after d.stage_after) below) same
+      ends =
+          subst (StaysOrGoes script before state d.own (line d.payload_after d.losing_after d.stage_after) below) same
           d.ends;
     }
     has_gone (y ∷ exchanges) after fewer count (again, asked, next, step, more) =

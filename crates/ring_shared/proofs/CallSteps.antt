@@ -303,13 +303,14 @@ module _ (shape : Shape) (before after : Writing) (moment : ℕ) where
       pushed_row : (result : Answer) (next : Writing) (frame : Frame) → Reserving result next
           → next.frames ≡ frame ∷ before.frames → InARow pushed next
       pushed_row result next frame r above =
-          reserves_row shape begun.frame before.frames pushed begun.top begun.reserves result next (by_kind result next r)
-          frame above
+          reserves_row shape begun.frame before.frames pushed begun.top begun.reserves result next
+          (by_kind result next r) frame above
 
       pushed_few : (result : Answer) (next : Writing) → Reserving result next
           → MakesAtMost (most_to_finish shape) pushed next
       pushed_few result next r =
-          reserves_few shape begun.frame before.frames pushed begun.top begun.reserves result next (by_kind result next r)
+          reserves_few shape begun.frame before.frames pushed begun.top begun.reserves result next
+          (by_kind result next r)
 
       -- all but its push are at most what `finish_top` makes
       with_push : MakesAtMost (most_to_finish shape) pushed after → MakesAtMost (most_to_write shape) before after
@@ -320,7 +321,8 @@ module _ (shape : Shape) (before after : Writing) (moment : ℕ) where
       → InARow start held → IsCall shape held (model.ends payload) (Ended how) ended
       → GoesAway shape ended how after → t.below ≡ after.frames → MakesAtMost (most_to_finish shape) start after
   ends_few start held ended payload Pending t row call goes under =
-      let few = bounded shape start held (reached_before shape held (model.ends payload) (Ended Pending) ended call) row in
+      let few =
+      bounded shape start held (reached_before shape held (model.ends payload) (Ended Pending) ended call) row in
       let one = one_longer shape held (model.ends payload) (Ended Pending) ended call in
       let same = ap (λ (w : Writing). length w.made) goes in
       omega arith
@@ -329,7 +331,8 @@ module _ (shape : Shape) (before after : Writing) (moment : ℕ) where
       let none = leaves_below shape [] ended answer after leaves in
       let one =
       in_a_row shape held (model.ends payload) (Ended Full) ended call
-      (top_brings (model.ends payload) held.frames t.frame t.below t.top (ap (brings_on (model.ends payload)) t.state_is))
+      (top_brings (model.ends payload) held.frames t.frame t.below t.top
+      (ap (brings_on (model.ends payload)) t.state_is))
       (same_depth ended.frames held.frames frame t.frame [] above
       (t.top ∙ ap (λ (fs : List Frame). t.frame ∷ fs) (under ∙ none))) in
       let g = leaves_row shape [] ended answer after frame above is leaves in

@@ -53,7 +53,8 @@ abbrev Few : (n : ℕ) → Core → List WriterMade → Type 0
 Few n c rest = (row : ℕ) → row + rank_in n c.head c ≤ frame_limit n → row_from c.frames row rest ≤ frame_limit n
 
 module _ (n size start : ℕ) (c : Core) (reached : IsReached n size start c) (event : Event) (answer : Answer)
-    (between : Core) (step : Step n size c event answer between) (rest : List WriterMade) (on : Few n between rest) where
+    (between : Core) (step : Step n size c event answer between) (rest : List WriterMade)
+    (on : Few n between rest) where
   near : rank_in n between.head between ≤ frame_limit n
   near =
       writers_near n size start between.head between

@@ -24,7 +24,8 @@ use Rattle.ring_shared.proofs.Settles.{one_run}
 -- ---- what is reserved and not committed
 
 abbrev pending_in : List HistoryEvent → List Record
-pending_in history = map as_record (drop (length (reserved_records (settled_prefix history))) (reserved_records history))
+pending_in history =
+    map as_record (drop (length (reserved_records (settled_prefix history))) (reserved_records history))
 
 reserved_in : (history : List HistoryEvent)
     → map as_record (reserved_records history) ≡ committed_records history ++ pending_in history
@@ -40,7 +41,8 @@ none_pending : (n size start : ℕ) (c : Core) → IsRingKept n size start c →
 none_pending n size start c kept none =
     let empty : (writer_after c.history).stack ≡ [] = kept.history.stack ∙ ap pushed_frames none in
     let all = committed_len-settled c.history (settled_at_rest c.history empty) in
-    ap (map as_record) (drop_all (length (reserved_records (settled_prefix c.history))) (reserved_records c.history) all)
+    ap (map as_record)
+    (drop_all (length (reserved_records (settled_prefix c.history))) (reserved_records c.history) all)
 
 -- ---- of both ends
 

@@ -32,11 +32,13 @@ look_falls : (n passed knows noted : ℕ) → passed ≤ knows → look_rank n k
 look_falls n passed knows noted less =
     cond_both (nat_lt noted (passed + n)) 10 12 (λ (k : ℕ). look_rank n knows noted ≤ k)
     (λ yes. let here : noted < passed + n = ltb-true noted (passed + n) yes in
-    let there : look_rank n knows noted ≡ 10 = ap (λ (b : Bool). if b then 10 else 12) (lt-ltb noted (knows + n) (omega arith)) in
+    let there : look_rank n knows noted ≡ 10 =
+    ap (λ (b : Bool). if b then 10 else 12) (lt-ltb noted (knows + n) (omega arith)) in
     omega arith)
     (λ _. look_most n knows noted)
 
-own_falls : (n passed knows opened : ℕ) (history : List HistoryEvent) (state : Progress) (phase : Phase) → passed ≤ knows
+own_falls : (n passed knows opened : ℕ) (history : List HistoryEvent) (state : Progress) (phase : Phase)
+    → passed ≤ knows
     → own_rank n knows opened history state phase ≤ own_rank n passed opened history state phase
 own_falls n passed knows opened history state idle less = omega arith
 own_falls n passed knows opened history state (looking noted) less =
@@ -113,7 +115,8 @@ module _ (n size start : ℕ) (c : Core) (reached : IsReached n size start c) wh
       omega arith
   one_lower (ends payload) answer after (frame, below, number, top, own) step stays =
       let low =
-      writer_ends_lower n size start c frame below number payload answer after c.head after.head kept top own step stays in
+      writer_ends_lower n size start c frame below number payload answer after c.head after.head kept top own step
+      stays in
       omega arith
   one_lower reads answer after may step stays = let low = reads_none reads answer after tt step in omega arith
   one_lower wishes answer after may step stays = let low = reads_none wishes answer after tt step in omega arith

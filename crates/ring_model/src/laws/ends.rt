@@ -35,8 +35,8 @@ pub fn writers_come_to_an_end()
     ensures near { WritersAreNearTheirEnd }
 {}
 
-/// A frame that isn't asked for its number again makes at most 3N + 52 steps in a run, its record's end among them, before
-/// the one by which it is gone: if no other frame interrupts it, and whatever the reader does in between.
+/// A frame that isn't asked for its number again makes at most 3N + 52 steps in a run, its record's end among them,
+/// before the one by which it is gone: if no other frame interrupts it, and whatever the reader does in between.
 pub fn frames_make_few_steps()
     ensures few { FramesMakeFewSteps }
 {}
