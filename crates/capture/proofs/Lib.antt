@@ -1,5 +1,5 @@
 mod Appended
-mod Captured
+mod CapturedFiles
 pub mod Cut
 pub mod Told
 mod Adding
@@ -15,7 +15,7 @@ mod WrittenImages
 mod Restored
 mod Puts
 mod Steps
-pub mod Stamps
+pub mod StampedImages
 pub mod Cuts
 pub mod CpuParts
 mod CpuLists

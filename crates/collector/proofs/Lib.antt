@@ -19,4 +19,4 @@ pub mod Known
 pub mod CpuWalks
 pub mod Merging
 pub mod Searches
-pub mod Added
+pub mod Delivered

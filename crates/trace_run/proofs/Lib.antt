@@ -22,5 +22,5 @@ pub mod Ends
 pub mod Rows
 pub mod LastStates
 pub mod OneRuns
-pub mod Readers
+pub mod ReaderSteps
 pub mod Completed

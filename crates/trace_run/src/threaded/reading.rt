@@ -68,7 +68,7 @@ pub(crate) fn pass_on<R: Wait, P: PassesOn>(
 
 /// Takes pages, and passes each one on, until the writer's thread was over before a take that found nothing. If there
 /// is nothing to take, it gives way to other threads.
-#[tactic(auto, using(crate::proofs::Readers::takes_none))]
+#[tactic(auto, using(crate::proofs::ReaderSteps::takes_none))]
 pub(crate) fn take_pages<R: Wait, P: PassesOn>(
     rt: &R,
     alloc: Global,

@@ -18,7 +18,7 @@ use trace_model::CpuId;
 
 /// Takes each page that is still closed and unread, and passes it on, as the reader's thread does; then settles the
 /// ends.
-#[tactic(auto, using(crate::proofs::Readers::takes_none))]
+#[tactic(auto, using(crate::proofs::ReaderSteps::takes_none))]
 pub(crate) fn settle_ends<R: Wait, P: PassesOn>(
     rt: &R,
     alloc: Global,

@@ -1,4 +1,4 @@
-use Rattle.capture.proofs.Stamps.{restored-parts, restored-joined}
+use Rattle.capture.proofs.StampedImages.{restored-parts, restored-joined}
 use Rattle.capture.proofs.stamps.laws.only_words_are_restored.Goals as goal
 
 pub returns : goal.returns

@@ -1,4 +1,4 @@
-use Rattle.capture.proofs.Stamps.{words-stay}
+use Rattle.capture.proofs.StampedImages.{words-stay}
 use Rattle.capture.proofs.stamps.laws.without_stamps_nothing_changes.Goals as goal
 
 pub returns : goal.returns

@@ -1,7 +1,7 @@
 use Rattle.std.proofs.Common.{[], ◌∷◌, ◌++◌, subst}
 use Rattle.page_numbers.specs.Parcels.{ParcelValue, as_parcel}
 use Rattle.collector.specs.Faults.{IsAddFault}
-use Rattle.collector.proofs.Added.{only_memory}
+use Rattle.collector.proofs.Delivered.{only_memory}
 use Rattle.collector.proofs.deliveries.adding.collect.Goals as goal
 
 pub refused-requires : goal.refused-requires

@@ -1,5 +1,5 @@
 use Rattle.std.proofs.Common.{rules}
-use Rattle.trace_run.proofs.Readers.{takes_more}
+use Rattle.trace_run.proofs.ReaderSteps.{takes_more}
 use Rattle.trace_run.proofs.threaded.reading.take_pages.Goals as goal
 use Rattle.trace_run.proofs.threaded.reading.take_pages.Goals.{in-None, in-Some+in_ok-next+else-eq+then-eq-2+then-was_over}
 

@@ -1,7 +1,7 @@
 use Rattle.std.proofs.Common.{List, sym, subst, rules}
 use Rattle.page_numbers.specs.Parcels.{ParcelValue, as_parcels}
 use Rattle.trace_run.specs.threaded.Asked.{HaveReadersPassed}
-use Rattle.trace_run.proofs.Readers.{takes_more}
+use Rattle.trace_run.proofs.ReaderSteps.{takes_more}
 use Rattle.trace_run.proofs.threaded.settling.settle_ends.Goals as goal
 
 pub returns-then-has_all-clause-passed : goal.returns-then-has_all-clause-passed

@@ -1,5 +1,5 @@
 use Rattle.trace_run.specs.declared.threaded.sharing.Passing.{Passing}
-use Rattle.trace_run.proofs.Readers.{gate_behind}
+use Rattle.trace_run.proofs.ReaderSteps.{gate_behind}
 use Rattle.trace_run.proofs.threaded.threads.read_pages.Goals as goal
 
 pub returns : goal.returns
