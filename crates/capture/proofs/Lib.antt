@@ -1,7 +1,6 @@
 mod Appended
-mod Captured
+mod CapturedFiles
 pub mod Cut
-mod Filled
 pub mod Told
 mod Adding
 mod ReadingOn
@@ -13,3 +12,21 @@ mod Together
 mod Reports
 pub mod OneReading
 mod WrittenImages
+mod Restored
+mod Puts
+mod Steps
+pub mod StampedImages
+pub mod Cuts
+pub mod CpuParts
+mod CpuLists
+mod Answers
+mod EachLoop
+mod LossSums
+mod TrueLosses
+mod Overruns
+mod Settled
+mod FirstRead
+mod FilesMore
+mod Prefixes
+mod RestFaults
+mod InputsRead

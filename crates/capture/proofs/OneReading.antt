@@ -3,7 +3,7 @@ use Rattle.std.proofs.Common.{◌≡◌, ℕ, ◌<◌, List, [], ◌∷◌, leng
 use Rattle.trace_model.specs.Record.{Record}
 use Rattle.trace_model.specs.Image.{Missed}
 use Rattle.trace_model.proofs.images.Images.{DecodesImage-unique, DecodesImage-FirstImageFault, FirstImageFault-unique}
-use Rattle.stamp_times.specs.Restored.{restored_image}
+use Rattle.capture.specs.stamps.Restored.{restored_image}
 use Rattle.capture.specs.Pages.{Page, intact, damaged, loss_stated, IsPageOf, AreCut}
 
 one_page : (bytes : List ℕ) (page other : Page) → IsPageOf bytes page → IsPageOf bytes other → page ≡ other

@@ -20,8 +20,8 @@ use Rattle.trace_model.proofs.words.Appended.{each-append, IsData-not_stamp, dat
 use Rattle.trace_model.proofs.words.Appended.{IsJoined-whole}
 use Rattle.trace_model.proofs.words.ReadBack.{encoding_of-writable, Decodes-page_encoding}
 use Rattle.trace_model.proofs.images.Images.{DecodesImage-image_of, length-image_of}
-use Rattle.stamp_times.specs.Restored.{restored_data, restored_image}
-use Rattle.stamp_times.proofs.Stamps.{words-stay, restored-joined, restored-parts}
+use Rattle.capture.specs.stamps.Restored.{restored_data, restored_image}
+use Rattle.capture.proofs.StampedImages.{words-stay, restored-joined, restored-parts}
 use Rattle.trace_model.specs.Partition.{Piece}
 use Rattle.capture.specs.Pages.{Page, intact, loss_stated, IsPageOf, AreCut}
 use Rattle.capture.specs.Rings.{FitsImage, images_from, page_written}

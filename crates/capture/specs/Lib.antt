@@ -2,3 +2,5 @@ pub mod Pages
 pub mod Captures
 pub mod Rings
 pub mod Reading
+pub mod stamps
+pub mod files

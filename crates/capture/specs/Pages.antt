@@ -6,7 +6,7 @@ use Rattle.std.specs.Prelude.{drop}
 use Rattle.trace_model.specs.Record.{Record}
 use Rattle.trace_model.specs.Parcel.{Parcel}
 use Rattle.trace_model.specs.Image.{Missed, none, unknown, counted, DecodesImage, ImageCause, FirstImageFault}
-use Rattle.stamp_times.specs.Restored.{restored_image}
+use Rattle.capture.specs.stamps.Restored.{restored_image}
 
 -- a page that reads: what is known of records that were lost before it, and its records
 pub record PageRead : Type 0 where

@@ -6,11 +6,13 @@
 //! are no higher than the true ones, and still rise.
 #![tactic(auto)]
 
+pub mod files;
 pub mod laws;
 mod pages;
 mod part;
 mod read;
+pub mod stamps;
 
 pub use pages::{Capture, CaptureFault, Damaged};
 pub use part::Part;
-pub use read::{Extent, ReadFault, fill_piece, read_capture, read_on};
+pub use read::{Extent, ReadFault, read_capture, read_on};

@@ -11,9 +11,9 @@ ghost use Rattle.capture.specs.Pages.{unknown_at};
 ghost use Rattle.capture.specs.Captures.{page_read, numbers_of};
 ghost use Rattle.capture.specs.declared.pages.CaptureFault.TheVariants.{NoMemory as MemoryIs};
 
+use crate::stamps::restore_stamps;
 use page_image::{Image, ImageFault, Missed, read_image};
 use page_numbers::{Parcel, ParcelFault};
-use stamp_times::restore_stamps;
 use std::alloc::{AllocError, AllocFailed, Global};
 use trace_model::{CpuId, FillNo, RecordNo};
 

@@ -11,10 +11,9 @@ ghost use Rattle.capture.specs.declared.pages.CaptureFault.TheVariants.{NoMemory
 ghost use Rattle.capture.specs.declared.read.ReadFault.TheVariants.{Capture as CaptureIs};
 
 use crate::pages::{Capture, CaptureFault};
-use command_io::Source;
+use command_io::{Source, fill_piece};
 use page_image::Missed;
 use std::alloc::{AllocError, Global};
-use std::io;
 use trace_model::CpuId;
 
 /// Why there is no capture.
@@ -40,26 +39,6 @@ impl From<AllocError> for ReadFault {
     fn from(_refused: AllocError) -> ReadFault {
         ReadFault::Capture(CaptureFault::NoMemory)
     }
-}
-
-/// Reads until the piece is full or the source is at its end, and answers how many bytes were read.
-pub fn fill_piece<R: Source>(reader: &mut R, piece: &mut [u8]) -> io::Result<usize>
-    requires { R.failed reader.old ≡ false }
-    ensures taken { IfOk result (λ count.
-        Consumes (R.remaining reader.old) (R.remaining reader.new) (take count piece.new)) }
-    ensures bound { IfOk result (λ count. count ≤ length piece.new) }
-    ensures end { IfOk result (λ count. count < length piece.new → IsAtEnd (R.remaining reader.new)) }
-    ensures fails { (R.failed reader.new ≡ true) ↔ IsErr result }
-{
-    let mut filled = 0;
-    while filled < piece.len() {
-        let count = reader.read(&mut piece[filled..])?;
-        if count == 0 {
-            return Ok(filled);
-        }
-        filled += count;
-    }
-    Ok(filled)
 }
 
 /// How much a source had: whole pages, and bytes after them.

@@ -2,7 +2,7 @@
 use Rattle.std.proofs.Common.{◌≡◌, ℕ, Bool, true, false, List, [], ◌∷◌, ◌++◌, sym, ap, ◌∙◌}
 use Rattle.std.specs.Prelude.{if◌then◌else◌, codes, Option}
 use Rattle.text_model.specs.Text.{space}
-use Rattle.kernel_texts.specs.Names.{Event}
+use Rattle.trace_dat.specs.kernel_texts.Names.{Event}
 use Rattle.capture_text.specs.Quoting.{quoted}
 use Rattle.capture_text.specs.Names.{is_print, print_text, print_part, json_print}
 

@@ -3,9 +3,9 @@ use Rattle.std.proofs.Common.{◌≡◌, ℕ, Bool, List, sym, ◌∙◌, subst}
 use Rattle.std.specs.Prelude.{Option}
 use Rattle.std.specs.Borrow.{Bor}
 use Rattle.trace_dat.specs.Contents.{EventFormat}
-use Rattle.kernel_texts.specs.declared.names.EventNames.{EventNames}
-use Rattle.text_buffer.specs.declared.buffer.TextBuffer.{TextBuffer}
-use Rattle.text_buffer.specs.Putting.{Puts}
+use Rattle.trace_dat.specs.declared.kernel_texts.names.EventNames.{EventNames}
+use Rattle.text_values.specs.declared.buffer.TextBuffer.{TextBuffer}
+use Rattle.text_values.specs.Putting.{Puts}
 use Rattle.capture_text.specs.declared.form.Form.{Form}
 use Rattle.capture_text.specs.declared.printer.Printer.{Printer}
 use Rattle.capture_text.specs.Printed.{AreNames, Prints}

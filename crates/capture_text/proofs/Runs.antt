@@ -12,12 +12,12 @@ use Rattle.collector.specs.Runs.{AreMissingRuns}
 use Rattle.collector.specs.Sound.{AreSound}
 use Rattle.collector_text.proofs.Appended.{numbered_behind}
 use Rattle.collector_text.proofs.RunsBehind.{AreRunsFrom, runs_more, each_cpu, none_far}
-use Rattle.text_buffer.specs.declared.buffer.TextBuffer.{TextBuffer}
-use Rattle.text_buffer.specs.Putting.{Puts}
+use Rattle.text_values.specs.declared.buffer.TextBuffer.{TextBuffer}
+use Rattle.text_values.specs.Putting.{Puts}
 use Rattle.capture_text.specs.declared.form.Form.{Form}
 use Rattle.capture_text.specs.declared.form.Form.TheVariants.{Text, Json}
 use Rattle.capture_text.specs.Printing.{run_line, run_lines}
-use Rattle.text_buffer.proofs.Chains.{put_none, put_more}
+use Rattle.text_values.proofs.Chains.{put_none, put_more}
 
 more : (line : ℕ → ℕ × ℕ → List ℕ) (runs : List (List (ℕ × ℕ))) (of_cpu : List (ℕ × ℕ)) (cpu : ℕ) → length runs ≡ cpu
     → flat_map (λ (of : ℕ × List (ℕ × ℕ)). flat_map (line of.0) of.1) (enumerate_from 0 (runs ++ of_cpu ∷ []))

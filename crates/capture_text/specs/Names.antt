@@ -3,8 +3,8 @@ use Rattle.std.specs.Prelude.{ℕ, ℤ, Bool, false, ◌&&◌, ◌==◌, if◌th
 use Rattle.std.specs.Prelude.{position, unwrap_or, codes, bytes_eq, Option, Some, None}
 use Rattle.std.specs.Fmt.{decimal, signed_decimal}
 use Rattle.text_model.specs.Text.{space}
-use Rattle.kernel_texts.specs.Names.{Event}
-use Rattle.kernel_texts.specs.declared.record.CommonFields.{CommonFields}
+use Rattle.trace_dat.specs.kernel_texts.Names.{Event}
+use Rattle.trace_dat.specs.declared.kernel_texts.record.CommonFields.{CommonFields}
 use Rattle.capture_text.specs.Quoting.{quotation_mark, quoted, shown_name}
 
 -- an event's system and its own name

@@ -2,9 +2,9 @@
 use Rattle.std.specs.Prelude.{◌≡◌, ℕ, ⊤, ◌++◌, Bool, List, Option, Some, None}
 use Rattle.std.specs.Borrow.{Bor}
 use Rattle.trace_dat.specs.Contents.{EventFormat}
-use Rattle.kernel_texts.specs.declared.names.EventNames.{EventNames}
-use Rattle.kernel_texts.specs.Names.{HasEvents}
-use Rattle.text_buffer.specs.Putting.{has_failed, HasPut}
+use Rattle.trace_dat.specs.declared.kernel_texts.names.EventNames.{EventNames}
+use Rattle.trace_dat.specs.kernel_texts.Names.{HasEvents}
+use Rattle.text_values.specs.Putting.{has_failed, HasPut}
 use Rattle.capture_text.specs.declared.form.Form.{Form}
 use Rattle.capture_text.specs.declared.printer.Printer.{Printer}
 

@@ -11,8 +11,8 @@ use Rattle.text_model.specs.Text.{hex_text, line_feed, space}
 use Rattle.text_model.specs.Printing.{image_fault_text}
 use Rattle.text_values.specs.Digits.{pairs_of}
 use Rattle.world_model.specs.Printing.{printed_line, printed_missing, printed_runs}
-use Rattle.kernel_texts.specs.Names.{Event, event_of}
-use Rattle.kernel_texts.specs.FirstBytes.{common_fields_in}
+use Rattle.trace_dat.specs.kernel_texts.Names.{Event, event_of}
+use Rattle.trace_dat.specs.kernel_texts.FirstBytes.{common_fields_in}
 use Rattle.dump_command.specs.ImageFaults.{reader_fault_text}
 use Rattle.capture.specs.Pages.{Damage}
 use Rattle.capture.specs.declared.pages.Damaged.{Damaged}

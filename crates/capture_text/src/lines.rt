@@ -5,18 +5,18 @@ ghost use Rattle.text_model.specs.Text.{space, hex_text};
 ghost use Rattle.text_values.specs.Digits.{pairs_of};
 ghost use Rattle.time_merge.specs.Lines.{line_seen};
 ghost use Rattle.world_model.specs.Printing.{printed_line};
-ghost use Rattle.kernel_texts.specs.Names.{events_of};
-ghost use Rattle.kernel_texts.specs.FirstBytes.{common_fields_in};
-ghost use Rattle.text_buffer.specs.Putting.{has_failed, Puts};
+ghost use Rattle.trace_dat.specs.kernel_texts.Names.{events_of};
+ghost use Rattle.trace_dat.specs.kernel_texts.FirstBytes.{common_fields_in};
+ghost use Rattle.text_values.specs.Putting.{has_failed, Puts};
 ghost use Rattle.capture_text.specs.Names.{json_named};
 ghost use Rattle.capture_text.specs.Printing.{named_line, json_line};
 
 use crate::names::{put_json_named, put_named};
 use command_io::Sink;
 use itoa::write_digits;
-use kernel_texts::EventNames;
-use text_buffer::TextBuffer;
+use text_values::TextBuffer;
 use time_merge::Line;
+use trace_dat::kernel_texts::EventNames;
 
 /// Room for the three numbers of a line, each of which takes at most 21 bytes with the space after it.
 const FRONT: usize = 64;

@@ -5,7 +5,7 @@ ghost use Rattle.collector.specs.Runs.{AreMissingRuns};
 ghost use Rattle.capture.specs.Captures.{numbers_of};
 ghost use Rattle.world_model.specs.Printing.{printed_missing};
 ghost use Rattle.dump_command.specs.ImageFaults.{reader_fault_text, word_fault_text};
-ghost use Rattle.text_buffer.specs.Putting.{has_failed, Puts};
+ghost use Rattle.text_values.specs.Putting.{has_failed, Puts};
 ghost use Rattle.capture_text.specs.Printing.{json_missing, run_line, run_lines, unknown_line, unknown_lines};
 ghost use Rattle.capture_text.specs.Printing.{damaged_line, reported_line};
 
@@ -17,7 +17,7 @@ use command_io::Sink;
 use itoa::Buffer;
 use page_image::ImageFault;
 use record_words::WordFault;
-use text_buffer::TextBuffer;
+use text_values::TextBuffer;
 use trace_model::{CpuId, MAX_CPUS, RecordNo};
 
 /// Puts a number with text around it.

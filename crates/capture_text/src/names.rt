@@ -2,9 +2,9 @@
 ghost use Rattle.std.specs.Prelude.{◌≡◌, ◌==◌, ◌++◌, ◌∷◌, [], position};
 ghost use Rattle.std.specs.Option.{option_map};
 ghost use Rattle.std.specs.Fmt.{signed_decimal};
-ghost use Rattle.kernel_texts.specs.Names.{event_seen, events_of};
-ghost use Rattle.kernel_texts.specs.FirstBytes.{common_fields_in};
-ghost use Rattle.text_buffer.specs.Putting.{has_failed, Puts};
+ghost use Rattle.trace_dat.specs.kernel_texts.Names.{event_seen, events_of};
+ghost use Rattle.trace_dat.specs.kernel_texts.FirstBytes.{common_fields_in};
+ghost use Rattle.text_values.specs.Putting.{has_failed, Puts};
 ghost use Rattle.capture_text.specs.Names.{event_text, is_print, text_before_zero, print_text, event_or_number};
 ghost use Rattle.capture_text.specs.Names.{print_part, named_part, known_part, json_event, json_print, json_named};
 ghost use Rattle.capture_text.specs.Names.{json_known};
@@ -12,8 +12,8 @@ ghost use Rattle.capture_text.specs.Names.{json_known};
 use crate::quoting::{put_name, put_quoted};
 use command_io::Sink;
 use itoa::Buffer;
-use kernel_texts::{EventName, EventNames, common_fields};
-use text_buffer::TextBuffer;
+use text_values::TextBuffer;
+use trace_dat::kernel_texts::{EventName, EventNames, common_fields};
 
 /// How many bytes are before the text of a print: the fields that all events have, and an address.
 const PRINT_TEXT: usize = 16;

@@ -7,10 +7,10 @@ use crate::losses::{put_damages, put_losses, put_runs};
 use capture::{Capture, Part};
 use collector::Collector;
 use command_io::{OutputFault, Sink};
-use kernel_texts::EventNames;
 use std::alloc::Global;
-use text_buffer::TextBuffer;
+use text_values::TextBuffer;
 use time_merge::{Line, TakesLines};
+use trace_dat::kernel_texts::EventNames;
 use trace_model::NoMemory;
 
 /// What prints a collection, through a buffer of fixed size. If it has names, a line says of its record's event what it

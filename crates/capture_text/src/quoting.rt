@@ -2,13 +2,13 @@
 ghost use Rattle.std.specs.Prelude.{◌≡◌, ◌<◌, ◌≤◌, ◌↔◌, ◌++◌, IsTrue, codes, length, slice_index, take};
 ghost use Rattle.text_values.specs.Digits.{pair_of};
 ghost use Rattle.std.specs.Str.{is_utf8};
-ghost use Rattle.text_buffer.specs.Putting.{has_failed, Puts};
+ghost use Rattle.text_values.specs.Putting.{has_failed, Puts};
 ghost use Rattle.capture_text.specs.Quoting.{shown_byte, shown_name, escaped_ascii, escaped, escaped_text, IsPlain};
 ghost use Rattle.capture_text.specs.Quoting.{quoted};
 
 use command_io::Sink;
 use std::str::from_utf8;
-use text_buffer::TextBuffer;
+use text_values::TextBuffer;
 
 /// A byte of a name as it is shown.
 fn shown_byte(byte: u8) -> u8

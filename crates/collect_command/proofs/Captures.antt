@@ -7,8 +7,8 @@ use Rattle.trace_model.proofs.collections.Collections.{same_itself, same_same, s
 use Rattle.trace_model.proofs.collections.Joined.{below_agrees}
 use Rattle.capture.specs.Pages.{Page, parcels_from}
 use Rattle.capture.specs.Rings.{parcels_of_captures}
-use Rattle.collect_inputs.specs.declared.captured.CpuCapture.{CpuCapture}
-use Rattle.collect_inputs.specs.Files.{ModelPart}
+use Rattle.capture.specs.declared.files.captured.CpuCapture.{CpuCapture}
+use Rattle.capture.specs.files.Files.{ModelPart}
 use Rattle.collect_command.specs.Gathered.{IsReadFrom, AreReadFrom}
 
 -- the last of what was read, and its pages

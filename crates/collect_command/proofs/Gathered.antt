@@ -9,7 +9,7 @@ use Rattle.trace_model.proofs.collections.Joined.{joined_left, joined_below, bel
 use Rattle.page_numbers.specs.Parcels.{ParcelValue, as_parcel, as_parcels}
 use Rattle.collector.specs.declared.added.Added.{Added}
 use Rattle.collector.specs.declared.added.Added.TheVariants.{New, Known}
-use Rattle.deliveries.specs.Deliveries.{Adds}
+use Rattle.collector.specs.deliveries.Deliveries.{Adds}
 
 -- those that were added, and one parcel more
 same_beside : (start joined : List Parcel) (given : List ParcelValue) (q : ParcelValue)

@@ -3,3 +3,10 @@ mod Captures
 mod PagesOfAll
 mod Printing
 mod OneOutput
+pub mod Readings
+pub mod Inputs
+pub mod StreamsGathered
+pub mod Endings
+pub mod AllRead
+pub mod Told
+pub mod Adds

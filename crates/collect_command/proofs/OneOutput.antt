@@ -12,9 +12,9 @@ use Rattle.capture.specs.Rings.{parcels_of_captures}
 use Rattle.capture.proofs.OneReading.{one-reading}
 use Rattle.collector_text.specs.Prints.{IsPrintOf}
 use Rattle.collector_text.proofs.OneText.{one_runs, one_runs_text}
-use Rattle.collect_inputs.specs.Files.{File, ModelPart, Checked, parts_of, parts_of_cpu, ArePartsOf}
-use Rattle.collect_inputs.specs.Captures.{CutsOf}
-use Rattle.collect_inputs.specs.Losses.{settled, overrun_in}
+use Rattle.capture.specs.files.Files.{File, ModelPart, Checked, parts_of, parts_of_cpu, ArePartsOf}
+use Rattle.capture.specs.files.Captures.{CutsOf}
+use Rattle.capture.specs.files.Losses.{settled, overrun_in}
 use Rattle.capture_text.specs.declared.form.Form.{Form}
 use Rattle.capture_text.specs.declared.form.Form.TheVariants.{Text, Json}
 use Rattle.capture_text.specs.Printing.{record_line, run_line, run_lines}

@@ -2,10 +2,10 @@
 use Rattle.std.proofs.Common.{◌≡◌, ℕ, suc, ◌+◌, List, [], ◌∷◌, length, Option, Some, refl, ap, subst, arith}
 use Rattle.std.specs.List.{slice_get}
 use Rattle.capture.specs.Pages.{Page}
-use Rattle.collect_inputs.specs.declared.captured.CpuCapture.{CpuCapture}
-use Rattle.collect_inputs.specs.Files.{ModelPart, parts_of_cpu}
-use Rattle.collect_inputs.specs.Captures.{IsCpuCaptured, AreCpusCaptured}
-use Rattle.collect_inputs.specs.Losses.{settled}
+use Rattle.capture.specs.declared.files.captured.CpuCapture.{CpuCapture}
+use Rattle.capture.specs.files.Files.{ModelPart, parts_of_cpu}
+use Rattle.capture.specs.files.Captures.{IsCpuCaptured, AreCpusCaptured}
+use Rattle.capture.specs.files.Losses.{settled}
 use Rattle.collect_command.specs.Gathered.{AreCpusPages, AreReadFrom}
 
 -- the pages of all CPUs, from this one on

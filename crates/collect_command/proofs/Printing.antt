@@ -19,10 +19,10 @@ use Rattle.time_merge.specs.Walks.{TakesAll}
 use Rattle.capture.specs.Pages.{Page, intact, damaged, behind, unknown_from, damages_from}
 use Rattle.capture.specs.Captures.{AreDamages}
 use Rattle.capture.specs.declared.pages.Damaged.{Damaged}
-use Rattle.collect_inputs.specs.declared.captured.CpuCapture.{CpuCapture}
-use Rattle.collect_inputs.specs.Files.{ModelPart, parts_of_cpu}
-use Rattle.collect_inputs.specs.Captures.{measured}
-use Rattle.collect_inputs.specs.Losses.{are_intact}
+use Rattle.capture.specs.declared.files.captured.CpuCapture.{CpuCapture}
+use Rattle.capture.specs.files.Files.{ModelPart, parts_of_cpu}
+use Rattle.capture.specs.files.Captures.{measured}
+use Rattle.capture.specs.files.Losses.{are_intact}
 use Rattle.capture_text.specs.declared.form.Form.{Form}
 use Rattle.capture_text.specs.declared.printer.Printer.{Printer}
 use Rattle.capture_text.specs.Printing.{record_line, unknown_lines, damaged_lines}

@@ -5,8 +5,8 @@ use Rattle.text_model.specs.Text.{line_feed}
 use Rattle.trace_dat.specs.declared.fault.Cause.{Cause}
 use Rattle.trace_dat.specs.declared.fault.Cause.TheVariants.{Cut, NotTraceDat, BadVersion, OtherMachine, Compressed}
 use Rattle.trace_dat.specs.declared.fault.Cause.TheVariants.{Misplaced, OutsideFile, Backward}
-use Rattle.collect_inputs.specs.declared.fault.FileFault.{FileFault}
-use Rattle.collect_inputs.specs.declared.fault.FileFault.TheVariants.{Format, BadCpu, BadPage, Overlap}
+use Rattle.capture.specs.declared.files.fault.FileFault.{FileFault}
+use Rattle.capture.specs.declared.files.fault.FileFault.TheVariants.{Format, BadCpu, BadPage, Overlap}
 
 -- what is wrong with a file of trace-cmd
 abbrev pub cause_text : Cause → List ℕ

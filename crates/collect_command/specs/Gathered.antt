@@ -2,10 +2,10 @@
 use Rattle.std.specs.Prelude.{◌≡◌, ℕ, suc, List, [], ◌∷◌, map, Option, ⊤}
 use Rattle.capture.specs.Pages.{Page}
 use Rattle.capture.specs.Captures.{IsCapture}
-use Rattle.collect_inputs.specs.declared.captured.CpuCapture.{CpuCapture}
-use Rattle.collect_inputs.specs.Files.{ModelPart, parts_of_cpu}
-use Rattle.collect_inputs.specs.Captures.{CutsOf, FitCpu, measured}
-use Rattle.collect_inputs.specs.Losses.{settled}
+use Rattle.capture.specs.declared.files.captured.CpuCapture.{CpuCapture}
+use Rattle.capture.specs.files.Files.{ModelPart, parts_of_cpu}
+use Rattle.capture.specs.files.Captures.{CutsOf, FitCpu, measured}
+use Rattle.capture.specs.files.Losses.{settled}
 
 -- the pages of a CPU's parts, with what the counters say of their losses; its numbers fit
 pub record AreCpuPages (overrun : Option ℕ) (parts : List ModelPart) (own : List Page) : Type 0 where

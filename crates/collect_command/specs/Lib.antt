@@ -4,3 +4,5 @@ pub mod Gathered
 pub mod Listings
 pub mod Runs
 pub mod Asking
+pub mod streams
+pub mod recovery

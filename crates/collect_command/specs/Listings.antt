@@ -7,9 +7,9 @@ use Rattle.command_io.specs.Written.{IsTextWritten}
 use Rattle.capture.specs.Pages.{Page, unknown_from, damages_from}
 use Rattle.capture.specs.Rings.{parcels_of_captures}
 use Rattle.collector_text.specs.Prints.{IsPrintOf}
-use Rattle.collect_inputs.specs.Files.{ModelPart, parts_of_cpu}
-use Rattle.collect_inputs.specs.Captures.{measured}
-use Rattle.collect_inputs.specs.Losses.{are_intact}
+use Rattle.capture.specs.files.Files.{ModelPart, parts_of_cpu}
+use Rattle.capture.specs.files.Captures.{measured}
+use Rattle.capture.specs.files.Losses.{are_intact}
 use Rattle.capture_text.specs.declared.form.Form.{Form}
 use Rattle.capture_text.specs.Printing.{record_line, run_lines, unknown_lines, damaged_lines}
 use Rattle.collect_command.specs.declared.ending.Ending.{Ending}

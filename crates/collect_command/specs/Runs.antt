@@ -6,12 +6,12 @@ use Rattle.trace_dat.specs.Contents.{EventFormat}
 use Rattle.command_io.specs.declared.command.TheConstants.{MEMORY_LINE}
 use Rattle.command_io.specs.Written.{IsTextWritten}
 use Rattle.capture.specs.Pages.{Page}
-use Rattle.collect_inputs.specs.declared.captured.Input.{Input}
-use Rattle.collect_inputs.specs.declared.fault.InputFault.{InputFault}
-use Rattle.collect_inputs.specs.declared.fault.InputFault.TheVariants as faults
-use Rattle.collect_inputs.specs.Files.{File, ModelPart, ArePartsOf, all_formats, all_instances}
-use Rattle.collect_inputs.specs.Losses.{overrun_in}
-use Rattle.collect_inputs.specs.Inputs.{AreRead, IsUnread}
+use Rattle.capture.specs.declared.files.captured.Input.{Input}
+use Rattle.capture.specs.declared.files.fault.InputFault.{InputFault}
+use Rattle.capture.specs.declared.files.fault.InputFault.TheVariants as faults
+use Rattle.capture.specs.files.Files.{File, ModelPart, ArePartsOf, all_formats, all_instances}
+use Rattle.capture.specs.files.Losses.{overrun_in}
+use Rattle.capture.specs.files.Inputs.{AreRead, IsUnread}
 use Rattle.capture_text.specs.declared.form.Form.{Form}
 use Rattle.collect_command.specs.declared.ending.Collected.{Collected}
 use Rattle.collect_command.specs.declared.ending.Ending.{Ending}

@@ -3,10 +3,10 @@ ghost use Rattle.std.specs.Prelude.{◌≡◌, ◌<◌, ◌≤◌, ◌⊎◌, fa
 ghost use Rattle.std.specs.Prelude.{OnErr};
 ghost use Rattle.trace_model.specs.declared.limits.TheConstants.{MAX_CPUS};
 ghost use Rattle.trace_dat.specs.Contents.{EventFormat};
-ghost use Rattle.kernel_texts.specs.Names.{HasEvents};
+ghost use Rattle.trace_dat.specs.kernel_texts.Names.{HasEvents};
 ghost use Rattle.capture_text.specs.Printed.{AreNames};
-ghost use Rattle.collect_inputs.specs.Files.{File};
-ghost use Rattle.collect_inputs.specs.Captures.{AreCaptured};
+ghost use Rattle.capture.specs.files.Files.{File};
+ghost use Rattle.capture.specs.files.Captures.{AreCaptured};
 ghost use Rattle.collect_command.specs.Asking.{asked_by};
 ghost use Rattle.command_io.specs.Written.{IsTextWritten};
 ghost use Rattle.collect_command.specs.Runs.{ListsFiles, TellsFault, IsMemoryLine, IsCollectRun};
@@ -14,12 +14,12 @@ ghost use Rattle.collect_command.specs.Runs.{ListsFiles, TellsFault, IsMemoryLin
 use crate::ending::{Collected, Ending};
 use crate::fault_line::fault_line;
 use crate::listing::print_listing;
+use capture::files::{Captured, FileFault, Input, InputFault, Unread, read_inputs};
 use capture_text::Form;
-use collect_inputs::{Captured, FileFault, Input, InputFault, Unread, read_inputs};
 use command_io::{MEMORY_LINE, Sink, Source, write_text};
-use kernel_texts::EventNames;
 use std::alloc::Global;
 use trace_dat::Format;
+use trace_dat::kernel_texts::EventNames;
 use trace_model::NoMemory;
 
 /// The only line if the numbers of a CPU don't fit 64 bits.

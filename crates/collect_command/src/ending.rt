@@ -1,6 +1,6 @@
 //! How `collect` ends.
 
-use collect_inputs::FileFault;
+use capture::files::FileFault;
 use command_io::{DONE, END_FAILED, NO_MEMORY, REFUSED};
 
 /// How `collect` ends.

@@ -3,7 +3,7 @@ ghost use Rattle.std.specs.Prelude.{◌≡◌, ◌++◌, IfOk, OnOk};
 ghost use Rattle.std.specs.Fmt.{decimal};
 ghost use Rattle.collect_command.specs.Faults.{cause_text, fault_text, fault_line};
 
-use collect_inputs::FileFault;
+use capture::files::FileFault;
 use std::alloc::Global;
 use text_values::put_number;
 use trace_dat::Cause;

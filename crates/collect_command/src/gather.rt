@@ -4,13 +4,13 @@ ghost use Rattle.trace_model.specs.Collection.{Agree, IsSame};
 ghost use Rattle.page_numbers.specs.Parcels.{as_parcels};
 ghost use Rattle.capture.specs.Pages.{Page};
 ghost use Rattle.capture.specs.Rings.{parcels_of_captures};
-ghost use Rattle.collect_inputs.specs.Files.{ModelPart};
+ghost use Rattle.capture.specs.files.Files.{ModelPart};
 ghost use Rattle.collect_command.specs.Gathered.{AreReadFrom};
 
+use capture::files::CpuCapture;
 use capture::laws::captures_agree;
-use collect_inputs::CpuCapture;
 use collector::Collector;
-use deliveries::collect;
+use collector::deliveries::collect;
 use page_numbers::Parcel;
 use std::alloc::Global;
 use trace_model::NoMemory;

@@ -1,6 +1,6 @@
 //! That files have one listing.
 ghost use Rattle.std.specs.Prelude.{◌≡◌, false, ℕ, List, Some};
-ghost use Rattle.collect_inputs.specs.Files.{File};
+ghost use Rattle.capture.specs.files.Files.{File};
 ghost use Rattle.collect_command.specs.declared.ending.Ending.{Ending as EndingSeen};
 ghost use Rattle.collect_command.specs.Runs.{Asked, ListsFiles};
 

@@ -7,6 +7,8 @@ mod fault_line;
 mod gather;
 pub mod laws;
 mod listing;
+pub mod recovery;
+pub mod streams;
 
 pub use collect::{Collecting, collect_to};
 pub use ending::{Collected, Ending};

@@ -2,7 +2,7 @@
 ghost use Rattle.std.specs.Prelude.{◌≡◌, ◌==◌, false, List, Option, length, IfOk, OnErr};
 ghost use Rattle.trace_dat.specs.Contents.{EventFormat};
 ghost use Rattle.capture.specs.Pages.{Page};
-ghost use Rattle.collect_inputs.specs.Files.{ModelPart};
+ghost use Rattle.capture.specs.files.Files.{ModelPart};
 ghost use Rattle.capture_text.specs.Printed.{failed_of, AreNames, Prints};
 ghost use Rattle.collect_command.specs.Gathered.{AreReadFrom};
 ghost use Rattle.collect_command.specs.Listings.{all_unknown, all_damaged, are_all_intact, ending_of, IsListed};
@@ -10,12 +10,12 @@ ghost use Rattle.collect_command.specs.Listings.{all_unknown, all_damaged, are_a
 use crate::ending::Ending;
 use crate::gather::gather;
 use capture::Capture;
+use capture::files::CpuCapture;
 use capture_text::{Form, Printer};
-use collect_inputs::CpuCapture;
 use command_io::Sink;
-use kernel_texts::EventNames;
 use std::alloc::Global;
 use time_merge::walk_lines;
+use trace_dat::kernel_texts::EventNames;
 use trace_model::NoMemory;
 
 /// Prints the losses of unknown number of each CPU.

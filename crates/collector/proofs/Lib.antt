@@ -18,3 +18,5 @@ pub mod SideBySide
 pub mod Known
 pub mod CpuWalks
 pub mod Merging
+pub mod Searches
+pub mod Delivered

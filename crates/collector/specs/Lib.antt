@@ -11,3 +11,4 @@ pub mod Faults
 pub mod Adding
 pub mod Beside
 pub mod Merged
+pub mod deliveries

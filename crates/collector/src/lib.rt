@@ -10,6 +10,7 @@ mod beside;
 mod bounds;
 mod collector;
 mod cpus;
+pub mod deliveries;
 mod entries;
 mod fault;
 mod index;

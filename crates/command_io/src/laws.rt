@@ -4,7 +4,7 @@ ghost use Rattle.std.specs.Fmt.{decimal};
 
 use crate::command::MEMORY_LINE;
 use crate::input::READ_CHUNK;
-use crate::messages::{INPUT_TOO_LONG, READ_FAILED, USAGE_LINE, WRITE_FAILED};
+use crate::messages::{INPUT_TOO_LONG, READ_FAILED, WRITE_FAILED};
 use crate::output::THREAD_LINE;
 use crate::status::{DONE, END_FAILED, NO_MEMORY, REFUSED, USAGE};
 use trace_model::MAX_INPUT;
@@ -20,9 +20,6 @@ pub fn constants_are()
     ensures read_chunk { READ_CHUNK ≡ 65536 }
     ensures memory_line { MEMORY_LINE ≡ codes "memory" ++ 10 ∷ [] }
     ensures thread_line { THREAD_LINE.now ≡ codes "thread" ++ 10 ∷ [] }
-    ensures usage_line { USAGE_LINE.now ≡ codes "usage: tracering replay [--log] | run | dump | steps"
-        ++ codes " | collect [--page BYTES] [--names] [--formats DIR] [--json] [--keep KEPT] [--parcels] FILE.."
-        ++ codes " | recover [--json] [--keep KEPT] FILE.." }
     ensures read_failed { READ_FAILED.now ≡ codes "tracering: reading failed" }
     ensures write_failed { WRITE_FAILED.now ≡ codes "tracering: writing failed" }
     ensures input_too_long { INPUT_TOO_LONG.now

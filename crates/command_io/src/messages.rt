@@ -7,13 +7,6 @@ use crate::status::{END_FAILED, USAGE};
 use std::io::{Read, Write};
 use trace_model::MAX_INPUT;
 
-/// How the program is called.
-pub const USAGE_LINE: &str = concat!(
-    "usage: tracering replay [--log] | run | dump | steps",
-    " | collect [--page BYTES] [--names] [--formats DIR] [--json] [--keep KEPT] [--parcels] FILE..",
-    " | recover [--json] [--keep KEPT] FILE..",
-);
-
 /// The input couldn't be read to its end.
 pub const READ_FAILED: &str = "tracering: reading failed";
 
@@ -71,14 +64,15 @@ impl EndFault {
     }
 }
 
-/// The line of standard error for an exit status and the ends of the command that gave it. There is none if the work is
-/// done, or if what is wrong was printed.
+/// The line of standard error for an exit status and the ends of the command that gave it: for [`USAGE`] the program's
+/// usage line. There is none if the work is done, or if what is wrong was printed.
 pub fn message_for<R: Read, W: Write>(
+    usage: &'static str,
     status: u8,
     input: &Std<R>,
     output: &Std<W>,
 ) -> Option<&'static str>
-    ensures usage { status ≡ USAGE → MatchOption result ⊥ (λ line. line.now ≡ USAGE_LINE.now) }
+    ensures usage { status ≡ USAGE → MatchOption result ⊥ (λ line. line.now ≡ usage.now) }
     ensures read { status ≡ END_FAILED → has_failed input.now ≡ true
         → MatchOption result ⊥ (λ line. line.now ≡ READ_FAILED.now) }
     ensures write { status ≡ END_FAILED → has_failed input.now ≡ false → has_failed output.now ≡ true
@@ -90,7 +84,7 @@ pub fn message_for<R: Read, W: Write>(
     ensures none { status ≢ USAGE → status ≢ END_FAILED → result ≡ None }
 {
     match status {
-        USAGE => Some(USAGE_LINE),
+        USAGE => Some(usage),
         END_FAILED => EndFault::of_ends(input, output).map(|fault| fault.message()),
         _ => None,
     }

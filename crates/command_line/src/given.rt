@@ -6,7 +6,7 @@ ghost use Rattle.command_line.specs.declared.call.CollectCall.{CollectCall};
 
 use crate::call::{Call, CallFault};
 use crate::parse::call_of;
-use process_words::WordsFault;
+use command_io::WordsFault;
 use std::alloc::Global;
 
 /// What these words ask for, by [`call_of`], if they could be given.

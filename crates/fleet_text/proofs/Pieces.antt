@@ -1,8 +1,8 @@
 -- Lines of pieces, part by part.
 use Rattle.std.proofs.Common.{◌≡◌, ℕ, Bool, List, ◌++◌, append_assoc, subst}
 use Rattle.std.specs.Prelude.{Option}
-use Rattle.text_buffer.specs.declared.buffer.TextBuffer.{TextBuffer}
-use Rattle.text_buffer.specs.Putting.{HasPut}
+use Rattle.text_values.specs.declared.buffer.TextBuffer.{TextBuffer}
+use Rattle.text_values.specs.Putting.{HasPut}
 
 -- the text is also this one
 pub put_as : (start contents : Option (List ℕ)) (failed : Bool) (text same : List ℕ) (buffer : TextBuffer) → text ≡ same

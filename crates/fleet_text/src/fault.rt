@@ -1,7 +1,7 @@
 //! The line of a fault.
 ghost use Rattle.std.specs.Prelude.{◌≡◌, ◌++◌, codes};
 ghost use Rattle.std.specs.Fmt.{decimal};
-ghost use Rattle.text_buffer.specs.Putting.{has_failed, Puts};
+ghost use Rattle.text_values.specs.Putting.{has_failed, Puts};
 ghost use Rattle.fleet_text.specs.Faults.{word_fault_name, image_fault_name, parcel_fault_name, piece_fault_name};
 ghost use Rattle.fleet_text.specs.Faults.{refused_by_parcels, refused_parcel, refused_mark, trouble_text, fault_line};
 ghost use Rattle.fleet_text.specs.Faults.{numbered_cpu, is_no_memory, is_memory_fault, is_memory_refusal};
@@ -14,7 +14,7 @@ use page_numbers::ParcelFault;
 use parcel_streams::{PieceFault, StreamId};
 use record_words::WordFault;
 use stream_collector::{AddFault, MarkFault};
-use text_buffer::TextBuffer;
+use text_values::TextBuffer;
 use trace_model::{CpuId, RecordNo};
 
 /// Why nothing is made of the next piece of an input.

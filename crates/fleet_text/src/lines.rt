@@ -2,7 +2,7 @@
 ghost use Rattle.std.specs.Prelude.{◌≡◌, ◌++◌, map, flat_map};
 ghost use Rattle.std.specs.Fmt.{decimal};
 ghost use Rattle.text_model.specs.Text.{hex_text};
-ghost use Rattle.text_buffer.specs.Putting.{has_failed, Puts};
+ghost use Rattle.text_values.specs.Putting.{has_failed, Puts};
 ghost use Rattle.fleet_collector.specs.Lines.{line_seen};
 ghost use Rattle.fleet_text.specs.Runs.{run_seen};
 ghost use Rattle.fleet_text.specs.Printing.{id_text, cpu_text, json_cpu, record_line, kind_name, run_line};
@@ -12,7 +12,7 @@ use capture_text::Form;
 use command_io::Sink;
 use fleet_collector::FleetLine;
 use parcel_streams::StreamId;
-use text_buffer::TextBuffer;
+use text_values::TextBuffer;
 use trace_model::CpuId;
 
 /// Puts a number after a text.

@@ -7,7 +7,7 @@ use capture_text::Form;
 use command_io::Sink;
 use fleet_collector::{Fleet, FleetLine};
 use std::alloc::Global;
-use text_buffer::TextBuffer;
+use text_values::TextBuffer;
 use trace_model::NoMemory;
 
 /// What is printed of a fleet: its records, and the runs of its numbers that are missing, unknown, undelivered or
@@ -23,7 +23,7 @@ pub struct Listed<'a> {
 
 impl<'a> Listed<'a> {
     ghost use Rattle.std.specs.Prelude.{◌≡◌, IfOk};
-    ghost use Rattle.text_buffer.specs.Putting.{has_failed, Puts};
+    ghost use Rattle.text_values.specs.Putting.{has_failed, Puts};
     ghost use Rattle.fleet_text.specs.Listed.{shown_of, shown_text, IsFleetShown};
 
     /// What is printed of this fleet. Nothing that is done with it takes memory.

@@ -1,6 +1,6 @@
 //! The lines of pieces.
 ghost use Rattle.std.specs.Prelude.{◌≡◌};
-ghost use Rattle.text_buffer.specs.Putting.{has_failed, Puts};
+ghost use Rattle.text_values.specs.Putting.{has_failed, Puts};
 ghost use Rattle.page_numbers.specs.Parcels.{as_parcel};
 ghost use Rattle.parcel_streams.specs.Answers.{piece_seen};
 ghost use Rattle.fleet_text.specs.Pieces.{place_text, json_place, mark_name, mark_numbers, json_mark_numbers};
@@ -12,7 +12,7 @@ use capture_text::Form;
 use command_io::Sink;
 use page_numbers::Parcel;
 use parcel_streams::{Mark, Piece, StreamId};
-use text_buffer::TextBuffer;
+use text_values::TextBuffer;
 use trace_model::CpuId;
 
 /// Where a piece is.

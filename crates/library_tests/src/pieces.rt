@@ -4,7 +4,7 @@ ghost use Rattle.std.specs.Prelude.{◌≡◌, false};
 use crate::streams::STREAM;
 use command_io::{Source, Std};
 use parcel_streams::PieceFault;
-use piece_source::{Peeked, PieceReader, ReadPieceFault};
+use parcel_streams::source::{Peeked, PieceReader, ReadPieceFault};
 use std::io;
 use std::io::{ErrorKind, Read};
 use std::process::Abort;

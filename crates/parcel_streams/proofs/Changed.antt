@@ -4,10 +4,10 @@ use Rattle.std.proofs.Common.{refl, sym, ap, ◌∙◌, subst, arith, append-nil
 use Rattle.std.proofs.lemmas.List.{take_at, drop_at, get_or-take, get_or-drop, get_or_past}
 use Rattle.std.proofs.lemmas.Bool.{cases_lt}
 use Rattle.std.proofs.lemmas.Grind.{same_number_lists}
-use Rattle.crc32c.specs.Castagnoli.{crc32c}
-use Rattle.crc32c.specs.Changes.{DifferAt}
-use Rattle.crc32c.proofs.Changes.{index_differs}
-use Rattle.crc32c.proofs.Sums.{crc32c-lt}
+use Rattle.parcel_streams.specs.crc32c.Castagnoli.{crc32c}
+use Rattle.parcel_streams.specs.crc32c.Changes.{DifferAt}
+use Rattle.parcel_streams.proofs.Changes.{index_differs}
+use Rattle.parcel_streams.proofs.Checksums.{crc32c-lt}
 use Rattle.trace_model.specs.Image.{le64, from_le64}
 use Rattle.trace_model.proofs.words.OneWord.{AreBytes-take}
 use Rattle.trace_model.proofs.images.ImageParts.{from_le64-take, from_le64-le64}

@@ -2,7 +2,7 @@
 use Rattle.std.proofs.Common.{◌≡◌, ◌⊎◌, ⊎_elim, ◌↔◌, ℕ, ◌+◌, ◌-◌, ◌/◌, ◌%◌, ◌^◌, ◌<◌, ◌≤◌, List, ◌++◌, length, take}
 use Rattle.std.proofs.Common.{drop, sym, ap, ◌∙◌, subst, arith, append_assoc, length-append, length-drop}
 use Rattle.std.proofs.lemmas.List.{take-append-le, drop-append-le, take_all}
-use Rattle.crc32c.specs.Castagnoli.{crc32c}
+use Rattle.parcel_streams.specs.crc32c.Castagnoli.{crc32c}
 use Rattle.trace_model.specs.FirstFault.{AreBytes}
 use Rattle.trace_model.specs.Image.{le64, from_le64}
 use Rattle.trace_model.specs.ParcelBytes.{FirstParcelFault}

@@ -3,7 +3,7 @@ use Rattle.std.proofs.Common.{◌≡◌, ℕ, ◌+◌, ◌-◌, ◌*◌, ◌/◌
 use Rattle.std.proofs.Common.{ap, ◌∙◌, arith, append_assoc, length-append, length-drop, length-take-le}
 use Rattle.std.proofs.Common.{take-append-drop}
 use Rattle.std.proofs.lemmas.List.{take_at, drop_at, drop-drop, take_all}
-use Rattle.crc32c.specs.Castagnoli.{crc32c}
+use Rattle.parcel_streams.specs.crc32c.Castagnoli.{crc32c}
 use Rattle.trace_model.specs.FirstFault.{AreBytes}
 use Rattle.trace_model.specs.Image.{le64, from_le64}
 use Rattle.trace_model.proofs.words.OneWord.{AreBytes-drop}

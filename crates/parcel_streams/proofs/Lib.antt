@@ -11,3 +11,11 @@ pub mod Streams
 mod Steps
 pub mod Decided
 mod Changed
+pub mod Bits
+pub mod Bytes
+pub mod Changes
+pub mod Entries
+pub mod Checksums
+pub mod Left
+pub mod Given
+pub mod Peeks

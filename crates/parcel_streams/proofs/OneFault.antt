@@ -3,7 +3,7 @@ use Rattle.std.proofs.Common.{◌≡◌, ◌≢◌, ◌⊎◌, inl, inr, ⊎_eli
 use Rattle.std.proofs.Common.{sym, ap, subst, arith}
 use Rattle.std.proofs.lemmas.Bool.{cases_lt}
 use Rattle.std.proofs.lemmas.Bool.Decides.{eqb_tells}
-use Rattle.crc32c.specs.Castagnoli.{crc32c}
+use Rattle.parcel_streams.specs.crc32c.Castagnoli.{crc32c}
 use Rattle.trace_model.specs.FirstFault.{AreBytes}
 use Rattle.trace_model.specs.Image.{le64, from_le64, commit_word, commit_of}
 use Rattle.trace_model.specs.Parcel.{Parcel as ParcelSeen}

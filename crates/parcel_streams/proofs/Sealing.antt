@@ -1,6 +1,6 @@
 -- A piece that is put together, part by part.
 use Rattle.std.proofs.Common.{◌≡◌, ℕ, ◌+◌, ◌*◌, ◌^◌, List, [], ◌++◌, length, ap, ◌∙◌, append_assoc}
-use Rattle.crc32c.specs.Castagnoli.{crc32c}
+use Rattle.parcel_streams.specs.crc32c.Castagnoli.{crc32c}
 use Rattle.trace_model.specs.Image.{le64}
 use Rattle.parcel_streams.specs.Pieces.{magic, unsealed, sealed}
 

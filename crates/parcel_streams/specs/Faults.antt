@@ -1,7 +1,7 @@
 -- What is wrong with a stream: the first fault of its first piece that can't be read. A fault excludes those before it.
 use Rattle.std.specs.Prelude.{◌≡◌, ◌≢◌, ℕ, ◌-◌, ◌/◌, ◌%◌, ◌^◌, ◌<◌, ◌≤◌, ◌⊎◌, ◌==◌, if◌then◌else◌, List, ◌++◌, length}
 use Rattle.std.specs.Prelude.{take, drop}
-use Rattle.crc32c.specs.Castagnoli.{crc32c}
+use Rattle.parcel_streams.specs.crc32c.Castagnoli.{crc32c}
 use Rattle.trace_model.specs.Image.{le64, from_le64}
 use Rattle.trace_model.specs.Parcel.{Parcel}
 use Rattle.trace_model.specs.ParcelBytes.{bytes_of_parcel, DecodesParcel, ParcelCause, FirstParcelFault}

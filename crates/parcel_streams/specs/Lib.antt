@@ -1,3 +1,5 @@
 pub mod Pieces
 pub mod Faults
 pub mod Answers
+pub mod crc32c
+pub mod source

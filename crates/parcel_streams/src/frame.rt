@@ -1,16 +1,16 @@
 //! What all pieces have: a head, and a checksum of all bytes before it.
 ghost use Rattle.std.specs.Prelude.{◌≡◌, ◌<◌, ◌≤◌, ◌↔◌, IsTrue, IfOk, IfErr, OnOk, OnErr, length};
 ghost use Rattle.trace_model.specs.Image.{le64};
-ghost use Rattle.crc32c.specs.Castagnoli.{crc32c as sum_of};
+ghost use Rattle.parcel_streams.specs.crc32c.Castagnoli.{crc32c as sum_of};
 ghost use Rattle.parcel_streams.specs.Pieces.{magic};
 ghost use Rattle.parcel_streams.specs.Faults.{HasMagic, HasLength, length_in, IsWhole, IsDecided, IsWanted, sum_in};
 ghost use Rattle.parcel_streams.specs.Faults.{summed_in};
 ghost use Rattle.parcel_streams.specs.Answers.{IsPieceFault, HasFrame};
 
+use crate::crc32c::crc32c;
 use crate::fault::PieceFault;
 use crate::limits::{HEAD, MAX_PIECE, MIN_PIECE, SUM};
 use crate::piece::StreamId;
-use crc32c::crc32c;
 use page_image::number_at;
 
 /// The letters with which each piece begins.

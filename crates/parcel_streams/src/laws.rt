@@ -1,6 +1,6 @@
 //! Laws over streams of parcels.
 ghost use Rattle.std.specs.Prelude.{◌≡◌, ℕ, ◌+◌, ◌<◌, ◌≤◌, ◌⊎◌, ◌↔◌, ◌++◌, List, length, take};
-ghost use Rattle.crc32c.specs.Changes.{DifferAt};
+ghost use Rattle.parcel_streams.specs.crc32c.Changes.{DifferAt};
 ghost use Rattle.trace_model.specs.FirstFault.{AreBytes};
 ghost use Rattle.trace_model.specs.Parcel.{Parcel as ParcelSeen};
 ghost use Rattle.trace_model.specs.ParcelBytes.{DecodesParcel};

@@ -6,6 +6,7 @@
 #![tactic(auto)]
 
 mod body;
+pub mod crc32c;
 mod fault;
 mod frame;
 pub mod laws;
@@ -13,6 +14,7 @@ mod limits;
 mod pack;
 mod piece;
 mod read;
+pub mod source;
 
 pub use fault::{PieceFault, StreamFault};
 pub use frame::{is_stream, wanted};

@@ -6,10 +6,10 @@ ghost use Rattle.parcel_streams.specs.Pieces.{sealed, bytes_of_piece, mark_piece
 ghost use Rattle.parcel_streams.specs.Answers.{piece_of_parcel};
 
 use crate::body::PARCEL;
+use crate::crc32c::crc32c;
 use crate::frame::{KIND, MAGIC, VERSION};
 use crate::limits::{HEAD, PARCEL_HEAD, RUN_BODY, SUM};
 use crate::piece::{Mark, StreamId, UNDELIVERED};
-use crc32c::crc32c;
 use page_numbers::Parcel;
 use std::alloc::{AllocError, Global};
 use trace_model::{CpuId, NoMemory};

@@ -5,8 +5,7 @@ ghost use Rattle.replay_cli.specs.Words.{AskForOther, AskForReplay};
 ghost use Rattle.replay_command.specs.Commands.{ReplayGives};
 
 use crate::words::log_asked;
-use command_io::{Sink, Source, USAGE, print_memory_line};
-use process_words::WordsFault;
+use command_io::{Sink, Source, USAGE, WordsFault, print_memory_line};
 use replay_command::replay_to;
 use std::alloc::Global;
 

@@ -6,8 +6,8 @@ mod answer;
 mod words;
 
 use crate::answer::answer_to;
-use command_io::{Std, message_for};
-use process_words::given_words;
+use crate::words::USAGE_LINE;
+use command_io::{Std, given_words, message_for};
 use std::process::ExitCode;
 
 // What is chosen here, `answer_to` and `message_for` say. The rest has no contract: that the line goes to standard
@@ -17,7 +17,7 @@ fn main(rt: HostRuntime) -> ExitCode {
     let mut output = Std::new(rt.stdout());
     let words = given_words(&rt);
     let status = answer_to(rt.alloc(), &words, &mut input, &mut output);
-    if let Some(line) = message_for(status, &input, &output) {
+    if let Some(line) = message_for(USAGE_LINE, status, &input, &output) {
         let _ = eprintln!(rt; "{line}");
     }
     ExitCode::from(status)

@@ -5,6 +5,9 @@ ghost use Rattle.replay_cli.specs.Words.{AreOptions, AskForReplay};
 
 use std::convert::AsStr;
 
+/// The line of standard error for words that ask for anything else.
+pub(crate) const USAGE_LINE: &str = "usage: tracering replay [--log]";
+
 /// Whether these options of `replay` ask for its log, if they can be read.
 fn log_among<S: AsStr>(options: &[S]) -> Option<bool>
     ensures asked { (log : Bool) → AreOptions log (map S.text options.now) → result ≡ Some log }

@@ -7,8 +7,7 @@ use Rattle.text_model.specs.Printing.{printed_fault}
 use Rattle.text_model.specs.Script.{Script}
 use Rattle.text_model.specs.ScriptLimits.{IsWithinLimits}
 use Rattle.text_model.proofs.Readings.{same_ok, same_err, ok_is_no_err}
-use Rattle.text_model.proofs.ParsedLimits.{ParsesScript-within}
-use Rattle.text_model.proofs.ScriptReads.{script_reads}
+use Rattle.text_model.proofs.ReadLimits.{script_in-within}
 use Rattle.text_model.specs.ScriptReading.{script_in}
 use Rattle.world_model.specs.World.{World}
 use Rattle.world_model.specs.GenuineWorlds.{IsGenuineWorld}
@@ -43,10 +42,6 @@ given_by_cases asked text bytes status (inr a) =
     (a.printed, a.refused)
 
 -- ---- one output
-
--- the script that a text spells is within its limits
-pub script_in-within : (text : List ℕ) (script : Script) → script_in text ≡ Ok script → IsWithinLimits script
-script_in-within text script h = ParsesScript-within text script ((script_reads text script).1 h)
 
 -- a script has one world, whose collectors have one text
 one_printing : (script : Script) (asked : Bool) (bytes others : List ℕ) → IsWithinLimits script

@@ -9,8 +9,8 @@ use Rattle.text_model.specs.Script.{Script}
 use Rattle.world_model.specs.Printing.{Shown, printed_world}
 use Rattle.collector_text.specs.Prints.{IsPrintOf}
 use Rattle.collector_text.proofs.OneText.{same_are_reported}
-use Rattle.log_text.specs.declared.line.LogLine as logged
-use Rattle.log_text.specs.LogTypes.{shown_log}
+use Rattle.script_replay.specs.declared.log.line.LogLine as logged
+use Rattle.script_replay.specs.log.LogTypes.{shown_log}
 use Rattle.script_replay.specs.Replay.{IsHeadline}
 use Rattle.replay_command.specs.Commands.{IsPrinting}
 

@@ -1,23 +1,20 @@
 //! The command `replay`: a script in, the printing of its world out.
-ghost use Rattle.std.specs.Prelude.{◌≡◌, ◌∷◌, ◌++◌, [], List, false, IfOk, IfErr};
+ghost use Rattle.std.specs.Prelude.{◌≡◌, List, false, IfOk};
 ghost use Rattle.std.specs.List.{AllZip};
-ghost use Rattle.text_model.specs.Script.{ParsesScript};
-ghost use Rattle.text_model.specs.ScriptReading.{script_in};
 ghost use Rattle.world_model.specs.Printing.{Shown, printed_world};
 ghost use Rattle.collector_text.specs.Prints.{IsPrintOf};
 ghost use Rattle.command_io.specs.CommandRun.{IsCommandRun, WritesOutput, source_run, sink_run};
 ghost use Rattle.command_io.specs.Output.{bytes_of, status_of};
-ghost use Rattle.trace_script.specs.ScriptFaults.{GivesAt, ReportsFirstFault, script_fault_text};
-ghost use Rattle.log_text.specs.LogTypes.{shown_log};
+ghost use Rattle.script_replay.specs.log.LogTypes.{shown_log};
 ghost use Rattle.replay_command.specs.Commands.{AccountGives, IsPrinting, ReplayGives};
 
 use collector_text::put_collectors;
 use command_io::{DONE, Output, Sink, Source, Subcommand, carry_out};
-use log_text::put_log;
+use script_replay::log::put_log;
 use script_replay::{World, world_of};
 use std::alloc::Global;
 use trace_model::NoMemory;
-use trace_script::{Script, ScriptFault, put_fault, read_script};
+use trace_script::{Script, ScriptFault, fault_line, read_text};
 
 /// The printing of a world: the log, if it is asked for, and the collectors. The log is given back before the
 /// collectors are printed.
@@ -48,15 +45,6 @@ fn print_replay(alloc: Global, script: Script, log: bool) -> Result<Vec<u8>, NoM
     Ok(text)
 }
 
-/// The line that states a script's fault.
-pub fn fault_line(alloc: Global, fault: ScriptFault) -> Result<Vec<u8>, NoMemory>
-    ensures { IfOk result (λ line. line.items ≡ script_fault_text fault ++ 10 ∷ []) }
-{
-    let mut line = Vec::new(alloc);
-    put_fault(&mut line, fault)?;
-    Ok(line)
-}
-
 /// The command `replay`, with the log if it is asked for.
 #[derive(Drop)]
 struct ReplayCommand {
@@ -69,15 +57,6 @@ impl Subcommand for ReplayCommand {
     fn output(&self, alloc: Global, text: Vec<u8>) -> Result<Output, NoMemory> {
         replay_output(alloc, text, self.log)
     }
-}
-
-/// The script that a text spells, or its first fault. The text is given back.
-pub fn read_text(alloc: Global, text: Vec<u8>) -> Result<Script, ScriptFault>
-    ensures reading { GivesAt (λ script. script) result (script_in text.items) }
-    ensures script { IfOk result (λ script. ParsesScript text.items script) }
-    ensures fault { IfErr result (λ fault. ReportsFirstFault text.items fault) }
-{
-    read_script(alloc, text.as_slice())
 }
 
 /// What is printed for a script, with the exit status.

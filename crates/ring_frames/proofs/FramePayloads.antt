@@ -1,4 +1,4 @@
--- A list that is kept with the top frame's value last and shown with it first, as `script_replay` and `writer_thread`
+-- A list that is kept with the top frame's value last and shown with it first, as `script_replay` and `trace_run`
 -- keep the payloads of frames.
 use Rattle.std.proofs.Common.{◌≡◌, ℕ, ◌-◌, List, ◌++◌, length, take, drop, reverse, map, sym, ap, ◌∙◌, arith}
 use Rattle.std.proofs.lemmas.List.{reverse-append, length-reverse, length-drop, take-append-drop, take-map, drop_at}

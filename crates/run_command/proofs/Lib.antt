@@ -1,1 +1,3 @@
 mod RunHeadlines
+pub mod Answered
+pub mod OneRun

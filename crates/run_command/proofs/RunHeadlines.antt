@@ -28,17 +28,17 @@ use Rattle.collector.specs.Runs.{AreRuns}
 use Rattle.collector_text.specs.Prints.{IsPrintOf}
 use Rattle.command_io.specs.CommandRun.{SourceRun, SinkRun, WritesOutput, IsCommandRun}
 use Rattle.command_io.specs.declared.status.TheConstants.{DONE, REFUSED, END_FAILED}
-use Rattle.ledger_audit.specs.declared.ledger.Ledger.{Ledger}
-use Rattle.ledger_audit.specs.Audit.{taken_of, taken_in, IsAudited}
-use Rattle.ledger_audit.specs.Order.{AreOwn}
-use Rattle.ledger_audit.specs.Headline.{IsKept, IsUnknown, IsAuditHeadline}
-use Rattle.ledger_audit.proofs.Flat.{of_one, of_all, in_own}
-use Rattle.ledger_audit.proofs.Sums.{own, is_sum, headline}
-use Rattle.run_text.specs.Verdicts.{Verdict, IsVerdict}
-use Rattle.run_text.specs.Printing.{AuditedShown, IsAuditedPrintOf}
-use Rattle.threaded_run.specs.declared.running.Ran.{Ran}
-use Rattle.threaded_run.specs.Runs.{IsRunHistory, IsOneRunOf, IsRunLedger, ring_of, IsRunOfScript}
-use Rattle.reader_thread.specs.Ledgers.{writer_in, reader_in}
+use Rattle.trace_run.specs.declared.ledgers.ledger.Ledger.{Ledger}
+use Rattle.trace_run.specs.ledgers.Audit.{taken_of, taken_in, IsAudited}
+use Rattle.trace_run.specs.ledgers.Order.{AreOwn}
+use Rattle.trace_run.specs.ledgers.Headline.{IsKept, IsUnknown, IsAuditHeadline}
+use Rattle.trace_run.proofs.Flat.{of_one, of_all, in_own}
+use Rattle.trace_run.proofs.Sums.{own, is_sum, headline}
+use Rattle.run_command.specs.text.Verdicts.{Verdict, IsVerdict}
+use Rattle.run_command.specs.text.Printing.{AuditedShown, IsAuditedPrintOf}
+use Rattle.trace_run.specs.declared.threaded.running.Ran.{Ran}
+use Rattle.trace_run.specs.threaded.Runs.{IsRunHistory, IsOneRunOf, IsRunLedger, ring_of, IsRunOfScript}
+use Rattle.trace_run.specs.readers.Ledgers.{writer_in, reader_in}
 use Rattle.run_command.specs.Runs.{IsRunPrinting, IsRunOutput, RunGives, IsRingRun, IsRunHeadline, HeadlineGives}
 
 -- a parcel's CPU and fill

@@ -8,11 +8,11 @@ use Rattle.text_model.specs.Script.{Script, ParsesScript}
 use Rattle.world_model.specs.RunEvents.{AreEventsOfSteps}
 use Rattle.line_model.specs.WriterCalls.{exchanges_to}
 use Rattle.line_model.specs.Shown.{IsShownOf}
-use Rattle.ledger_audit.specs.Audit.{taken_in}
-use Rattle.threaded_run.specs.Runs.{IsRunHistory, IsOneRunOf, IsRunOfScript}
-use Rattle.threaded_run.specs.declared.running.Ran.{Ran}
-use Rattle.run_text.specs.Verdicts.{yes}
-use Rattle.run_text.specs.Printing.{AuditedShown, IsAuditedPrintOf, printed_run}
+use Rattle.trace_run.specs.ledgers.Audit.{taken_in}
+use Rattle.trace_run.specs.threaded.Runs.{IsRunHistory, IsOneRunOf, IsRunOfScript}
+use Rattle.trace_run.specs.declared.threaded.running.Ran.{Ran}
+use Rattle.run_command.specs.text.Verdicts.{yes}
+use Rattle.run_command.specs.text.Printing.{AuditedShown, IsAuditedPrintOf, printed_run}
 use Rattle.command_io.specs.declared.output.TheConstants.{THREAD_LINE}
 use Rattle.command_io.specs.declared.status.TheConstants.{DONE, END_FAILED}
 use Rattle.replay_command.specs.Commands.{PrintsFault}

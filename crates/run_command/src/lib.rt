@@ -2,5 +2,6 @@
 #![tactic(auto)]
 
 mod running;
+pub mod text;
 
 pub use running::run_to;

@@ -4,21 +4,20 @@ ghost use Rattle.std.specs.List.{AllZip};
 ghost use Rattle.std.specs.Thread.{IsSync};
 ghost use Rattle.command_io.specs.CommandRun.{IsCommandRun, WritesOutput, source_run, sink_run};
 ghost use Rattle.command_io.specs.Output.{bytes_of, status_of};
-ghost use Rattle.ledger_audit.specs.Audit.{taken_in};
-ghost use Rattle.run_text.specs.Printing.{AuditedShown, IsAuditedPrintOf, printed_run};
-ghost use Rattle.threaded_run.specs.Runs.{IsRunOfScript};
+ghost use Rattle.trace_run.specs.ledgers.Audit.{taken_in};
+ghost use Rattle.run_command.specs.text.Printing.{AuditedShown, IsAuditedPrintOf, printed_run};
+ghost use Rattle.trace_run.specs.threaded.Runs.{IsRunOfScript};
 ghost use Rattle.run_command.specs.Runs.{IsRunOutput, RunGives, HeadlineGives};
 
+use crate::text::put_run;
 use command_io::{DONE, Output, Sink, Source, Subcommand, carry_out};
-use replay_command::{fault_line, read_text};
-use run_text::put_run;
 use std::alloc::Global;
 use std::sync::Wait;
 use std::thread::Threads;
-use threaded_run::{Ran, run};
 use trace_model::NoMemory;
-use trace_script::{ReplayFault, Script, ScriptFault};
-use writer_thread::OpenGate;
+use trace_run::threaded::{Ran, run};
+use trace_run::writers::OpenGate;
+use trace_script::{ReplayFault, Script, ScriptFault, fault_line, read_text};
 
 /// What a run of the script leaves, or nothing if a thread can't be started.
 fn ran<R: Threads + Wait + Sync>(

@@ -5,12 +5,12 @@ ghost use Rattle.ring_shared.specs.Calls.{IsWriter};
 ghost use Rattle.ring_shared.specs.Takes.{SameRing};
 
 use page_numbers::Parcel;
-use reader_thread::{Found, Ledger, ReaderEnd, settle};
 use ring_shared::{Writer, ring};
 use std::alloc::Global;
 use std::process::Abort;
 use std::test::Fail;
 use trace_model::{CpuId, NoMemory};
+use trace_run::readers::{Found, Ledger, ReaderEnd, settle};
 
 /// The bytes of data of a page, which four records of four bytes of payload fill.
 const SIZE: usize = 32;

@@ -12,7 +12,7 @@ use Rattle.text_model.specs.ScriptLimits.{IsWithinLimits}
 use Rattle.world_model.specs.World.{World}
 use Rattle.world_model.specs.GenuineWorlds.{IsGenuineWorld}
 use Rattle.world_model.proofs.GenuineWorlds.{world_genuine, taken_agree}
-use Rattle.log_text.specs.declared.line.LogLine.{LogLine}
+use Rattle.script_replay.specs.declared.log.line.LogLine.{LogLine}
 use Rattle.script_replay.specs.declared.replaying.ReplayState.{ReplayState}
 use Rattle.script_replay.specs.Replay.{IsStateAfter, IsReplay, AreExact, AreAlike, Join, IsHeadline}
 

@@ -20,8 +20,8 @@ use Rattle.world_model.proofs.LineEnds.{frame_runs_short}
 use Rattle.ring_frames.specs.declared.answer.Answer.{Answer}
 use Rattle.ring_frames.specs.Answers.{IsAnswerOf}
 use Rattle.ring_core.specs.Value.{CoreValue}
-use Rattle.step_telling.specs.declared.asked.Asked.{Asked}
-use Rattle.step_telling.specs.Tells.{IsAsked, IsStepOf}
+use Rattle.script_replay.specs.declared.asked.Asked.{Asked}
+use Rattle.script_replay.specs.Tells.{IsAsked, IsStepOf}
 use Rattle.script_replay.specs.Reports.{ReportsValue, KnowsRing, IsReported}
 use Rattle.script_replay.specs.declared.lane.Lane.TheInside.{Inside}
 use Rattle.script_replay.specs.Value.{LaneValue, lane_of}

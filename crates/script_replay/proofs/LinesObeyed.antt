@@ -27,19 +27,19 @@ use Rattle.world_model.proofs.OneWorld.{lane_of, behind_next}
 use Rattle.world_model.proofs.GenuineWorlds.{world_genuine, taken_agree}
 use Rattle.collector.specs.declared.added.Added.{Added}
 use Rattle.collector.specs.declared.added.Added.TheVariants.{New, Known}
-use Rattle.log_text.specs.declared.line.LogLine.{LogLine}
+use Rattle.script_replay.specs.declared.log.line.LogLine.{LogLine}
 use Rattle.page_numbers.specs.Parcels.{as_parcels}
 use Rattle.script_replay.specs.declared.replaying.ReplayState.{ReplayState}
-use Rattle.log_text.specs.LogTypes.{shown_log, shown_log_line}
+use Rattle.script_replay.specs.log.LogTypes.{shown_log, shown_log_line}
 use Rattle.script_replay.specs.Value.{LaneValue}
 use Rattle.script_replay.specs.RingCommands.{IsOfRing, cpu_of}
 use Rattle.script_replay.specs.Lanes.{IsReportedLane, HasLine}
 use Rattle.script_replay.specs.LanesByCpu.{lane_at, AreSameBut, IsLaneFrom, IsLaneAt}
-use Rattle.deliveries.specs.Deliveries.{AreRising, Adds}
+use Rattle.collector.specs.deliveries.Deliveries.{AreRising, Adds}
 use Rattle.script_replay.specs.Collected.{HasParcel, delivery_of, IsCollected, AreCollected}
 use Rattle.text_model.specs.Printing.{printed_log_line}
 use Rattle.step_model.specs.RunTexts.{delivery_step_text}
-use Rattle.step_telling.specs.Tells.{IsTextTold}
+use Rattle.script_replay.specs.Tells.{IsTextTold}
 use Rattle.script_replay.specs.Replay.{IsNewText, IsStateAfter, IsReady, LeadsOn}
 use Rattle.script_replay.proofs.StepsTold.{told_first, known_lane, told_ring, still_told, told_page, told_none}
 use Rattle.script_replay.proofs.Placed.{from_is_lane, first_world, new_at, obeys_ring, place_rises, found_taken}

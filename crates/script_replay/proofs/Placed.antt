@@ -25,7 +25,7 @@ use Rattle.page_numbers.specs.Parcels.{as_parcels}
 use Rattle.script_replay.specs.Value.{LaneValue}
 use Rattle.script_replay.specs.Lanes.{IsLane}
 use Rattle.script_replay.specs.LanesByCpu.{IsLaneFrom, IsLaneAt}
-use Rattle.deliveries.specs.Deliveries.{AreRising}
+use Rattle.collector.specs.deliveries.Deliveries.{AreRising}
 use Rattle.script_replay.specs.Collected.{HasParcel}
 use Rattle.script_replay.specs.RingCommands.{IsOfRing, cpu_of}
 

@@ -24,8 +24,8 @@ use Rattle.ring_frames.proofs.Reported.{reported_pushed}
 use Rattle.ring_core.specs.Answers.{event_of}
 use Rattle.ring_core.specs.Steps.{IsStep, MakesStep}
 use Rattle.script_replay.specs.Value.{LaneValue}
-use Rattle.step_telling.specs.declared.asked.Asked.{Asked}
-use Rattle.step_telling.specs.Tells.{IsAsked, IsStepOf}
+use Rattle.script_replay.specs.declared.asked.Asked.{Asked}
+use Rattle.script_replay.specs.Tells.{IsAsked, IsStepOf}
 use Rattle.script_replay.specs.Reports.{ReportsValue, Reported, KnowsRing, IsReported}
 use Rattle.script_replay.specs.Lanes.{IsLane, Happens}
 use Rattle.script_replay.specs.Frames.{IsPushOf, push_event, IsPushed, Pushes}

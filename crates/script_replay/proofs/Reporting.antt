@@ -8,15 +8,15 @@ use Rattle.trace_model.specs.Steps as model
 use Rattle.trace_model.specs.Steps.{Exchange}
 use Rattle.text_model.specs.Log.{LogLine}
 use Rattle.world_model.specs.Log.{logged, log_of}
-use Rattle.log_text.specs.LogTypes.{shown_log}
+use Rattle.script_replay.specs.log.LogTypes.{shown_log}
 use Rattle.step_model.specs.StepTexts.{step_text}
 use Rattle.step_model.specs.RunTexts.{Tells}
 use Rattle.ring_core.specs.Value.{CoreValue}
 use Rattle.ring_frames.specs.declared.answer.Answer.{Answer}
 use Rattle.ring_frames.specs.Answers.{IsAnswerOf}
-use Rattle.step_telling.specs.declared.asked.Asked.{Asked}
-use Rattle.step_telling.specs.Known.{StepTextValue, Knows}
-use Rattle.step_telling.specs.Tells.{IsStepOf, IsStepTold, MayTell}
+use Rattle.script_replay.specs.declared.asked.Asked.{Asked}
+use Rattle.script_replay.specs.Known.{StepTextValue, Knows}
+use Rattle.script_replay.specs.Tells.{IsStepOf, IsStepTold, MayTell}
 use Rattle.script_replay.specs.Reports.{ReportsValue, AreTold, Reported, KnowsRing, MayReport}
 use Rattle.script_replay.specs.Reports.{IsReported}
 

@@ -21,10 +21,10 @@ use Rattle.collector.specs.declared.added.Added.{Added}
 use Rattle.collector.specs.declared.added.Added.TheVariants.{New, Known}
 use Rattle.step_model.specs.RunTexts.{gain_text, gains_of, delivery_step_text, tells_page, tells_none, TellsRing}
 use Rattle.step_model.specs.RunTexts.{TellsLine, TellsAll, trace_line, new_rings_text}
-use Rattle.step_telling.specs.Known.{StepTextValue, Knows}
+use Rattle.script_replay.specs.Known.{StepTextValue, Knows}
 use Rattle.script_replay.specs.RingCommands.{IsOfRing, cpu_of}
 use Rattle.script_replay.specs.Collected.{delivery_of}
-use Rattle.step_telling.specs.Tells.{IsTextTold}
+use Rattle.script_replay.specs.Tells.{IsTextTold}
 use Rattle.script_replay.specs.Reports.{AreTold}
 use Rattle.script_replay.specs.Replay.{IsNewText, IsToldSoFar}
 

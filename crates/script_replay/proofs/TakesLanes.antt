@@ -33,8 +33,8 @@ use Rattle.ring_frames.specs.Answers.{IsAnswerOf}
 use Rattle.ring_core.specs.Answers.{GivesBack}
 use Rattle.ring_core.specs.Steps.{MakesStep}
 use Rattle.script_replay.specs.Value.{LaneValue}
-use Rattle.step_telling.specs.declared.asked.Asked.{Asked}
-use Rattle.step_telling.specs.Tells.{IsAsked}
+use Rattle.script_replay.specs.declared.asked.Asked.{Asked}
+use Rattle.script_replay.specs.Tells.{IsAsked}
 use Rattle.script_replay.specs.Reports.{ReportsValue, IsReported}
 use Rattle.script_replay.specs.Lanes.{IsLane, IsLaneOf, MakesExchanges}
 use Rattle.script_replay.specs.Takes.{ReadsOnce, MayKeep, Keeps}

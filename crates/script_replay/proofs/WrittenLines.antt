@@ -9,8 +9,8 @@ use Rattle.text_model.specs.Script.{write}
 use Rattle.text_model.specs.Log.{LogLine}
 use Rattle.world_model.specs.Lanes.{Lane, lane_with, FrameRun, finishes, WritesFrame, LineRun}
 use Rattle.world_model.specs.Log.{log_of}
-use Rattle.log_text.specs.LogTypes.{shown_log}
-use Rattle.step_telling.specs.Known.{StepTextValue}
+use Rattle.script_replay.specs.log.LogTypes.{shown_log}
+use Rattle.script_replay.specs.Known.{StepTextValue}
 use Rattle.script_replay.specs.Value.{LaneValue}
 use Rattle.script_replay.specs.Reports.{ReportsValue, AreTold}
 use Rattle.script_replay.specs.Lanes.{IsLane, Happens}

@@ -7,3 +7,6 @@ pub mod Takes
 pub mod LanesByCpu
 pub mod Collected
 pub mod Replay
+pub mod Known
+pub mod Tells
+pub mod log

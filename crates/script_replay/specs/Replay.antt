@@ -8,11 +8,11 @@ use Rattle.text_model.specs.ScriptLimits.{IsWithinLimits, IsCommandWithin}
 use Rattle.world_model.specs.Lanes.{Lane, IsNewLane}
 use Rattle.world_model.specs.World.{World, IsNewWorld, WorldBehind, WorldOf}
 use Rattle.world_model.specs.GenuineWorlds.{IsExact, IsGenuineWorld}
-use Rattle.log_text.specs.declared.line.LogLine.{LogLine}
+use Rattle.script_replay.specs.declared.log.line.LogLine.{LogLine}
 use Rattle.script_replay.specs.declared.replaying.ReplayState.{ReplayState}
-use Rattle.log_text.specs.LogTypes.{shown_log}
+use Rattle.script_replay.specs.log.LogTypes.{shown_log}
 use Rattle.step_model.specs.RunTexts.{TellsAll, trace_line, new_rings_text}
-use Rattle.step_telling.specs.Known.{StepTextValue, Knows}
+use Rattle.script_replay.specs.Known.{StepTextValue, Knows}
 use Rattle.script_replay.specs.LanesByCpu.{lane_at, IsLaneAt}
 use Rattle.script_replay.specs.Collected.{AreCollected}
 

@@ -8,12 +8,12 @@ use Rattle.text_model.specs.Printing.{printed_log_line}
 use Rattle.world_model.specs.Log.{log_of}
 use Rattle.ring_core.specs.Value.{CoreValue}
 use Rattle.ring_frames.specs.declared.answer.Answer.{Answer}
-use Rattle.log_text.specs.declared.line.LogLine.{LogLine}
-use Rattle.log_text.specs.LogTypes.{shown_log, shown_log_line}
+use Rattle.script_replay.specs.declared.log.line.LogLine.{LogLine}
+use Rattle.script_replay.specs.log.LogTypes.{shown_log, shown_log_line}
 use Rattle.step_model.specs.RunTexts.{Tells, gain_text, gains_of}
-use Rattle.step_telling.specs.declared.asked.Asked.{Asked}
-use Rattle.step_telling.specs.Known.{StepTextValue, Knows, KnowsOthers}
-use Rattle.step_telling.specs.Tells.{IsStepOf, MayTell, IsTextTold}
+use Rattle.script_replay.specs.declared.asked.Asked.{Asked}
+use Rattle.script_replay.specs.Known.{StepTextValue, Knows, KnowsOthers}
+use Rattle.script_replay.specs.Tells.{IsStepOf, MayTell, IsTextTold}
 
 -- what contracts see of the reports: the log, and the text of steps, if that is asked for
 pub record ReportsValue : Type 0 where

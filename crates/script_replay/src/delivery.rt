@@ -1,12 +1,12 @@
 //! A page that was taken from the ring of a CPU is found for its delivery.
 ghost use Rattle.std.specs.Prelude.{◌≡◌, ◌≢◌, None, IfSome, All};
 ghost use Rattle.page_numbers.specs.Parcels.{as_parcel, as_parcels};
-ghost use Rattle.deliveries.specs.Deliveries.{AreRising};
+ghost use Rattle.collector.specs.deliveries.Deliveries.{AreRising};
 ghost use Rattle.script_replay.specs.Collected.{HasParcel};
 ghost use Rattle.script_replay.specs.LanesByCpu.{lane_at};
 
 use crate::lane::Lane;
-use deliveries::find;
+use collector::deliveries::find;
 use page_numbers::Parcel;
 use trace_model::{CpuId, FillNo};
 

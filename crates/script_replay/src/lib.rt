@@ -4,15 +4,20 @@
 //! of its lane, or a delivery to a collector.
 #![tactic(auto)]
 
+mod asked;
 mod delivery;
 #[tactic(auto, unfolding(ring_core::specs::Steps::IsReachedCore))]
 mod lane;
 mod lanes;
+pub mod log;
 mod nobody;
 mod replaying;
 mod reports;
+mod teller;
 mod world;
 
-pub use log_text::LogLine;
+pub use asked::Asked;
+pub use log::LogLine;
 pub use replaying::{replay, told_replay, world_of};
+pub use teller::Teller;
 pub use world::World;

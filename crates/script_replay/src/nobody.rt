@@ -1,8 +1,8 @@
 //! A teller for replays whose steps nobody is told of.
-use log_text::{At, LogLine};
+use crate::log::{At, LogLine};
+use crate::{Asked, Teller};
 use page_numbers::Parcel;
 use ring_core::{Answer, Core};
-use step_telling::{Asked, Teller};
 use trace_model::NoMemory;
 
 /// For a replay whose steps are told to nobody.

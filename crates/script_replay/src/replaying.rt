@@ -6,24 +6,24 @@ ghost use Rattle.text_model.specs.Script as model_script;
 ghost use Rattle.text_model.specs.Script.{deliver as delivers};
 ghost use Rattle.text_model.specs.ScriptLimits.{IsWithinLimits};
 ghost use Rattle.trace_script.specs.ScriptTypes.{shown_command, shown_line};
-ghost use Rattle.log_text.specs.LogTypes.{shown_log_line};
+ghost use Rattle.script_replay.specs.log.LogTypes.{shown_log_line};
 ghost use Rattle.script_replay.specs.RingCommands.{IsOfRing, cpu_of};
 ghost use Rattle.script_replay.specs.Collected.{delivery_of};
 ghost use Rattle.step_model.specs.RunTexts.{IsStepText};
 ghost use Rattle.script_replay.specs.Replay.{IsNewText, IsStateAfter, IsReady, LeadsOn, IsHeadline};
 ghost use Rattle.trace_script.specs.declared.replay_fault.ReplayFault.TheVariants.{NoMemory as no_memory};
 
+use crate::Teller;
 use crate::delivery::taken_page;
 use crate::lane::Lane;
 use crate::lanes::make_lane;
+use crate::log::LogLine;
 use crate::nobody::Nobody;
 use crate::reports::Reports;
 use crate::world::World;
+use collector::deliveries::collect;
 use collector::{Added, Collector};
-use deliveries::collect;
-use log_text::LogLine;
 use std::alloc::Global;
-use step_telling::Teller;
 use trace_model::{CpuId, FillNo, NoMemory};
 use trace_script::{Command, ReplayFault, Script, ScriptLine};
 

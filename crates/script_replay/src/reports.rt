@@ -2,15 +2,15 @@
 ghost use Rattle.std.specs.Prelude.{◌≡◌, None, IsFalse, OnOk};
 ghost use Rattle.page_numbers.specs.Parcels.{as_parcel};
 ghost use Rattle.ring_core.specs.Value.{CoreValue};
-ghost use Rattle.step_telling.specs.Tells.{IsStepTold};
-ghost use Rattle.step_telling.specs.declared.asked.Asked.{Asked as AskedSeen};
+ghost use Rattle.script_replay.specs.Tells.{IsStepTold};
+ghost use Rattle.script_replay.specs.declared.asked.Asked.{Asked as AskedSeen};
 ghost use Rattle.script_replay.specs.Reports.{GainsAreReported, IsReported, LineIsReported, MayReport};
 
-use log_text::{At, LogLine, report, report_any};
+use crate::log::{At, LogLine, report, report_any};
+use crate::{Asked, Teller};
 use page_numbers::Parcel;
 use ring_core::{Answer, Core};
 use std::marker::Model;
-use step_telling::{Asked, Teller};
 use trace_model::NoMemory;
 
 /// What a replay reports. What a call leaves if memory is refused is not used.

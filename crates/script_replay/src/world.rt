@@ -1,6 +1,6 @@
 //! What the replay of a script answers.
+use crate::log::LogLine;
 use collector::Collector;
-use log_text::LogLine;
 
 /// What the replay of a script leaves: its collectors, by their numbers, and the log.
 #[derive(Debug, Drop)]

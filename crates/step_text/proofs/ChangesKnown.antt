@@ -8,7 +8,7 @@ use Rattle.step_model.specs.Seen.{Change, spare_link_is, reader_is, ring_seen}
 use Rattle.step_model.specs.Changes.{changes, count_changes, frame_changes, link_changes, page_changes, same_reader}
 use Rattle.step_model.specs.Changes.{unless_same}
 use Rattle.step_text.specs.declared.seen.Parts.{Parts}
-use Rattle.step_telling.specs.Known.{top_frame}
+use Rattle.script_replay.specs.Known.{top_frame}
 use Rattle.step_text.specs.Seen.{ArePartsOf, counts_in, reader_in, top_in}
 use Rattle.step_text.specs.FrameChanges.{frame_changes_in}
 use Rattle.step_text.specs.Known.{KnownValue, IsKnownOf}

@@ -25,7 +25,7 @@ use Rattle.step_model.specs.StepCounts.{top_claims, head_after, gives_next, top_
 use Rattle.step_text.specs.declared.seen.Counts.{Counts}
 use Rattle.step_text.specs.declared.seen.FrameSeen.{FrameSeen}
 use Rattle.step_text.specs.declared.seen.Parts.{Parts}
-use Rattle.step_telling.specs.Known.{top_frame}
+use Rattle.script_replay.specs.Known.{top_frame}
 use Rattle.step_text.specs.Seen.{counts_in, reader_in, frame_in, top_in}
 use Rattle.step_text.specs.Counting.{some_claims, takes_in, gives_in, top_moment_in, all_have_left_in, IsCounted}
 

@@ -6,7 +6,7 @@ use Rattle.trace_model.specs.Ring.{Core}
 use Rattle.trace_model.specs.Steps.{Event}
 use Rattle.world_model.specs.Lanes.{event_in, event_on_top}
 use Rattle.step_model.specs.StepTexts.{exchange_text, frame_outcome, outcome_text}
-use Rattle.step_telling.specs.Known.{top_frame}
+use Rattle.script_replay.specs.Known.{top_frame}
 use Rattle.step_text.specs.Exchanges.{is_exchange_in, steps_so, frame_exchanges_in}
 
 phase_exchanges : (opened : ℕ) (phase : Phase) (done : Bool)

@@ -12,3 +12,4 @@ pub mod NewRingWritten
 pub mod OneRingMore
 -- the text of a step of a ring, and of the rings
 pub mod Telling
+pub mod OneStepsOutput

@@ -11,13 +11,13 @@ use Rattle.ring_model.proofs.partition.RingsKept.{reached_kept}
 use Rattle.ring_core.specs.Value.{CoreValue}
 use Rattle.ring_core.specs.IsCore.{IsCore}
 use Rattle.ring_frames.specs.declared.answer.Answer.{Answer}
-use Rattle.step_telling.specs.declared.asked.Asked.{Asked}
+use Rattle.script_replay.specs.declared.asked.Asked.{Asked}
 use Rattle.step_text.specs.declared.teller.Known.{Known}
 use Rattle.step_text.specs.declared.teller.StepText.TheInside.{Inside}
 use Rattle.step_text.specs.declared.seen.Parts.{Parts}
 use Rattle.step_text.specs.Seen.{ArePartsOf}
-use Rattle.step_telling.specs.Known.{RingKnown, StepTextValue, ring_known}
-use Rattle.step_telling.specs.Tells.{IsTold}
+use Rattle.script_replay.specs.Known.{RingKnown, StepTextValue, ring_known}
+use Rattle.script_replay.specs.Tells.{IsTold}
 use Rattle.step_text.specs.Known.{KnownValue, known_in, ring_in, step_text_of, IsKnownOf}
 use Rattle.step_text.specs.Tells.{IsToldOf, MayTellOf}
 

@@ -7,7 +7,7 @@ use Rattle.step_text.specs.declared.seen.Parts.{Parts}
 use Rattle.step_text.specs.declared.teller.Known.{Known}
 use Rattle.step_text.specs.declared.teller.StepText.TheInside.{Inside}
 use Rattle.step_text.specs.Seen.{ArePartsOf, counts_in, reader_in, top_in}
-use Rattle.step_telling.specs.Known.{RingKnown, StepTextValue}
+use Rattle.script_replay.specs.Known.{RingKnown, StepTextValue}
 
 -- what is known of a ring: the link into each position, the page at each, and its other parts
 pub record KnownValue : Type 0 where

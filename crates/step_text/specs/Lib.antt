@@ -4,3 +4,4 @@ pub mod FrameChanges
 pub mod Exchanges
 pub mod Known
 pub mod Tells
+pub mod Steps

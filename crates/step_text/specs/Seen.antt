@@ -10,7 +10,7 @@ use Rattle.ring_frames.specs.ReaderPhases.{reader_phase_of}
 use Rattle.ring_frames.specs.declared.reader.TakeState.{TakeState}
 use Rattle.step_model.specs.Seen.{ReaderSeen, CountsSeen, reader_seen, counts_seen}
 use Rattle.step_model.specs.StepCounts.{records_in}
-use Rattle.step_telling.specs.Known.{top_frame}
+use Rattle.script_replay.specs.Known.{top_frame}
 use Rattle.step_text.specs.declared.seen.FrameState.{FrameState}
 use Rattle.step_text.specs.declared.seen.FrameState.TheVariants.{Waiting, Reserved, Left}
 use Rattle.step_text.specs.declared.seen.FrameSeen.{FrameSeen}

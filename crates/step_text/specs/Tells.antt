@@ -5,8 +5,8 @@ use Rattle.trace_model.specs.Steps as model
 use Rattle.ring_core.specs.Value.{CoreValue}
 use Rattle.ring_frames.specs.declared.answer.Answer.{Answer}
 use Rattle.step_model.specs.StepTexts.{step_text}
-use Rattle.step_telling.specs.declared.asked.Asked.{Asked}
-use Rattle.step_telling.specs.Tells.{IsStepOf}
+use Rattle.script_replay.specs.declared.asked.Asked.{Asked}
+use Rattle.script_replay.specs.Tells.{IsStepOf}
 use Rattle.step_text.specs.Known.{KnownValue, IsKnownOf}
 
 -- it is some step of a ring of which this is known

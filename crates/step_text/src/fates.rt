@@ -10,13 +10,13 @@ ghost use Rattle.ring_frames.specs.Answers.{IsAnswerOf};
 ghost use Rattle.step_model.specs.StepTexts.{begun_text, ended_text, passed_text, reserved_text, spaced};
 ghost use Rattle.step_model.specs.RunTexts.{gain_text, gains_of};
 ghost use Rattle.step_text.specs.Seen.{ArePartsOf};
-ghost use Rattle.step_telling.specs.Tells.{IsAsked};
+ghost use Rattle.script_replay.specs.Tells.{IsAsked};
 
 use crate::put::put_spaced;
 use crate::seen::{FrameSeen, FrameState, Parts};
 use page_numbers::Parcel;
 use ring_core::{Answer, Core};
-use step_telling::Asked;
+use script_replay::Asked;
 use text_values::put_payload;
 use trace_model::NoMemory;
 

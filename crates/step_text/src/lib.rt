@@ -3,11 +3,16 @@
 #![tactic(auto)]
 
 mod changes;
+mod command;
 mod fates;
+pub mod laws;
 mod new_rings;
 mod put;
 mod seen;
 mod step_line;
+mod steps;
 mod teller;
 
+pub use command::steps_to;
+pub use steps::steps_of;
 pub use teller::StepText;

@@ -5,7 +5,7 @@ ghost use Rattle.nested_writer.specs.Stack.{state_of};
 ghost use Rattle.ring_frames.specs.Value.{phase_of};
 ghost use Rattle.ring_core.specs.IsCore.{IsCore};
 ghost use Rattle.step_model.specs.StepCounts.{owns_from};
-ghost use Rattle.step_telling.specs.Known.{top_frame};
+ghost use Rattle.script_replay.specs.Known.{top_frame};
 ghost use Rattle.step_text.specs.Seen.{state_in, top_in};
 ghost use Rattle.step_text.specs.Counting.{Follows, IsCounted, top_claims_in, takes_in, head_in, gives_in};
 ghost use Rattle.step_text.specs.Counting.{all_have_left_in, top_moment_in};

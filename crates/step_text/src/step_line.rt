@@ -12,17 +12,17 @@ ghost use Rattle.world_model.specs.Lanes.{event_on_top};
 ghost use Rattle.step_text.specs.Seen.{ArePartsOf, frame_in};
 ghost use Rattle.step_text.specs.Known.{IsKnownOf, known_in};
 ghost use Rattle.step_text.specs.Exchanges.{begins_again_in, frame_exchanges_in, is_exchange_in};
-ghost use Rattle.step_telling.specs.Tells.{IsAsked};
+ghost use Rattle.script_replay.specs.Tells.{IsAsked};
 
 use crate::put::put_spaced;
 use crate::seen::{FrameSeen, FrameState, Parts};
 use crate::teller::Known;
 use link_marks::Link;
-use log_text::{At, put_fault, put_front};
 use nested_writer::Ended;
 use ring_core::Answer;
 use ring_frames::{Phase, ReaderPhase, Role};
-use step_telling::Asked;
+use script_replay::Asked;
+use script_replay::log::{At, put_fault, put_front};
 use trace_model::NoMemory;
 
 /// Whether a frame of this phase finds that another one has begun the fill which it noted, and begins again.

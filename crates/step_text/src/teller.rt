@@ -2,7 +2,7 @@
 ghost use Rattle.std.specs.Prelude.{◌≡◌, ℕ, ◌++◌, ◌<◌, List, length, All, OnOk, IfOk};
 ghost use Rattle.world_model.specs.Lanes.{Lane, IsNewLane};
 ghost use Rattle.step_model.specs.RunTexts.{new_rings_text, trace_line};
-ghost use Rattle.step_telling.specs.Known.{StepTextValue, Knows};
+ghost use Rattle.script_replay.specs.Known.{StepTextValue, Knows};
 ghost use Rattle.step_text.specs.Known.{known_in, step_text_of};
 ghost use Rattle.step_text.specs.Tells.{MayTellOf, TellsStepOf};
 
@@ -12,12 +12,12 @@ use crate::new_rings::{copies_of, new_ring, put_new_rings, put_trace_line};
 use crate::seen::Parts;
 use crate::step_line::put_step_line;
 use link_marks::Link;
-use log_text::{At, LogLine, put_log_line};
 use page_numbers::Parcel;
 use ring_core::{Answer, Core};
+use script_replay::log::{At, LogLine, put_log_line};
+use script_replay::{Asked, Teller};
 use std::alloc::Global;
 use std::marker::Model;
-use step_telling::{Asked, Teller};
 use trace_model::NoMemory;
 use trace_script::Script;
 

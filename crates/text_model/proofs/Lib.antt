@@ -11,3 +11,4 @@ pub mod ScriptLemmas
 pub mod ScriptReads
 pub mod ScriptWrites
 pub mod StartZero
+pub mod ReadLimits

@@ -1,5 +1,5 @@
 //! The definitions of texts: a script and its lines, fields and settings; what is logged; what is printed of the log,
-//! of a page image and of faults. (What is printed of collectors: `world_model`; of a run: `run_text`.)
+//! of a page image and of faults. (What is printed of collectors: `world_model`; of a run: `run_command`.)
 //!
 //! Pages and rings have no use for them; each subject has its definitions in a module of `specs/`, and
 //! the laws over them are the contracts of the functions of `laws`.

@@ -1,2 +1,5 @@
 pub mod Behind
 mod Hexadecimal
+pub mod Chains
+mod Digits
+mod Written

@@ -1,6 +1,10 @@
 //! Numbers and payloads as text, for what is printed.
 #![tactic(auto)]
 
+mod buffer;
+mod finishing;
 mod values;
 
+pub use buffer::TextBuffer;
+pub use finishing::{finish, finish_memory};
 pub use values::{drop_if_refused, put_number, put_payload};

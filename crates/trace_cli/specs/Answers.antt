@@ -8,7 +8,7 @@ use Rattle.command_line.specs.declared.call.Call.TheVariants.{Replay, Run, Steps
 use Rattle.dump_command.specs.Dumps.{DumpGives}
 use Rattle.replay_command.specs.Commands.{ReplayGives}
 use Rattle.run_command.specs.Runs.{RunGives}
-use Rattle.steps_command.specs.Steps.{StepsGives}
+use Rattle.step_text.specs.Steps.{StepsGives}
 use Rattle.trace_cli.specs.declared.version.TheConstants.{VERSION_LINE}
 
 -- the call needs no files of its own: it reads one source, or none

@@ -14,7 +14,7 @@ use run_command::run_to;
 use std::alloc::Global;
 use std::sync::Wait;
 use std::thread::Threads;
-use steps_command::steps_to;
+use step_text::steps_to;
 
 /// Carries out a command that reads one source, over these ends, or writes the version, and gives the exit status.
 fn answer_call<Rt: Threads + Wait + Sync, R: Source, W: Sink>(

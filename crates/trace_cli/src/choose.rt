@@ -1,14 +1,14 @@
 //! The command `collect`: over captures, or over streams of parcels.
 ghost use Rattle.std.specs.Prelude.{◌≡◌, ◌⊎◌, ◌↔◌, IsTrue, All, length};
 ghost use Rattle.command_line.specs.Calls.{IsInRange};
-ghost use Rattle.piece_source.specs.Reading.{BeginsStream};
-ghost use Rattle.piece_source.specs.Readers.{peeked_unread};
+ghost use Rattle.parcel_streams.specs.source.Reading.{BeginsStream};
+ghost use Rattle.parcel_streams.specs.source.Readers.{peeked_unread};
 
 use crate::collect::collect_captures;
 use crate::inputs::{Reader, Trial, open_inputs};
 use crate::kept::is_kept_in;
 use crate::streams::collect_pieces;
-use collect_inputs::Input;
+use capture::files::Input;
 use command_io::{END_FAILED, Std, USAGE, print_memory_line};
 use command_line::CollectCall;
 use std::io::IsTerminal;

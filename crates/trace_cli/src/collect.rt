@@ -1,18 +1,18 @@
 //! The command `collect` over captures.
 ghost use Rattle.std.specs.Prelude.{◌≡◌, ◌<◌, false, if◌then◌else◌, map, All, IfOk};
 ghost use Rattle.command_io.specs.Ends.{has_failed};
-ghost use Rattle.piece_source.specs.Readers.{peeked_reader};
+ghost use Rattle.parcel_streams.specs.source.Readers.{peeked_reader};
 ghost use Rattle.command_line.specs.Calls.{IsInRange};
 ghost use Rattle.trace_dat.specs.Contents.{format_seen};
 ghost use Rattle.trace_cli.specs.Formats.{format_read};
 
+use crate::host::{FileMessage, FormatText, Trouble, formats_below};
 use crate::inputs::{Reader, Trial, name_of, open_output, trial_of};
+use capture::files::{FileFault, Input};
 use capture_text::Form;
 use collect_command::{Collected, Collecting, Ending, collect_to};
-use collect_inputs::{FileFault, Input};
 use command_io::WRITE_FAILED;
 use command_line::{CollectCall, CpuFile};
-use host_files::{FileMessage, FormatText, Trouble, formats_below};
 use trace_dat::{Cause, Format};
 
 /// The formats below the folder that is named, if one is.

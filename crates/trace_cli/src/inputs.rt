@@ -1,13 +1,13 @@
 //! The inputs of `collect` and `recover`: files of the host, and standard input.
 ghost use Rattle.std.specs.Prelude.{◌≡◌, false, map, All, IfOk};
 ghost use Rattle.command_io.specs.Ends.{has_failed};
-ghost use Rattle.piece_source.specs.Readers.{peeked_reader};
+ghost use Rattle.parcel_streams.specs.source.Readers.{peeked_reader};
 
-use collect_inputs::Input;
+use crate::host::{Feed, FileMessage, Progress, Trouble, Watched};
+use capture::files::Input;
 use command_io::Std;
 use command_line::CpuFile;
-use host_files::{Feed, FileMessage, Progress, Trouble, Watched};
-use piece_source::Peeked;
+use parcel_streams::source::Peeked;
 use std::fs::File;
 use std::io::{ErrorKind, Stdin, Stdout};
 use std::{fs, io};

@@ -1,5 +1,5 @@
 //! Whether the file that keeps what is new is read too.
-use host_files::is_same_file;
+use crate::host::is_same_file;
 
 /// The path that leads to the file which standard input is, if it is one.
 const STANDARD_INPUT: &str = "/dev/stdin";

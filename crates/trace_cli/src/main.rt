@@ -5,6 +5,7 @@
 mod answer;
 mod choose;
 mod collect;
+mod host;
 mod inputs;
 mod kept;
 mod laws;
@@ -16,9 +17,8 @@ mod version;
 use crate::answer::answer_to;
 use crate::choose::collect;
 use crate::recover::recover;
-use command_io::{Std, message_for};
-use command_line::{Call, given_call};
-use process_words::given_words;
+use command_io::{Std, given_words, message_for};
+use command_line::{Call, USAGE_LINE, given_call};
 use std::process::ExitCode;
 
 // What is chosen here, `answer_to` and `message_for` say, and of `collect` and `recover` the functions that these call.
@@ -35,7 +35,7 @@ fn main(rt: HostRuntime) -> ExitCode {
     let mut input = Std::new(rt.stdin());
     let mut output = Std::new(rt.stdout());
     let status = answer_to(&rt, rt.alloc(), call, &mut input, &mut output);
-    if let Some(line) = message_for(status, &input, &output) {
+    if let Some(line) = message_for(USAGE_LINE, status, &input, &output) {
         let _ = eprintln!(rt; "{line}");
     }
     ExitCode::from(status)

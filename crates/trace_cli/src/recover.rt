@@ -3,14 +3,14 @@ ghost use Rattle.std.specs.Prelude.{◌≡◌, false, All, IfOk, if◌then◌els
 ghost use Rattle.command_io.specs.Ends.{has_failed};
 
 use crate::choose::{KEEP_IS_READ, refuse};
+use crate::host::{FileMessage, Trouble};
 use crate::inputs::{Opened, Trial, open_input, open_output, trial_of};
 use crate::kept::is_kept_in;
 use crate::unkept::Unkept;
 use capture_text::Form;
+use collect_command::recovery::{Ending, Outcome, recover_to};
 use command_io::{END_FAILED, INPUT_TOO_LONG, Std, WRITE_FAILED, print_memory_line};
 use command_line::RecoverCall;
-use host_files::{FileMessage, Trouble};
-use recover_command::{Ending, Outcome, recover_to};
 use std::fs;
 use std::io::IsTerminal;
 

@@ -1,19 +1,19 @@
 //! The command `collect` over streams of parcels.
 ghost use Rattle.std.specs.Prelude.{◌≡◌, false, All, IfOk, if◌then◌else◌};
 ghost use Rattle.command_io.specs.Ends.{has_failed};
-ghost use Rattle.piece_source.specs.Readers.{peeked_reader, source_of};
-ghost use Rattle.stream_command.specs.Reading.{IsFresh};
+ghost use Rattle.parcel_streams.specs.source.Readers.{peeked_reader, source_of};
+ghost use Rattle.collect_command.specs.streams.Reading.{IsFresh};
 
+use crate::host::{FileMessage, Trouble};
 use crate::inputs::{Reader, Trial, name_of, open_output, trial_of};
 use crate::unkept::Unkept;
+use capture::files::Input;
 use capture_text::Form;
-use collect_inputs::Input;
+use collect_command::streams::{Collected, Ending, collect_streams, print_pieces};
 use command_io::{Std, WRITE_FAILED};
 use command_line::{CollectCall, CpuFile};
-use host_files::{FileMessage, Trouble};
-use piece_source::PieceReader;
+use parcel_streams::source::PieceReader;
 use std::fs;
-use stream_command::{Collected, Ending, collect_streams, print_pieces};
 
 /// Readers of the inputs' pieces.
 fn readers_of<'a>(

@@ -10,3 +10,5 @@ pub mod FieldsRead
 pub mod OptionsSame
 pub mod SixRead
 pub mod SevenRead
+pub mod NumberLemmas
+pub mod NameLemmas

@@ -8,3 +8,4 @@ pub mod Sections
 pub mod Versions
 pub mod Spelling
 pub mod Laws
+pub mod kernel_texts

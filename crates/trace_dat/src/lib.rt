@@ -6,6 +6,7 @@ mod contents;
 mod entries;
 mod fault;
 mod formats;
+pub mod kernel_texts;
 pub mod laws;
 mod part;
 mod read;

@@ -2,8 +2,13 @@
 //! audit of what a run took.
 #![tactic(auto)]
 
-pub use ledger_audit::{AuditFault, Audited, Ledger, audit};
+pub mod ledgers;
+pub mod readers;
+pub mod threaded;
+pub mod writers;
+
+pub use ledgers::{AuditFault, Audited, Ledger, audit};
 pub use script_replay::{LogLine, World, replay};
-pub use threaded_run::{Ran, run};
+pub use threaded::{Ran, run};
 pub use trace_script::ReplayFault;
-pub use writer_thread::{Gate, OpenGate, Who};
+pub use writers::{Gate, OpenGate, Who};

@@ -141,3 +141,12 @@ pub fn read_script(alloc: Global, text: &[u8]) -> Result<Script, ScriptFault>
 {
     script_from(alloc, text)
 }
+
+/// The script that a text spells, or its first fault. The text is given back.
+pub fn read_text(alloc: Global, text: Vec<u8>) -> Result<Script, ScriptFault>
+    ensures reading { GivesAt (λ script. script) result (script_in text.items) }
+    ensures script { IfOk result (λ script. ParsesScript text.items script) }
+    ensures fault { IfErr result (λ fault. ReportsFirstFault text.items fault) }
+{
+    read_script(alloc, text.as_slice())
+}

@@ -12,7 +12,7 @@ pub enum ReplayFault {
     /// Memory was refused.
     #[error("out of memory")]
     NoMemory,
-    /// The gate of a threaded run (`Gate` of `writer_thread`) didn't let an end go on; a replay has none.
+    /// The gate of a threaded run (`Gate` of `trace_run`) didn't let an end go on; a replay has none.
     #[error("the gate is shut")]
     GateShut,
     /// A thread of a run didn't start.

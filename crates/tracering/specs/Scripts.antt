@@ -10,7 +10,7 @@ pub use Rattle.trace_script.specs.ScriptTypes.{shown_line}
 pub use Rattle.script_replay.specs.Replay.{IsHeadline}
 pub use Rattle.step_model.specs.RunTexts.{IsStepText}
 -- what a run leaves, and what an audit compares
-pub use Rattle.threaded_run.specs.Asked.{HaveAllPassed}
-pub use Rattle.threaded_run.specs.Runs.{IsRunOfScript}
-pub use Rattle.ledger_audit.specs.Audit.{IsAudited, IsLacking, IsLeast, IsStray, WereTaken, taken_in}
-pub use Rattle.ledger_audit.specs.Headline.{AreOfRings, IsAuditHeadline}
+pub use Rattle.trace_run.specs.threaded.Asked.{HaveAllPassed}
+pub use Rattle.trace_run.specs.threaded.Runs.{IsRunOfScript}
+pub use Rattle.trace_run.specs.ledgers.Audit.{IsAudited, IsLacking, IsLeast, IsStray, WereTaken, taken_in}
+pub use Rattle.trace_run.specs.ledgers.Headline.{AreOfRings, IsAuditHeadline}

@@ -2,8 +2,8 @@
 use crate::fault::RowFault;
 use crate::row::NO_REQUEST;
 use crate::words::{hex_bytes, put_bytes};
-use kernel_texts::{EventName, EventNames, common_fields, ring_counters};
 use std::alloc::Global;
+use trace_dat::kernel_texts::{EventName, EventNames, common_fields, ring_counters};
 use trace_dat::{Buffer, Fault, Format, ReadError, TraceDat, read_trace_dat};
 use trace_model::NoMemory;
 

@@ -1,9 +1,9 @@
 //! What a line of a script asks of the lane of its CPU, and how it is done.
+use crate::Teller;
 use crate::lane::Lane;
+use crate::log::At;
 use crate::reports::Reports;
-use log_text::At;
 use std::alloc::Global;
-use step_telling::Teller;
 use trace_model::NoMemory;
 use trace_script::Command;
 

@@ -1,11 +1,11 @@
 //! The steps of the frame on top.
 use crate::lane::Lane;
+use crate::log::At;
 use crate::reports::Reports;
-use log_text::At;
+use crate::{Asked, Teller};
 use nested_writer::WriteFault;
 use ring_core::{Answer, Event};
 use ring_frames::write_padded;
-use step_telling::{Asked, Teller};
 use trace_model::NoMemory;
 
 /// For what is called where steps are told, with the type of who is told. What is called elsewhere is a copy of its

@@ -1,18 +1,18 @@
 //! Frames that are pushed.
 use crate::lane::Lane;
 use crate::lane::frames::{Told, Untold};
+use crate::log::At;
 use crate::reports::Reports;
-use log_text::At;
+use crate::{Asked, Teller};
 use nested_writer::Wrote;
 use ring_core::{Answer, Event};
-use step_telling::{Asked, Teller};
 use trace_model::NoMemory;
 
 impl<'a> Lane<'a> {
     ghost use Rattle.std.specs.Prelude.{◌≡◌, ℕ, None, IfOk, OnOk};
     ghost use Rattle.trace_model.specs.Ring as model;
     ghost use Rattle.text_model.specs.Script.{begin_frame, write, close};
-    ghost use Rattle.step_telling.specs.Tells.{IsAsked};
+    ghost use Rattle.script_replay.specs.Tells.{IsAsked};
     ghost use Rattle.script_replay.specs.Lanes.{IsLaneOf, IsReportedLane, HasLine};
     ghost use Rattle.script_replay.specs.Frames.{IsPushOf, push_event, Pushes, HasWritten, HasWrittenAtOnce};
 

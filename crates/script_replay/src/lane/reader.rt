@@ -1,13 +1,13 @@
 //! The reader of a lane: takes, and its wish.
 use crate::lane::Lane;
 use crate::lane::frames::MOST_STEPS;
+use crate::log::At;
 use crate::reports::Reports;
-use log_text::At;
+use crate::{Asked, Teller};
 use page_image::{Body, Page};
 use page_numbers::Parcel;
 use ring_core::{Answer, Event};
 use std::alloc::Global;
-use step_telling::{Asked, Teller};
 use trace_model::{CpuId, NoMemory};
 
 impl<'a> Lane<'a> {

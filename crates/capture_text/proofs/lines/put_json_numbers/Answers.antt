@@ -1,6 +1,6 @@
 use Rattle.std.proofs.Common.{ap}
 use Rattle.std.specs.Fmt.{decimal}
-use Rattle.text_buffer.proofs.Chains.{put_then, put_same}
+use Rattle.text_values.proofs.Chains.{put_then, put_same}
 use Rattle.capture_text.proofs.lines.put_json_numbers.Goals as goal
 
 pub returns-clause-put : goal.returns-clause-put

@@ -1,6 +1,6 @@
 use Rattle.std.specs.Fmt.{decimal}
 use Rattle.text_model.specs.Text.{hex_text}
-use Rattle.text_buffer.proofs.Chains.{put_then, put_same}
+use Rattle.text_values.proofs.Chains.{put_then, put_same}
 use Rattle.capture_text.proofs.Pieces.{numbers_and_payload}
 use Rattle.capture_text.proofs.lines.put_line.Goals as goal
 

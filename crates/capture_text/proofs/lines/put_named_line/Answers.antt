@@ -1,9 +1,9 @@
 use Rattle.std.specs.Fmt.{decimal}
 use Rattle.text_model.specs.Text.{hex_text}
-use Rattle.kernel_texts.specs.Names.{events_of}
-use Rattle.kernel_texts.specs.FirstBytes.{common_fields_in}
+use Rattle.trace_dat.specs.kernel_texts.Names.{events_of}
+use Rattle.trace_dat.specs.kernel_texts.FirstBytes.{common_fields_in}
 use Rattle.capture_text.specs.Names.{named_part}
-use Rattle.text_buffer.proofs.Chains.{put_as}
+use Rattle.text_values.proofs.Chains.{put_as}
 use Rattle.capture_text.proofs.Pieces.{named_pieces}
 use Rattle.capture_text.proofs.lines.put_named_line.Goals as goal
 

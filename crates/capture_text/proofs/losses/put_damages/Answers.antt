@@ -1,5 +1,5 @@
 use Rattle.capture_text.specs.Printing.{reported_line}
-use Rattle.text_buffer.proofs.Chains.{put_then, put_same}
+use Rattle.text_values.proofs.Chains.{put_then, put_same}
 use Rattle.capture_text.proofs.Damages.{lines_more}
 use Rattle.capture_text.proofs.losses.put_damages.Goals as goal
 

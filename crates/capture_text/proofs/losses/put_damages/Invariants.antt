@@ -1,6 +1,6 @@
 use Rattle.std.proofs.Common.{◌≡◌, take, flat_map}
 use Rattle.capture_text.specs.Printing.{reported_line}
-use Rattle.text_buffer.specs.Putting.{has_failed, Puts}
+use Rattle.text_values.specs.Putting.{has_failed, Puts}
 use Rattle.capture_text.proofs.losses.put_damages.Given as goal
 
 abbrev pub invariant-loop-damaged : goal.invariant-loop-damaged

@@ -1,6 +1,6 @@
 use Rattle.std.specs.Fmt.{decimal}
 use Rattle.dump_command.specs.ImageFaults.{reader_fault_text}
-use Rattle.text_buffer.proofs.Chains.{put_as}
+use Rattle.text_values.proofs.Chains.{put_as}
 use Rattle.capture_text.proofs.Pieces.{json_page}
 use Rattle.capture_text.proofs.losses.put_json_page.Goals as goal
 

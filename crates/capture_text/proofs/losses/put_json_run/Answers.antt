@@ -1,5 +1,5 @@
 use Rattle.std.specs.Fmt.{decimal}
-use Rattle.text_buffer.proofs.Chains.{put_as}
+use Rattle.text_values.proofs.Chains.{put_as}
 use Rattle.capture_text.proofs.Pieces.{json_run}
 use Rattle.capture_text.proofs.losses.put_json_run.Goals as goal
 

@@ -1,4 +1,4 @@
-use Rattle.text_buffer.proofs.Chains.{put_then, put_same}
+use Rattle.text_values.proofs.Chains.{put_then, put_same}
 use Rattle.capture_text.proofs.UnknownLosses.{text_loss, json_loss}
 use Rattle.capture_text.proofs.losses.put_loss.Goals as goal
 

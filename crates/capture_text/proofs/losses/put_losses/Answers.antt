@@ -1,4 +1,4 @@
-use Rattle.text_buffer.proofs.Chains.{put_then, put_same}
+use Rattle.text_values.proofs.Chains.{put_then, put_same}
 use Rattle.capture_text.proofs.UnknownLosses.{losses_more}
 use Rattle.capture_text.proofs.losses.put_losses.Goals as goal
 

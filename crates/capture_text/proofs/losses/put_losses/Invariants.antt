@@ -1,7 +1,7 @@
 use Rattle.std.proofs.Common.{◌≡◌, take}
 use Rattle.capture.specs.Captures.{numbers_of}
 use Rattle.capture_text.specs.Printing.{unknown_lines}
-use Rattle.text_buffer.specs.Putting.{has_failed, Puts}
+use Rattle.text_values.specs.Putting.{has_failed, Puts}
 use Rattle.capture_text.proofs.losses.put_losses.Given as goal
 
 abbrev pub invariant-loop-number : goal.invariant-loop-number

@@ -1,6 +1,6 @@
 use Rattle.std.specs.Fmt.{decimal}
 use Rattle.dump_command.specs.ImageFaults.{reader_fault_text}
-use Rattle.text_buffer.proofs.Chains.{put_as}
+use Rattle.text_values.proofs.Chains.{put_as}
 use Rattle.capture_text.proofs.Pieces.{page_text}
 use Rattle.capture_text.proofs.losses.put_page.Goals as goal
 

@@ -1,5 +1,5 @@
 use Rattle.std.proofs.Common.{◌≡◌}
-use Rattle.text_buffer.specs.Putting.{has_failed}
+use Rattle.text_values.specs.Putting.{has_failed}
 use Rattle.capture_text.proofs.Runs.{ArePut}
 use Rattle.capture_text.proofs.losses.put_runs.Given as goal
 

@@ -1,7 +1,7 @@
 use Rattle.std.proofs.Common.{ℕ, List, flat_map, subst}
 use Rattle.std.proofs.lemmas.Iterator.Consumers.{YieldsList-from_first, YieldsList-end}
 use Rattle.collector.specs.Runs.{run_numbers}
-use Rattle.text_buffer.specs.Putting.{Puts}
+use Rattle.text_values.specs.Putting.{Puts}
 use Rattle.capture_text.specs.Printing.{run_line}
 use Rattle.capture_text.proofs.losses.put_runs_of.Goals as goal
 

@@ -2,7 +2,7 @@ use Rattle.std.proofs.Common.{◌≡◌, flat_map}
 use Rattle.std.proofs.Common.{map}
 use Rattle.collector.specs.Runs.{run_numbers}
 use Rattle.capture_text.specs.Printing.{run_line}
-use Rattle.text_buffer.specs.Putting.{has_failed, Puts}
+use Rattle.text_values.specs.Putting.{has_failed, Puts}
 use Rattle.capture_text.proofs.losses.put_runs_of.Given as goal
 
 abbrev pub invariant-loop-first : goal.invariant-loop-first

@@ -1,6 +1,6 @@
 use Rattle.std.proofs.Common.{sym, ap}
 use Rattle.dump_command.specs.ImageFaults.{word_fault_text}
-use Rattle.text_buffer.proofs.Chains.{put_same}
+use Rattle.text_values.proofs.Chains.{put_same}
 use Rattle.capture_text.proofs.losses.put_word_fault.Goals as goal
 
 pub returns-in-Cut-clause-put : goal.returns-in-Cut-clause-put

@@ -1,4 +1,4 @@
-use Rattle.text_buffer.proofs.Chains.{put_then}
+use Rattle.text_values.proofs.Chains.{put_then}
 use Rattle.capture_text.proofs.names.put_json_name.Goals as goal
 
 pub returns-clause-put : goal.returns-clause-put

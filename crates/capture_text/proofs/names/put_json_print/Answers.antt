@@ -1,6 +1,6 @@
 use Rattle.std.specs.Option.{option_map}
-use Rattle.kernel_texts.specs.Names.{event_seen}
-use Rattle.text_buffer.proofs.Chains.{put_none, put_then, put_same}
+use Rattle.trace_dat.specs.kernel_texts.Names.{event_seen}
+use Rattle.text_values.proofs.Chains.{put_none, put_then, put_same}
 use Rattle.capture_text.proofs.Events.{json_print_put, no_json_print_put}
 use Rattle.capture_text.proofs.names.put_json_print.Goals as goal
 

@@ -2,9 +2,9 @@ use Rattle.std.proofs.Common.{ap}
 use Rattle.std.specs.Prelude.{Option}
 use Rattle.std.specs.Fmt.{signed_decimal}
 use Rattle.std.proofs.Math.Facts.{to_z-of_z}
-use Rattle.kernel_texts.specs.Names.{Event}
+use Rattle.trace_dat.specs.kernel_texts.Names.{Event}
 use Rattle.capture_text.specs.Names.{event_or_number, print_part}
-use Rattle.text_buffer.proofs.Chains.{put_as}
+use Rattle.text_values.proofs.Chains.{put_as}
 use Rattle.capture_text.proofs.Pieces.{known}
 use Rattle.capture_text.proofs.names.put_known.Goals as goal
 

@@ -1,4 +1,4 @@
-use Rattle.text_buffer.proofs.Chains.{put_same}
+use Rattle.text_values.proofs.Chains.{put_same}
 use Rattle.capture_text.proofs.Texts.{ascii_escaped, high_escaped}
 use Rattle.capture_text.proofs.quoting.put_escaped.Goals as goal
 

@@ -1,5 +1,5 @@
 use Rattle.std.proofs.Common.{[], ◌∷◌, ◌++◌}
-use Rattle.text_buffer.proofs.Chains.{put_as}
+use Rattle.text_values.proofs.Chains.{put_as}
 use Rattle.capture_text.proofs.Plain.{stretch_less, stretch_escaped}
 use Rattle.capture_text.proofs.quoting.put_escaped_text.Goals as goal
 

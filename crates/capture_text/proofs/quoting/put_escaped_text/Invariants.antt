@@ -1,6 +1,6 @@
 use Rattle.std.proofs.Common.{◌≡◌, ℕ, List, ◌++◌, length}
 use Rattle.capture_text.specs.Quoting.{escaped_text}
-use Rattle.text_buffer.specs.Putting.{has_failed, Puts}
+use Rattle.text_values.specs.Putting.{has_failed, Puts}
 use Rattle.capture_text.proofs.quoting.put_escaped_text.Given as goal
 
 abbrev pub invariant-loop-byte : goal.invariant-loop-byte

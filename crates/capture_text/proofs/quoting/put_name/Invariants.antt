@@ -1,6 +1,6 @@
 use Rattle.std.proofs.Common.{◌≡◌, take}
 use Rattle.capture_text.specs.Quoting.{shown_name}
-use Rattle.text_buffer.specs.Putting.{has_failed, Puts}
+use Rattle.text_values.specs.Putting.{has_failed, Puts}
 use Rattle.capture_text.proofs.quoting.put_name.Given as goal
 
 abbrev pub invariant-loop-byte : goal.invariant-loop-byte

@@ -1,4 +1,4 @@
-use Rattle.text_buffer.proofs.Chains.{put_then, put_same}
+use Rattle.text_values.proofs.Chains.{put_then, put_same}
 use Rattle.capture_text.proofs.Texts.{quoted_is}
 use Rattle.capture_text.proofs.quoting.put_quoted.Goals as goal
 

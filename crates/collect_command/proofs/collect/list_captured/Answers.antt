@@ -1,7 +1,7 @@
 use Rattle.std.proofs.Common.{List, sym, subst, ◌∙◌}
-use Rattle.collect_inputs.specs.declared.captured.CpuCapture.{CpuCapture}
-use Rattle.collect_inputs.specs.Files.{all_formats}
-use Rattle.collect_inputs.specs.Losses.{overrun_in}
+use Rattle.capture.specs.declared.files.captured.CpuCapture.{CpuCapture}
+use Rattle.capture.specs.files.Files.{all_formats}
+use Rattle.capture.specs.files.Losses.{overrun_in}
 use Rattle.collect_command.specs.Asking.{asked_by}
 use Rattle.collect_command.specs.Gathered.{AreReadFrom}
 use Rattle.collect_command.specs.Runs.{formats_for}

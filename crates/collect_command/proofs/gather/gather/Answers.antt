@@ -4,7 +4,7 @@ use Rattle.trace_model.specs.Collection.{IsSame}
 use Rattle.page_numbers.specs.Parcels.{as_parcels}
 use Rattle.capture.specs.Pages.{Page}
 use Rattle.capture.specs.Rings.{parcels_of_captures}
-use Rattle.collect_inputs.specs.declared.captured.CpuCapture.{CpuCapture}
+use Rattle.capture.specs.declared.files.captured.CpuCapture.{CpuCapture}
 use Rattle.collect_command.specs.Gathered.{AreReadFrom}
 use Rattle.collect_command.proofs.Captures.{last_read, front_read, capture_added, capture_agrees}
 use Rattle.collect_command.proofs.gather.gather.Goals as goal

@@ -2,7 +2,7 @@ use Rattle.std.proofs.Common.{List, take}
 use Rattle.trace_model.specs.Collection.{IsSame}
 use Rattle.capture.specs.Pages.{Page}
 use Rattle.capture.specs.Rings.{parcels_of_captures}
-use Rattle.collect_inputs.specs.Files.{ModelPart}
+use Rattle.capture.specs.files.Files.{ModelPart}
 use Rattle.collect_command.specs.Gathered.{AreReadFrom}
 use Rattle.collect_command.proofs.gather.gather.Given as goal
 

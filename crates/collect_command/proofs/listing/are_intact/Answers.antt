@@ -2,7 +2,7 @@ use Rattle.std.proofs.Common.{◌≡◌, ◌+◌, ◌++◌, [], ◌∷◌, List,
 use Rattle.std.specs.List.{slice_get}
 use Rattle.std.proofs.lemmas.List.{take_more, take_all}
 use Rattle.std.proofs.lemmas.Option.{slice_get-get_or}
-use Rattle.collect_inputs.specs.declared.captured.CpuCapture.{CpuCapture}
+use Rattle.capture.specs.declared.files.captured.CpuCapture.{CpuCapture}
 use Rattle.collect_command.specs.Gathered.{AreReadFrom}
 use Rattle.collect_command.specs.Listings.{are_all_intact}
 use Rattle.collect_command.proofs.Captures.{last_read, none_read}

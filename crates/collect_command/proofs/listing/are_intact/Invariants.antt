@@ -1,6 +1,6 @@
 use Rattle.std.proofs.Common.{◌≡◌, true, List, take}
 use Rattle.capture.specs.Pages.{Page}
-use Rattle.collect_inputs.specs.Files.{ModelPart}
+use Rattle.capture.specs.files.Files.{ModelPart}
 use Rattle.collect_command.specs.Gathered.{AreReadFrom}
 use Rattle.collect_command.specs.Listings.{are_all_intact}
 use Rattle.collect_command.proofs.listing.are_intact.Given as goal

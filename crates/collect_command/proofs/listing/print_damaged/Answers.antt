@@ -2,9 +2,9 @@ use Rattle.std.proofs.Common.{◌≡◌, ℕ, ◌+◌, ◌++◌, [], ◌∷◌, 
 use Rattle.std.proofs.lemmas.List.{take_more, take_all}
 use Rattle.capture.specs.Pages.{damages_from}
 use Rattle.capture.specs.declared.part.Part.{Part}
-use Rattle.collect_inputs.specs.declared.captured.CpuCapture.{CpuCapture}
-use Rattle.collect_inputs.specs.Files.{parts_of_cpu}
-use Rattle.collect_inputs.specs.Captures.{measured}
+use Rattle.capture.specs.declared.files.captured.CpuCapture.{CpuCapture}
+use Rattle.capture.specs.files.Files.{parts_of_cpu}
+use Rattle.capture.specs.files.Captures.{measured}
 use Rattle.capture_text.specs.Printing.{damaged_lines}
 use Rattle.collect_command.specs.Gathered.{AreReadFrom}
 use Rattle.collect_command.specs.Listings.{all_damaged}

@@ -1,6 +1,6 @@
 use Rattle.std.proofs.Common.{◌≡◌, List, take}
 use Rattle.capture.specs.Pages.{Page}
-use Rattle.collect_inputs.specs.Files.{ModelPart}
+use Rattle.capture.specs.files.Files.{ModelPart}
 use Rattle.capture_text.specs.Printed.{failed_of, Prints}
 use Rattle.collect_command.specs.Gathered.{AreReadFrom}
 use Rattle.collect_command.specs.Listings.{all_unknown}

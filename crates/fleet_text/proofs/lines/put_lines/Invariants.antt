@@ -1,7 +1,7 @@
 use Rattle.std.proofs.Common.{◌≡◌, take, map, flat_map}
 use Rattle.fleet_collector.specs.Lines.{line_seen}
 use Rattle.fleet_text.specs.Printing.{record_line}
-use Rattle.text_buffer.specs.Putting.{has_failed, Puts}
+use Rattle.text_values.specs.Putting.{has_failed, Puts}
 use Rattle.fleet_text.proofs.lines.put_lines.Given as goal
 
 abbrev pub invariant-loop-line : goal.invariant-loop-line

@@ -1,7 +1,7 @@
 use Rattle.std.proofs.Common.{◌≡◌, take, map, flat_map}
 use Rattle.fleet_text.specs.Runs.{run_seen}
 use Rattle.fleet_text.specs.Printing.{run_line}
-use Rattle.text_buffer.specs.Putting.{has_failed, Puts}
+use Rattle.text_values.specs.Putting.{has_failed, Puts}
 use Rattle.fleet_text.proofs.lines.put_runs.Given as goal
 
 abbrev pub invariant-loop-run : goal.invariant-loop-run

@@ -1,5 +1,5 @@
 use Rattle.std.proofs.Common.{◌≡◌, false}
-use Rattle.piece_source.specs.Readers.{source_of}
+use Rattle.parcel_streams.specs.source.Readers.{source_of}
 use Rattle.library_tests.proofs.pieces.compare.Given as goal
 
 abbrev pub invariant-pieces : goal.invariant-pieces

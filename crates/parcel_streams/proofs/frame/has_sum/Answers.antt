@@ -1,5 +1,5 @@
 use Rattle.std.proofs.Common.{◌≡◌, ◌-◌, ℕ, List, drop, take, ap, ◌∙◌, subst, arith, length-drop, ◌↔◌, IsTrue, eqb}
-use Rattle.crc32c.specs.Castagnoli.{crc32c}
+use Rattle.parcel_streams.specs.crc32c.Castagnoli.{crc32c}
 use Rattle.trace_model.specs.Image.{le64, from_le64}
 use Rattle.trace_model.proofs.words.OneWord.{AreBytes-drop}
 use Rattle.parcel_streams.specs.Faults.{length_in, sum_in}

@@ -1,5 +1,5 @@
 use Rattle.std.proofs.Common.{ap, ◌∙◌, arith}
-use Rattle.crc32c.specs.Castagnoli.{crc32c}
+use Rattle.parcel_streams.specs.crc32c.Castagnoli.{crc32c}
 use Rattle.parcel_streams.proofs.Sealing.{sealed_is}
 use Rattle.parcel_streams.proofs.pack.seal.Goals as goal
 

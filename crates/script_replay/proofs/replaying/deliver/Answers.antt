@@ -2,8 +2,8 @@ use Rattle.std.proofs.Common.{◌≡◌, None, refl, sym, ◌∙◌, subst, rule
 use Rattle.std.proofs.lemmas.Result.{on_ok_weaker}
 use Rattle.text_model.specs.Log.{LogLine}
 use Rattle.text_model.specs.Printing.{printed_log_line}
-use Rattle.log_text.specs.LogTypes.{shown_log}
-use Rattle.step_telling.specs.Tells.{IsTextTold}
+use Rattle.script_replay.specs.log.LogTypes.{shown_log}
+use Rattle.script_replay.specs.Tells.{IsTextTold}
 use Rattle.script_replay.proofs.StepsTold.{still_text, known_told, new_told}
 use Rattle.std.proofs.lemmas.Option.{slice_get_read}
 use Rattle.page_numbers.specs.Parcels.{as_parcel}

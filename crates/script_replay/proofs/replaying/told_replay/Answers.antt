@@ -3,7 +3,7 @@ use Rattle.std.specs.Prelude.{IfSome}
 use Rattle.text_model.specs.Script.{Script}
 use Rattle.world_model.specs.World.{World}
 use Rattle.step_model.specs.RunTexts.{IsStepText}
-use Rattle.step_telling.specs.Known.{StepTextValue}
+use Rattle.script_replay.specs.Known.{StepTextValue}
 use Rattle.script_replay.specs.Reports.{ReportsValue}
 use Rattle.script_replay.specs.Replay.{IsToldSoFar}
 use Rattle.script_replay.proofs.replaying.told_replay.Goals as goal

@@ -5,7 +5,7 @@ use Rattle.trace_model.specs.HistoryLaws.{committed_count}
 use Rattle.trace_model.specs.Ring.{IsStart}
 use Rattle.link_marks.specs.ModelLinks.{link_of}
 use Rattle.ring_model.proofs.partition.OneNewRing.{new_ring_is_one}
-use Rattle.step_telling.specs.Known.{top_frame}
+use Rattle.script_replay.specs.Known.{top_frame}
 use Rattle.step_text.specs.Seen.{ArePartsOf, reader_in}
 use Rattle.step_text.specs.Known.{IsKnownOf}
 use Rattle.step_text.proofs.new_rings.new_ring.Goals as goal

@@ -1,5 +1,5 @@
-use Rattle.piece_source.specs.Reading.{BeginsStream}
-use Rattle.piece_source.specs.Readers.{peeked_unread}
+use Rattle.parcel_streams.specs.source.Reading.{BeginsStream}
+use Rattle.parcel_streams.specs.source.Readers.{peeked_unread}
 use Rattle.trace_cli.proofs.Each.{AllBefore}
 use Rattle.trace_cli.proofs.choose.are_captures.Given as goal
 

@@ -1,6 +1,6 @@
 use Rattle.std.proofs.Common.{◌≡◌, ◌⊎◌, length}
-use Rattle.piece_source.specs.Reading.{BeginsStream}
-use Rattle.piece_source.specs.Readers.{peeked_unread}
+use Rattle.parcel_streams.specs.source.Reading.{BeginsStream}
+use Rattle.parcel_streams.specs.source.Readers.{peeked_unread}
 use Rattle.trace_cli.proofs.Each.{AllBefore}
 use Rattle.trace_cli.proofs.choose.are_streams.Given as goal
 

@@ -1,6 +1,6 @@
 use Rattle.std.proofs.Common.{◌≡◌, false, map, take, All}
 use Rattle.command_io.specs.Ends.{has_failed}
-use Rattle.piece_source.specs.Readers.{peeked_reader}
+use Rattle.parcel_streams.specs.source.Readers.{peeked_reader}
 use Rattle.trace_cli.proofs.inputs.open_inputs.Given as goal
 
 abbrev pub invariant-loop-file : goal.invariant-loop-file

@@ -1,7 +1,7 @@
 use Rattle.std.proofs.Common.{◌≡◌, false, All}
 use Rattle.command_io.specs.Ends.{has_failed}
-use Rattle.piece_source.specs.Readers.{peeked_reader, source_of}
-use Rattle.stream_command.specs.Reading.{IsFresh}
+use Rattle.parcel_streams.specs.source.Readers.{peeked_reader, source_of}
+use Rattle.collect_command.specs.streams.Reading.{IsFresh}
 use Rattle.trace_cli.proofs.streams.readers_of.Given as goal
 
 abbrev pub invariant-loop-input : goal.invariant-loop-input

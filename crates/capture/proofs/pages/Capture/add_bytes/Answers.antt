@@ -4,7 +4,7 @@ use Rattle.capture.specs.declared.pages.CaptureFault.TheVariants.{Numbers}
 use Rattle.std.specs.Prelude.{map}
 use Rattle.page_image.specs.Images.{missed_of}
 use Rattle.capture.specs.Pages.{told}
-use Rattle.capture.proofs.Captured.{on_ok}
+use Rattle.capture.proofs.CapturedFiles.{on_ok}
 use Rattle.capture.proofs.Adding.{adds-page, adds-all, adds-past}
 use Rattle.capture.proofs.pages.Capture.add_bytes.Goals as goal
 

@@ -2,7 +2,7 @@ use Rattle.std.proofs.Common.{◌++◌, ◌∷◌, [], refl, sym, subst}
 use Rattle.capture.specs.Pages.{damaged}
 use Rattle.capture.specs.Captures.{IsCapture}
 use Rattle.capture.specs.declared.pages.Capture.{Capture}
-use Rattle.capture.proofs.Captured.{on_ok_both, capture-damaged}
+use Rattle.capture.proofs.CapturedFiles.{on_ok_both, capture-damaged}
 use Rattle.capture.proofs.pages.Capture.add_damaged.Goals as goal
 
 pub returns-clause-read : goal.returns-clause-read

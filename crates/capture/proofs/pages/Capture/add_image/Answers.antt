@@ -7,7 +7,7 @@ use Rattle.capture.specs.Pages.{intact, behind, parcel_at}
 use Rattle.capture.specs.Captures.{page_read, IsCapture}
 use Rattle.capture.specs.declared.pages.Capture.{Capture}
 use Rattle.capture.specs.declared.pages.CaptureFault.TheVariants.{Numbers}
-use Rattle.capture.proofs.Captured.{on_ok_both, capture-intact, past-numbers}
+use Rattle.capture.proofs.CapturedFiles.{on_ok_both, capture-intact, past-numbers}
 use Rattle.capture.proofs.pages.Capture.add_image.Goals as goal
 
 pub returns-in_err-parcel-clause-numbers : goal.returns-in_err-parcel-clause-numbers

@@ -5,7 +5,7 @@ use Rattle.page_image.specs.Contents.{records_of_page}
 use Rattle.page_image.specs.declared.image.ImageFault.TheVariants.{NoMemory}
 use Rattle.capture.specs.Pages.{Page, intact, damaged, loss_stated, told, told_of, IsPageOf, Fit}
 use Rattle.capture.specs.Captures.{IsCapture}
-use Rattle.capture.proofs.Captured.{on_ok, cause-of}
+use Rattle.capture.proofs.CapturedFiles.{on_ok, cause-of}
 use Rattle.capture.proofs.pages.Capture.add_page.Goals as goal
 
 pub returns-in-Ok-clause-read : goal.returns-in-Ok-clause-read

@@ -1,7 +1,7 @@
 use Rattle.std.proofs.Common.{length, refl, sym, subst}
 use Rattle.std.proofs.lemmas.Result.{on_ok_weaker}
 use Rattle.trace_model.specs.Steps.{pushes}
-use Rattle.step_telling.specs.declared.asked.Asked.TheVariants.{Push}
+use Rattle.script_replay.specs.declared.asked.Asked.TheVariants.{Push}
 use Rattle.script_replay.specs.Value.{LaneValue}
 use Rattle.script_replay.specs.Reports.{MayReport, IsReported}
 use Rattle.script_replay.proofs.Reporting.{may_report}

@@ -1,5 +1,5 @@
 use Rattle.std.proofs.Common.{inl, inr, sym, ◌∙◌, subst, arith}
-use Rattle.step_telling.specs.declared.asked.Asked.TheVariants.{Top}
+use Rattle.script_replay.specs.declared.asked.Asked.TheVariants.{Top}
 use Rattle.script_replay.specs.Value.{LaneValue}
 use Rattle.script_replay.specs.Reports.{MayReport, IsReported}
 use Rattle.script_replay.proofs.LaneValues.{depth_is, kept_many}

@@ -1,5 +1,5 @@
 use Rattle.std.proofs.Common.{inl, inr, sym, ◌∙◌, arith}
-use Rattle.step_telling.specs.declared.asked.Asked.TheVariants.{Top}
+use Rattle.script_replay.specs.declared.asked.Asked.TheVariants.{Top}
 use Rattle.script_replay.proofs.LaneValues.{depth_is, kept_many}
 use Rattle.script_replay.proofs.FrameRuns.{part_way_none, part_way_turn, first_payload, asks_top, followed}
 use Rattle.script_replay.proofs.lane.Lane.follow_untold.Goals as goal

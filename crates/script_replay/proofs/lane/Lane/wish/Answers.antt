@@ -2,7 +2,7 @@ use Rattle.std.proofs.Common.{refl, ap, subst}
 use Rattle.std.proofs.lemmas.Result.{IfOk-weaker}
 use Rattle.trace_model.specs.Steps.{wishes}
 use Rattle.ring_core.specs.Steps.{MakesStep}
-use Rattle.step_telling.specs.declared.asked.Asked.TheVariants.{Wish}
+use Rattle.script_replay.specs.declared.asked.Asked.TheVariants.{Wish}
 use Rattle.script_replay.specs.Value.{LaneValue}
 use Rattle.script_replay.proofs.Reporting.{may_report}
 use Rattle.script_replay.proofs.TakesLanes.{wishes_of}

@@ -1,9 +1,9 @@
 use Rattle.std.proofs.Common.{List, ◌++◌, ◌∙◌, sym, ap, subst}
 use Rattle.std.proofs.lemmas.Result.{on_ok_weaker}
 use Rattle.world_model.specs.Log.{logged}
-use Rattle.log_text.specs.declared.line.LogLine.{LogLine}
-use Rattle.log_text.specs.LogTypes.{shown_log}
-use Rattle.step_telling.specs.Tells.{IsStepTold}
+use Rattle.script_replay.specs.declared.log.line.LogLine.{LogLine}
+use Rattle.script_replay.specs.log.LogTypes.{shown_log}
+use Rattle.script_replay.specs.Tells.{IsStepTold}
 use Rattle.script_replay.specs.Reports.{ReportsValue}
 use Rattle.script_replay.proofs.Reporting.{step_reported}
 use Rattle.script_replay.proofs.reports.Reports.report_any.Goals as goal

@@ -5,7 +5,7 @@ use Rattle.trace_model.specs.HistoryLaws.{committed_count}
 use Rattle.step_model.specs.Seen.{CountsSeen}
 use Rattle.step_model.specs.StepCounts.{gives_next, records_in, top_claims}
 use Rattle.step_model.proofs.CountsFollowing.{counts_follow_steps}
-use Rattle.step_telling.specs.Known.{top_frame}
+use Rattle.script_replay.specs.Known.{top_frame}
 use Rattle.step_text.specs.Seen.{top_in}
 use Rattle.step_text.specs.Counting.{top_claims_in}
 use Rattle.step_text.proofs.Counted.{head_fits, records_fit, depth_is, claims_in, left_in, moment_in, gives, head_is}

@@ -1,8 +1,8 @@
 -- The text has the step of the CPU's ring, and the others stay as they were.
 use Rattle.std.proofs.Common.{◌≡◌, Some, sym, subst, slice_get}
 use Rattle.std.proofs.lemmas.Result.{IfOk-weaker}
-use Rattle.step_telling.specs.Known.{StepTextValue, ring_known}
-use Rattle.step_telling.specs.Tells.{IsTold}
+use Rattle.script_replay.specs.Known.{StepTextValue, ring_known}
+use Rattle.script_replay.specs.Tells.{IsTold}
 use Rattle.step_text.proofs.Telling.{item_known, is_told, with_ring}
 use Rattle.step_text.proofs.teller.StepTextTeller.tell.Goals as goal
 

@@ -1,0 +1,12 @@
+use Rattle.std.proofs.Common.{[], refl}
+use Rattle.capture.proofs.FilesMore.{as-captured}
+use Rattle.capture.proofs.files.inputs.new_captured.Goals as goal
+
+pub returns : goal.returns
+returns c = λ page. record {
+  parts = [];
+  parts_are = refl;
+  cpus_are = as-captured [] _ c.in_ok-new_cpus.ensures;
+  names_are = c.new.ensures;
+  instances_are = refl;
+}

@@ -1,0 +1,148 @@
+-- What is read of files, by CPU.
+use Rattle.std.specs.Prelude.{◌≡◌, ◌⊎◌, ℕ, ◌+◌, ◌-◌, ◌^◌, ◌<◌, List, [], ◌∷◌, ◌++◌, length, map, min, Option, Some}
+use Rattle.std.specs.Prelude.{None}
+use Rattle.std.specs.List.{slice_get}
+use Rattle.std.specs.Io.KnownBytes.{Consumes}
+use Rattle.trace_model.specs.declared.limits.TheConstants.{MAX_CPUS}
+use Rattle.trace_model.specs.Image.{Missed, unknown}
+use Rattle.capture.specs.Pages.{Page, told, AreCut, Fit}
+use Rattle.capture.specs.Captures.{IsCapture}
+use Rattle.trace_dat.specs.kernel_texts.Names.{HasEvents}
+use Rattle.capture.specs.declared.part.Part.{Part}
+use Rattle.capture.specs.declared.files.captured.CpuCapture.{CpuCapture}
+use Rattle.capture.specs.declared.files.captured.Captured.{Captured}
+use Rattle.capture.specs.files.Files.{File, ModelPart, bytes_in, parts_of_cpu, ArePartsOf, all_formats, all_instances}
+use Rattle.capture.specs.files.Losses.{overrun_in, loss_of, settled}
+
+-- The pages of parts are those of the first, and then those of the others: each part is cut for itself.
+abbrev pub CutsOf : List ModelPart → List Page → Type 0
+CutsOf [] pages = pages ≡ []
+CutsOf (part ∷ parts) pages =
+    (own : List Page) × (others : List Page) × (pages ≡ own ++ others) × AreCut part.size part.bytes own
+    × CutsOf parts others
+
+-- the size of a part's pages, and how many bytes it has
+abbrev pub measured : ModelPart → Part
+measured part = record { size = part.size; length = length part.bytes }
+
+-- What is read of a CPU: the pages of these parts, with what is known of a loss of unknown number.
+pub record IsCpuCaptured (cpu : ℕ) (overrun : Option ℕ) (parts : List ModelPart) (found : CpuCapture) : Type 0 where
+  pub pages : List Page
+  pub cut : CutsOf parts pages
+  pub cpu_is : found.capture.cpu.0 ≡ cpu
+  pub capture_is : IsCapture found.capture (settled overrun pages)
+  pub parts_are : found.parts.items ≡ map measured parts
+  pub bytes_are : found.bytes ≡ bytes_in parts
+  pub bytes_fit : bytes_in parts < 2 ^ 64
+
+-- a part was counted
+pub record CountsPart (old new : CpuCapture) (part : Part) : Type 0 where
+  pub capture_is : new.capture ≡ old.capture
+  pub parts_are : new.parts.items ≡ old.parts.items ++ part ∷ []
+  pub bytes_are : new.bytes ≡ old.bytes + part.length
+  pub fits : old.bytes + part.length < 2 ^ 64
+
+-- What is read of a CPU so far, if a loss of unknown number is `known`.
+pub record IsCpuRead (known : Missed) (cpu : ℕ) (parts : List ModelPart) (found : CpuCapture) : Type 0 where
+  pub pages : List Page
+  pub cut : CutsOf parts pages
+  pub cpu_is : found.capture.cpu.0 ≡ cpu
+  pub capture_is : IsCapture found.capture (map (told known) pages)
+  pub parts_are : found.parts.items ≡ map measured parts
+  pub bytes_are : found.bytes ≡ bytes_in parts
+  pub bytes_fit : bytes_in parts < 2 ^ 64
+
+-- what is read of each CPU, if a loss of unknown number is `known` and these parts are read
+pub record AreCpusRead (known : Missed) (parts : List ModelPart) (cpus : List CpuCapture) : Type 0 where
+  pub count : length cpus ≡ MAX_CPUS
+  pub each : (cpu : ℕ) (found : CpuCapture) → slice_get cpus cpu ≡ Some found
+      → IsCpuRead known cpu (parts_of_cpu cpu parts) found
+
+-- what is read of each CPU, if the files have these parts
+pub record AreCpusCaptured (overrun : ℕ → Option ℕ) (parts : List ModelPart) (cpus : List CpuCapture) : Type 0 where
+  pub count : length cpus ≡ MAX_CPUS
+  pub each : (cpu : ℕ) (found : CpuCapture) → slice_get cpus cpu ≡ Some found
+      → IsCpuCaptured cpu (overrun cpu) (parts_of_cpu cpu parts) found
+
+-- What is read of files, none of which has a fault, if `overrun` states how many records of each CPU were overwritten.
+pub record AreFilesRead (overrun : ℕ → Option ℕ) (page : ℕ) (files : List File) (captured : Captured) : Type 0 where
+  pub parts : List ModelPart
+  pub parts_are : ArePartsOf page files parts
+  pub cpus_are : AreCpusCaptured overrun parts captured.cpus.items
+  pub names_are : HasEvents captured.names (all_formats files)
+  pub instances_are : captured.instances ≡ min (all_instances files) (2 ^ 64 - 1)
+
+-- What is read of files: if there is one alone, its counters settle losses.
+abbrev pub AreCaptured : (page : ℕ) → List File → Captured → Type 0
+AreCaptured page files captured = AreFilesRead (overrun_in files) page files captured
+
+-- nothing is known of what was overwritten
+abbrev pub unsaid : ℕ → Option ℕ
+unsaid cpu = None
+
+-- the numbers of a CPU's records, pages and bytes fit 64 bits
+pub record FitCpu (parts : List ModelPart) (pages : List Page) : Type 0 where
+  pub pages_fit : Fit pages
+  pub bytes_fit : bytes_in parts < 2 ^ 64
+
+-- these parts of a CPU were read, and with a beginning of the next one the numbers don't fit
+pub record IsPartPast (known : Missed) (parts : List ModelPart) (part : ModelPart) : Type 0 where
+  pub front : List ℕ
+  pub behind : List ℕ
+  pub bytes_are : part.bytes ≡ front ++ behind
+  pub pages : List Page
+  pub cut : CutsOf (parts ++ record part { bytes = front } ∷ []) pages
+  pub past : FitCpu (parts ++ record part { bytes = front } ∷ []) (map (told known) pages) → ⊥
+
+-- A source, of which `first` had been read, had `unread` before, and `left` after these bytes: none, if the first ones
+-- are less than a page.
+pub record IsRest (size : ℕ) (first : List ℕ) (unread left : Option (List ℕ)) (more : List ℕ) : Type 0 where
+  pub taken : Consumes unread left more
+  pub no_more : length first < size → more ≡ []
+
+-- a part, which is a source of which `first` had been read, was read after these parts of a CPU
+pub record AddsRaw (cpu size : ℕ) (first : List ℕ) (unread left : Option (List ℕ)) (parts : List ModelPart)
+    (found : CpuCapture) : Type 0 where
+  pub more : List ℕ
+  pub rest : IsRest size first unread left more
+  pub read : IsCpuRead unknown cpu (parts ++ record { cpu = cpu; size = size; bytes = first ++ more } ∷ []) found
+
+-- with a beginning of that part the numbers don't fit
+pub record IsRawPast (cpu size : ℕ) (first : List ℕ) (unread left : Option (List ℕ)) (parts : List ModelPart)
+    : Type 0 where
+  pub more : List ℕ
+  pub rest : IsRest size first unread left more
+  pub past : IsPartPast unknown parts (record { cpu = cpu; size = size; bytes = first ++ more })
+
+-- Numbers don't fit: of the parts of a CPU some were read, `whole`, and a beginning of the next one. A loss of unknown
+-- number is `known`.
+pub record IsCpuPast (known : Missed) (cpu : ℕ) (parts : List ModelPart) : Type 0 where
+  pub whole : List ModelPart
+  pub last : ModelPart
+  pub behind : List ℕ
+  pub further : List ModelPart
+  pub begin : parts_of_cpu cpu parts ≡ whole ++ record last { bytes = last.bytes ++ behind } ∷ further
+  pub pages : List Page
+  pub cut : CutsOf (whole ++ last ∷ []) pages
+  pub past : FitCpu (whole ++ last ∷ []) (map (told known) pages) → ⊥
+
+-- what is known of a loss of unknown number in the pages of parts: nothing, or what the counters say of it
+abbrev pub IsKnown : (overrun : Option ℕ) → List ModelPart → Missed → Type 0
+IsKnown overrun parts known =
+    (known ≡ unknown) ⊎ ((pages : List Page) × CutsOf parts pages × (known ≡ loss_of overrun pages))
+
+-- the numbers of a CPU don't fit, once what is known of its loss is counted
+abbrev pub IsOwnPast : (overrun : Option ℕ) → (cpu : ℕ) → List ModelPart → Type 0
+IsOwnPast overrun cpu parts =
+    (known : Missed) × IsKnown overrun (parts_of_cpu cpu parts) known × IsCpuPast known cpu parts
+
+-- Numbers of a CPU of these files don't fit, if `overrun` states how many records of each were overwritten.
+pub record AreFilesPast (overrun : ℕ → Option ℕ) (page : ℕ) (files : List File) : Type 0 where
+  pub parts : List ModelPart
+  pub parts_are : ArePartsOf page files parts
+  pub cpu : ℕ
+  pub past : IsOwnPast (overrun cpu) cpu parts
+
+-- Numbers of a CPU of these files don't fit.
+abbrev pub ArePast : (page : ℕ) → List File → Type 0
+ArePast page files = AreFilesPast (overrun_in files) page files

@@ -1,0 +1,21 @@
+//! Files of a kernel's trace, read: raw pages of a CPU's ring, and files of trace-cmd.
+//!
+//! What a file has of a CPU is a part: pages of one size. The pages of a CPU are those of its parts, in the order of
+//! the files. If there is one file alone, and it has the kernel's counters, they settle a CPU's only loss of unknown
+//! number.
+
+mod captured;
+mod cpu_part;
+mod cpus;
+mod dat;
+mod fault;
+mod first;
+mod inputs;
+pub mod laws;
+mod parts;
+mod raw;
+mod settle;
+
+pub use captured::{Captured, CpuCapture, Input};
+pub use fault::{FileFault, InputFault, Unread};
+pub use inputs::read_inputs;

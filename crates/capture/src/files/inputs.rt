@@ -1,0 +1,167 @@
+//! All files, one after the other.
+ghost use Rattle.std.specs.Prelude.{◌≡◌, ◌<◌, ◌≤◌, ℕ, false, true, List, [], take, length, All, IfOk, IfErr};
+ghost use Rattle.std.specs.Prelude.{OnOk};
+ghost use Rattle.std.specs.Io.KnownBytes.{IsAtEnd};
+ghost use Rattle.trace_model.specs.declared.limits.TheConstants.{MAX_CPUS};
+ghost use Rattle.capture.specs.files.Files.{File, is_dat};
+ghost use Rattle.capture.specs.files.Captures.{AreFilesRead, AreCaptured, unsaid};
+ghost use Rattle.capture.specs.files.FilesRead.{IsAlone, AddsRestOf, IsRestFault};
+ghost use Rattle.capture.specs.files.Inputs.{AreRead, IsUnread};
+
+use crate::files::captured::{Captured, Input};
+use crate::files::cpus::new_cpus;
+use crate::files::dat::{Losses, add_dat};
+use crate::files::fault::{InputFault, Unread};
+use crate::files::first::read_rest;
+use crate::files::raw::add_raw;
+use command_io::Source;
+use std::alloc::{AllocError, Global};
+use trace_dat::begins_trace_dat;
+use trace_dat::kernel_texts::EventNames;
+use trace_model::CpuId;
+
+/// Reads a file of trace-cmd, of which the first bytes are read already.
+fn read_dat<R: Source>(
+    alloc: Global,
+    first: &[u8],
+    reader: &mut R,
+    losses: Losses,
+    captured: &mut Captured,
+) -> Result<(), InputFault>
+    requires dat { is_dat first.now ≡ true }
+    requires sound { R.failed reader.old ≡ false }
+    requires known { (page : ℕ) × (files : List File) × IsAlone losses files
+        × AreFilesRead unsaid page files captured.old }
+    ensures read { (page cpu : ℕ) (files : List File) → IsAlone losses files
+        → AreFilesRead unsaid page files captured.old → OnOk result
+        (AddsRestOf losses page cpu first.now (R.remaining reader.old) (R.remaining reader.new) files captured.new) }
+    ensures end { OnOk result (IsAtEnd (R.remaining reader.new)) }
+    ensures sound { OnOk result (R.failed reader.new ≡ false) }
+    ensures fault { (page cpu : ℕ) (files : List File) → IsAlone losses files
+        → AreFilesRead unsaid page files captured.old → IfErr result (λ fault.
+        IsRestFault losses page cpu first.now (R.remaining reader.old) (R.remaining reader.new) (R.failed reader.new)
+        files fault) }
+{
+    let file = read_rest(alloc, first, reader)?;
+    add_dat(alloc, captured, file.as_slice(), losses)
+}
+
+/// Reads a file of raw pages of a CPU, of whose first page `filled` bytes are read already, into `piece`.
+fn read_raw<R: Source>(
+    alloc: Global,
+    cpu: CpuId,
+    piece: &mut [u8],
+    filled: usize,
+    reader: &mut R,
+    captured: &mut Captured,
+) -> Result<(), InputFault>
+    requires cpu { cpu.0 < MAX_CPUS }
+    requires some { 48 ≤ length piece.old }
+    requires filled { filled ≤ length piece.old }
+    requires at_end { filled < length piece.old → IsAtEnd (R.remaining reader.old) }
+    requires raw { is_dat (take filled piece.old) ≡ false }
+    requires sound { R.failed reader.old ≡ false }
+    requires known { (page : ℕ) × (files : List File) × AreFilesRead unsaid page files captured.old }
+    ensures read { (losses : Losses) (files : List File) → AreFilesRead unsaid (length piece.old) files captured.old
+        → OnOk result (AddsRestOf losses (length piece.old) cpu.0 (take filled piece.old) (R.remaining reader.old)
+        (R.remaining reader.new) files captured.new) }
+    ensures end { OnOk result (IsAtEnd (R.remaining reader.new)) }
+    ensures sound { OnOk result (R.failed reader.new ≡ false) }
+    ensures fault { (losses : Losses) (files : List File) → AreFilesRead unsaid (length piece.old) files captured.old
+        → IfErr result (λ fault. IsRestFault losses (length piece.old) cpu.0 (take filled piece.old)
+        (R.remaining reader.old) (R.remaining reader.new) (R.failed reader.new) files fault) }
+{
+    add_raw(
+        alloc,
+        &mut captured.cpus[cpu.0 as usize],
+        piece,
+        filled,
+        reader,
+    )?;
+    Ok(())
+}
+
+/// Reads a file, which has raw pages of this size, in bytes, if it isn't one of trace-cmd.
+fn read_input<R: Source>(
+    alloc: Global,
+    page: usize,
+    input: &mut Input<R>,
+    losses: Losses,
+    captured: &mut Captured,
+) -> Result<(), InputFault>
+    requires page { 48 ≤ page }
+    requires cpu { input.old.cpu.0 < MAX_CPUS }
+    requires sound { R.failed input.old.reader ≡ false }
+    requires known { (files : List File) × IsAlone losses files × AreFilesRead unsaid page files captured.old }
+    ensures cpu { input.new.cpu ≡ input.old.cpu }
+    ensures read { (files : List File) → IsAlone losses files → AreFilesRead unsaid page files captured.old
+        → OnOk result (AddsRestOf losses page input.old.cpu.0 [] (R.remaining input.old.reader)
+        (R.remaining input.new.reader) files captured.new) }
+    ensures end { OnOk result (IsAtEnd (R.remaining input.new.reader)) }
+    ensures sound { OnOk result (R.failed input.new.reader ≡ false) }
+    ensures fault { (files : List File) → IsAlone losses files → AreFilesRead unsaid page files captured.old
+        → IfErr result (λ fault. IsRestFault losses page input.old.cpu.0 [] (R.remaining input.old.reader)
+        (R.remaining input.new.reader) (R.failed input.new.reader) files fault) }
+{
+    let mut piece = vec![in alloc; 0u8; page]?;
+    let Ok(filled) = fill_piece(&mut input.reader, piece.as_mut_slice()) else {
+        return Err(InputFault::Read);
+    };
+    if begins_trace_dat(&piece[..filled]) {
+        return read_dat(alloc, &piece[..filled], &mut input.reader, losses, captured);
+    }
+    read_raw(
+        alloc,
+        input.cpu,
+        piece.as_mut_slice(),
+        filled,
+        &mut input.reader,
+        captured,
+    )
+}
+
+/// Nothing is read.
+fn new_captured(alloc: Global) -> Result<Captured, AllocError>
+    ensures { IfOk result (λ captured. (page : ℕ) → AreFilesRead unsaid page [] captured) }
+{
+    Ok(Captured {
+        cpus: new_cpus(alloc)?,
+        names: EventNames::new(alloc),
+        instances: 0,
+    })
+}
+
+/// Reads all files, one after the other, each to its end. `page` is the size of a raw page, in bytes. After a fault
+/// nothing more is read. A file of trace-cmd is held in memory while it is read, and not longer.
+pub fn read_inputs<R: Source>(
+    alloc: Global,
+    page: usize,
+    inputs: &mut [Input<R>],
+) -> Result<Captured, Unread>
+    requires page { 48 ≤ page }
+    requires some { 0 < length inputs.old }
+    requires cpus { All (λ input. input.cpu.0 < MAX_CPUS) inputs.old }
+    requires sound { All (λ input. R.failed input.reader ≡ false) inputs.old }
+    ensures read { IfOk result (λ captured. (files : List File)
+        × AreRead R.remaining R.failed inputs.old inputs.new files × AreCaptured page files captured) }
+    ensures unread { IfErr result (λ unread.
+        IsUnread R.remaining R.failed page inputs.old inputs.new unread.input unread.fault) }
+{
+    let Ok(mut captured) = new_captured(alloc) else {
+        return Err(Unread {
+            input: 0,
+            fault: InputFault::NoMemory,
+        });
+    };
+    let losses = if inputs.len() == 1 {
+        Losses::Settled
+    } else {
+        Losses::Kept
+    };
+    for at in 0..inputs.len() {
+        if let Err(fault) = read_input(alloc, page, &mut inputs[at], losses, &mut captured) {
+            return Err(Unread { input: at, fault });
+        }
+    }
+    Ok(captured)
+}

@@ -1,0 +1,20 @@
+-- The exit status of `recover`.
+use Rattle.std.specs.Prelude.{ℕ, if◌then◌else◌}
+use Rattle.command_io.specs.declared.status.TheConstants.{DONE, REFUSED, NO_MEMORY, END_FAILED}
+use Rattle.collect_command.specs.declared.recovery.ending.Outcome.{Outcome}
+use Rattle.collect_command.specs.declared.recovery.ending.Ending.{Ending}
+use Rattle.collect_command.specs.declared.recovery.ending.Ending.TheVariants.{Done, Damaged, Malformed, NoMemory, NotRead}
+use Rattle.collect_command.specs.declared.recovery.ending.Ending.TheVariants.{TooLong, NotWritten}
+
+abbrev pub status_for : Ending → ℕ
+status_for Done = DONE
+status_for Damaged = REFUSED
+status_for (Malformed input) = REFUSED
+status_for NoMemory = NO_MEMORY
+status_for (NotRead input) = END_FAILED
+status_for (TooLong input) = END_FAILED
+status_for NotWritten = END_FAILED
+
+-- 4 if new pieces couldn't be kept
+abbrev pub status_of_run : Outcome → ℕ
+status_of_run outcome = if outcome.is_kept then status_for outcome.ending else END_FAILED

@@ -1,0 +1,88 @@
+-- What is made of pieces: a fleet and the pieces that were new, or a line for each.
+use Rattle.std.specs.Prelude.{◌≡◌, ℕ, Bool, true, false, List, [], ◌∷◌, ◌++◌, map, flat_map, Option}
+use Rattle.std.specs.Io.KnownBytes.{Appends}
+use Rattle.command_io.specs.CommandRun.{AppendsPrefix}
+use Rattle.parcel_streams.specs.Pieces.{Packed, bytes_of_pieces}
+use Rattle.parcel_streams.specs.Answers.{piece_seen, pieces_seen}
+use Rattle.parcel_streams.specs.declared.piece.Piece.{Piece}
+use Rattle.stream_collector.specs.Stream.{Stream}
+use Rattle.stream_collector.specs.declared.added.Added.{Added}
+use Rattle.stream_collector.specs.declared.added.Added.TheVariants.{New, Known, Forgotten}
+use Rattle.fleet_collector.specs.declared.refusal.PieceRefusal.{PieceRefusal}
+use Rattle.fleet_collector.specs.Pieces.{AddsPiece, IsRefusal}
+use Rattle.fleet_collector.specs.Told.{IsFleetOf}
+use Rattle.capture_text.specs.declared.form.Form.{Form}
+use Rattle.text_values.specs.declared.buffer.TextBuffer.{TextBuffer}
+use Rattle.text_values.specs.Putting.{HasPut, Puts}
+use Rattle.fleet_text.specs.Pieces.{piece_line}
+use Rattle.collect_command.specs.streams.Reading.{Placed, piece_length}
+
+-- what is kept of a piece that was added: the piece if it was new, and else nothing
+abbrev pub kept_of : Piece → Added → List Packed
+kept_of piece New = piece_seen piece ∷ []
+kept_of piece Known = []
+kept_of piece Forgotten = []
+
+-- Pieces were added to an empty fleet, one after the other, and it has become this one. Those that were new when they
+-- came are kept, in their order.
+pub data AreAdded : List Piece → List (ℕ × Stream) → (kept : List Packed) → Type 0 where
+  none_added : AreAdded [] [] []
+  one_more : (pieces : List Piece) (old new : List (ℕ × Stream)) (kept : List Packed) (piece : Piece) (added : Added)
+      → AreAdded pieces old kept → AddsPiece old new piece added
+      → AreAdded (pieces ++ piece ∷ []) new (kept ++ kept_of piece added)
+
+-- ---- one piece
+
+-- A piece was added to a fleet, and its bytes were put if it was new.
+pub record Gathers (piece : Piece) (old : List (ℕ × Stream)) (b : TextBuffer) (contents : Option (List ℕ))
+    (failed : Bool)
+    (new : List (ℕ × Stream)) (b' : TextBuffer) (contents' : Option (List ℕ)) (failed' : Bool) : Type 0 where
+  pub added : Added
+  pub adds : AddsPiece old new piece added
+  pub put : Puts (bytes_of_pieces (kept_of piece added)) b contents failed b' contents' failed'
+
+-- it was refused, and all stays
+pub record Refuses (piece : Piece) (refusal : PieceRefusal) (old : List (ℕ × Stream)) (b : TextBuffer)
+    (contents : Option (List ℕ)) (failed : Bool) (new : List (ℕ × Stream)) (b' : TextBuffer)
+    (contents' : Option (List ℕ)) (failed' : Bool) : Type 0 where
+  pub refused : IsRefusal old piece refusal
+  pub fleet_stays : new ≡ old
+  pub buffer_stays : b' ≡ b
+  pub contents_stay : contents' ≡ contents
+  pub sound_stays : failed' ≡ failed
+
+-- a line was put for it
+pub record PrintsPiece (placed : Placed) (form : Form) (b : TextBuffer) (contents : Option (List ℕ)) (failed : Bool)
+    (form' : Form) (b' : TextBuffer) (contents' : Option (List ℕ)) (failed' : Bool) : Type 0 where
+  pub form_stays : form' ≡ form
+  pub put : Puts (piece_line form placed.input placed.at (piece_length placed.piece) (piece_seen placed.piece))
+      b contents failed b' contents' failed'
+
+-- ---- all pieces
+
+-- These pieces were added to an empty fleet, and those that were new were put.
+pub record HasGathered (start contents : Option (List ℕ)) (failed : Bool) (buffer : TextBuffer)
+    (fleet : List (ℕ × Stream)) (pieces : List Piece) : Type 0 where
+  pub kept : List Packed
+  pub added : AreAdded pieces fleet kept
+  pub put : HasPut start contents failed (bytes_of_pieces kept) buffer
+
+-- the pieces without their places
+abbrev pub pieces_in : List Placed → List Piece
+pieces_in pieces = map (λ placed. placed.piece) pieces
+
+-- the lines of pieces
+abbrev pub piece_lines : Form → List Placed → List ℕ
+piece_lines form pieces = flat_map
+    (λ placed. piece_line form placed.input placed.at (piece_length placed.piece) (piece_seen placed.piece)) pieces
+
+-- What became of pieces: the fleet is theirs, and of exactly what is kept; the bytes of that were written, or a
+-- beginning of them if a write failed.
+pub record IsGathered (contents after : Option (List ℕ)) (failed : Bool) (pieces : List Piece)
+    (fleet : List (ℕ × Stream)) (is_kept : Bool) : Type 0 where
+  pub kept : List Packed
+  pub added : AreAdded pieces fleet kept
+  pub told : IsFleetOf (pieces_seen pieces) fleet
+  pub kept_told : IsFleetOf kept fleet
+  pub written : failed ≡ false → Appends contents after (bytes_of_pieces kept) × (is_kept ≡ true)
+  pub cut_off : failed ≡ true → AppendsPrefix contents after (bytes_of_pieces kept) × (is_kept ≡ false)

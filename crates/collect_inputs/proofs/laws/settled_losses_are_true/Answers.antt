@@ -1,5 +1,0 @@
-use Rattle.collect_inputs.proofs.TrueLosses.{one-settled, others-stay}
-use Rattle.collect_inputs.proofs.laws.settled_losses_are_true.Goals as goal
-
-pub returns : goal.returns
-returns c = record { one = one-settled; others = others-stay }

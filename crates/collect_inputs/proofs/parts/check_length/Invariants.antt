@@ -1,8 +1,0 @@
-use Rattle.std.proofs.Common.{◌≡◌, ◌+◌, drop, map}
-use Rattle.collect_inputs.specs.Files.{bytes_in}
-use Rattle.collect_inputs.specs.Giving.{part_seen}
-use Rattle.collect_inputs.proofs.parts.check_length.Given as goal
-
-abbrev pub invariant-loop-part : goal.invariant-loop-part
-invariant-loop-part l =
-    bytes_in (map part_seen l.parts) + l.left ≡ l.len + bytes_in (map part_seen (drop l.part-index l.parts))

@@ -1,6 +1,0 @@
-use Rattle.std.proofs.Common.{◌≡◌, take}
-use Rattle.collect_inputs.specs.Losses.{missed_in}
-use Rattle.collect_inputs.proofs.settle.missed_of_all.Given as goal
-
-abbrev pub invariant-loop-parcel : goal.invariant-loop-parcel
-invariant-loop-parcel l = l.total ≡ missed_in (take l.parcel-index l.parcels)

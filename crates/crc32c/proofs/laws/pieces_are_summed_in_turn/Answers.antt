@@ -1,8 +1,0 @@
-use Rattle.crc32c.proofs.Sums.{crc32c_after-crc32c, crc32c_after-first}
-use Rattle.crc32c.proofs.laws.pieces_are_summed_in_turn.Goals as goal
-
-pub returns-clause-first : goal.returns-clause-first
-returns-clause-first c = crc32c_after-first
-
-pub returns-clause-next : goal.returns-clause-next
-returns-clause-next c = crc32c_after-crc32c

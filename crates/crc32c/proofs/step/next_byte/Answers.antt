@@ -1,6 +1,0 @@
-use Rattle.std.proofs.lemmas.Nat.{and_mask}
-use Rattle.crc32c.proofs.Bytes.{next_byte-split}
-use Rattle.crc32c.proofs.step.next_byte.Goals as goal
-
-pub returns : goal.returns
-returns c = let low = and_mask c.args.remainder 8 in let split = next_byte-split c.args.remainder c.args.byte in cc

@@ -1,8 +1,0 @@
-//! Deliveries: a page that was taken is found by its fill, and added to a collector.
-#![tactic(auto)]
-
-mod adding;
-mod finding;
-
-pub use adding::collect;
-pub use finding::find;

@@ -1,6 +1,0 @@
-mod LeastFaults
-pub mod Flat
-mod EqualRecords
-pub mod Sums
-mod Answered
-mod Rising

@@ -1,7 +1,0 @@
-use Rattle.ledger_audit.specs.Audit.{taken_in}
-use Rattle.ledger_audit.proofs.Sums.{is_sum, headline}
-use Rattle.ledger_audit.proofs.laws.audited_collectors_are_exact.Goals as goal
-
-pub returns : goal.returns
-returns c = λ n size start cores ledgers kept rings audited.
-    headline n size start cores ledgers rings kept (is_sum kept (taken_in ledgers) audited)

@@ -1,6 +1,0 @@
-use Rattle.page_numbers.specs.Parcels.{as_parcels}
-use Rattle.ledger_audit.proofs.Rising.{RiseTo}
-use Rattle.ledger_audit.proofs.order.are_rising_of.Given as goal
-
-abbrev pub invariant-loop-index : goal.invariant-loop-index
-invariant-loop-index l = RiseTo l.cpu (as_parcels l.parcels) l.index

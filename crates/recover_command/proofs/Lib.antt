@@ -1,3 +1,0 @@
-pub mod AllRead
-pub mod Told
-pub mod Adds

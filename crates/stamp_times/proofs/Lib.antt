@@ -1,4 +1,0 @@
-mod Restored
-mod Puts
-mod Steps
-pub mod Stamps

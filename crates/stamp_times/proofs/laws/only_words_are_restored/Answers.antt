@@ -1,5 +1,0 @@
-use Rattle.stamp_times.proofs.Stamps.{restored-parts, restored-joined}
-use Rattle.stamp_times.proofs.laws.only_words_are_restored.Goals as goal
-
-pub returns : goal.returns
-returns c = record { parts = restored-parts; words = restored-joined }

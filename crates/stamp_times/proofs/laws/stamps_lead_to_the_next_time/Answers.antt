@@ -1,5 +1,0 @@
-use Rattle.stamp_times.proofs.Stamps.{low-bits, next-time, high-bits, added-bits}
-use Rattle.stamp_times.proofs.laws.stamps_lead_to_the_next_time.Goals as goal
-
-pub returns : goal.returns
-returns c = record { low_bits = low-bits; next = next-time; high_bits = high-bits; added = added-bits }

@@ -1,4 +1,0 @@
-pub mod Readings
-pub mod Inputs
-pub mod Gathered
-pub mod Endings

@@ -1,3 +1,0 @@
-pub mod Chains
-mod Digits
-mod Written

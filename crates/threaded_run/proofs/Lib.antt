@@ -1,6 +1,0 @@
-pub mod Ends
-pub mod Rows
-pub mod LastStates
-pub mod OneRuns
-pub mod Readers
-pub mod Completed

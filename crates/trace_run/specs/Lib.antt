@@ -1,0 +1,4 @@
+pub mod writers
+pub mod readers
+pub mod ledgers
+pub mod threaded

@@ -1,4 +1,0 @@
-use Rattle.writer_thread.proofs.writer.LineWriter.depth.Goals as goal
-
-pub returns : goal.returns
-returns c = c.depth.ensures.part c.requires

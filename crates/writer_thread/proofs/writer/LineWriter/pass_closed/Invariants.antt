@@ -1,5 +1,0 @@
-use Rattle.writer_thread.specs.Asking.{HavePassed}
-use Rattle.writer_thread.proofs.writer.LineWriter.pass_closed.Given as goal
-
-abbrev pub invariant-loop-closed : goal.invariant-loop-closed
-invariant-loop-closed g l = HavePassed g.G.Gate.answers l.gate l.cpu.0 l.done l.closed
