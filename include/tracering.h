@@ -50,7 +50,7 @@
 #ifndef TRACERING_H
 #define TRACERING_H
 
-// The library's version. (tools/version reads these lines, for whatever else states it.)
+// The library's version. (packaging/version reads these lines, for whatever else states it.)
 #define TRACERING_VERSION "0.1.0"
 #define TRACERING_VERSION_MAJOR 0
 #define TRACERING_VERSION_MINOR 1

@@ -9,8 +9,8 @@ import subprocess
 import sys
 from pathlib import Path
 
-import flight_dump as form
-from flight_dump import Site
+from made import flight_dumps as form
+from made.flight_dumps import Site
 
 TOP, TOOL = Path(__file__).resolve().parent.parent, Path(sys.argv[0]).name
 FLAGS = ["-std=c11", "-D_POSIX_C_SOURCE=200809L", f"-I{TOP}/include"]
