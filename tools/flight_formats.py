@@ -1,4 +1,4 @@
-"""Formats for tools/flight-show: rows whose text is known, and random ones that C or Rust prints.
+"""Formats for tests/c/flight-show: rows whose text is known, and random ones that C or Rust prints.
 
 A row is a format, its arguments as pairs of a kind and a value, and the text.
 """
