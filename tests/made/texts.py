@@ -3,12 +3,10 @@ examples/, those of its captures by the plain `collect` of tests/oracles/collect
 """
 
 import gzip
-from pathlib import Path
 
+from made.calls import EXAMPLES, read_calls
 from oracles import collect
 
-TOP = Path(__file__).resolve().parents[2]
-EXAMPLES = TOP / "examples"
 CAPTURES = EXAMPLES / "captures"
 # Captures that are listed whole; those of trace-cmd, and damaged.raw, are named below.
 FOLDERS = ("exact", "filter", "gaps", "idle", "live", "overrun", "quiet", "stamps")
@@ -96,10 +94,10 @@ def cpu_of(word):
 
 
 def stored():
-    """The outputs of scripts, by the script's name; not their steps, of which these readers know nothing."""
-    for args in sorted(EXAMPLES.glob("*.trace.args")):
-        if not args.name.startswith("usage_") and args.read_text().split()[0] != "steps":
-            yield args.name.removesuffix(".trace.args"), args.with_suffix(".stdout").read_text()
+    """The outputs of scripts, by the files' names; not their steps, of which these readers know nothing."""
+    for call in read_calls():
+        if call.stored and call.words[0] in (b"replay", b"run"):
+            yield call.stored.removesuffix(".stdout"), call.wanted.decode()
 
 
 def data_of(file):
