@@ -6,13 +6,11 @@ in a file for each CPU.
 
 import gzip
 import struct
-import sys
 
-from lib import count, images, tables
+from lib import count, tables
 from lib.programs import TOP, Failure, tracering
-
-sys.path.insert(0, str(TOP / "tools"))
-import plain_trace_dat
+from oracles.image import reading
+from oracles.trace_dat import reading as dat_reading
 
 NEEDS = ("rt", "trace-cmd", "/usr/bin/time")
 KEPT = TOP / "examples" / "captures" / "dat_lost" / "trace.dat.gz"
@@ -23,11 +21,11 @@ MOST_TIME, MOST_MEMORY = 1 / 3, 3
 
 def kept_pages(file, cpu):
     """The pages of a kept file, each with the time from its own to its last record's, and how many records it has."""
-    [(_, _, cpus)] = [buffer for buffer in plain_trace_dat.reading(file)[1] if not buffer[0]]
+    [(_, _, cpus)] = [buffer for buffer in dat_reading(file)[1] if not buffer[0]]
     data = dict(cpus)[cpu]
     for at in range(0, len(data), PAGE):
         page = data[at : at + PAGE]
-        time, size, _, records = images.reading(page)
+        time, size, _, records = reading(page)
         yield page[16:], size, records[-1][0] - time if records else 0, len(records)
 
 
@@ -45,7 +43,7 @@ def capture(file, cpu, length=CPU_BYTES // PAGE):
 def trace_dat(file, captures):
     """The file with these pages: its own are named no longer."""
     file += bytes(-len(file) % PAGE)
-    [(_, _, cpus)] = [buffer for buffer in plain_trace_dat.reading(file)[1] if not buffer[0]]
+    [(_, _, cpus)] = [buffer for buffer in dat_reading(file)[1] if not buffer[0]]
     end = len(file)
     for (cpu, pages), made in zip(cpus, captures):
         old = struct.pack("<IQQ", cpu, file.index(pages), len(pages))

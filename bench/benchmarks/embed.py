@@ -46,7 +46,7 @@ def embedded(folder):
     """The program that writes by the library, by the plain ring, or only copies."""
     call([TOP / "tracering-lib"])
     program = folder / "embed"
-    call(["cc", "-O2", f"-I{TOP}/include", "-o", program, BENCH / "rivals/embed/main.c", TOP / "out/libtracering.a"])
+    call(["cc", "-O2", f"-I{TOP}/c/include", "-o", program, BENCH / "rivals/embed/main.c", TOP / "out/libtracering.a"])
     return program
 
 
@@ -144,8 +144,8 @@ def larger(program):
 def events(folder):
     """Events of the flight recorder, beside records of as many bytes."""
     program = folder / "flight_speed"
-    source = TOP / "bindings/c/flight_speed.c"
-    call(["cc", "-O2", f"-I{TOP}/include", "-o", program, source, TOP / "out/libtracering.a", "-lpthread"])
+    source = TOP / "tests/c/flight_speed.c"
+    call(["cc", "-O2", f"-I{TOP}/c/include", "-o", program, source, TOP / "out/libtracering.a", "-lpthread"])
     lines = count.output([program]).decode().splitlines()
     took = {name: float(nanoseconds) for name, nanoseconds, _ in map(str.split, lines)}
     yield "Nanoseconds an event, the least of 200 runs, and how many times those of the record."

@@ -31,9 +31,9 @@ FORGETTING.append((1_000_000, 100_000, "rising", "forget"))
 
 
 def built(folder, name, *libraries):
-    source = SOURCES / f"{name}.c" if name != "fleet_scale" else TOP / f"bindings/c/{name}.c"
+    source = SOURCES / f"{name}.c" if name != "fleet_scale" else TOP / f"tests/c/{name}.c"
     program = folder / name
-    call(["cc", "-O2", "-std=c11", f"-I{TOP}/include", source, TOP / "out/libtracering.a", *libraries, "-o", program])
+    call(["cc", "-O2", "-std=c11", f"-I{TOP}/c/include", source, TOP / "out/libtracering.a", *libraries, "-o", program])
     return program
 
 

@@ -1,7 +1,7 @@
 """Made scripts, page images and captures, whole and damaged, to the program and to plain rivals: `bench/run fuzz COUNT SEED`
 
 The rival of `replay` is plain Rust (bench/rivals/replay), those of `dump` and of `collect` are plain Python
-(bench/lib/images.py, tools/plain_collect.py). Inputs on which they differ are kept in the folder for temporary files.
+(tests/oracles/image.py, collect.py). Inputs on which they differ are kept in the folder for temporary files.
 """
 
 import random
@@ -10,8 +10,10 @@ import tempfile
 from concurrent.futures import ThreadPoolExecutor
 from pathlib import Path
 
-from lib import captures, images, scripts, tables
+from lib import scripts, tables
 from lib.programs import Failure, rival, tracering
+from made import captures, images
+from oracles.image import dumped
 
 NEEDS = ("rt", "rustc")
 # How many programs are run at a time.
@@ -40,7 +42,7 @@ def compare_scripts(pool, rng, programs, count, seed):
 
 def compare_images(pool, rng, program, count, seed):
     made = [images.made_image(rng) for _ in range(IMAGES * count)]
-    wanted = [images.dumped(image) for image in made]
+    wanted = [dumped(image) for image in made]
     found = list(pool.map(lambda image: ran(program, ["dump"], image), made))
     differ = [kept(f"{seed}-{at}.page", made[at]) for at in range(len(made)) if found[at] != wanted[at]]
     return "page images", sum(answer[0] == 1 for answer in wanted), differ

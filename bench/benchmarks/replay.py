@@ -10,7 +10,8 @@ import tempfile
 from pathlib import Path
 
 from lib import count, scripts, tables
-from lib.programs import TOP, Failure, rival, tracering
+from lib.programs import Failure, rival, tracering
+from made.calls import read_calls
 
 NEEDS = ("rt", "rustc", "valgrind", "/usr/bin/time")
 MADE, SEED = 600, 1
@@ -43,10 +44,9 @@ class Replays:
     def compare(self):
         """Replays the examples and the made scripts by both, and answers how many there are of each."""
         examples = 0
-        for script in sorted((TOP / "examples").glob("*.trace")):
-            words = script.with_name(script.name + ".args").read_text().split()
-            if words and words[0] == "replay" and words[1:] in ([], ["--log"]):
-                self.alike(script, words[1:])
+        for call in read_calls():
+            if call.stored and call.words[0] == b"replay":
+                self.alike(call.given, [word.decode() for word in call.words[1:]])
                 examples += 1
         rng = random.Random(SEED)
         for _ in range(MADE):

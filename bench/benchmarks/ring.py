@@ -6,7 +6,7 @@ each page is taken when it is closed.
 
 from lib import count, tables
 from lib.programs import Failure, rival, staged
-from row_texts import TEXT, rows_of
+from made.worked_rows import TEXT, rows_of
 
 NEEDS = ("rt", "rustc", "valgrind")
 RECORDS, LENGTH = 1_000_000, 16

@@ -3,15 +3,14 @@
 import os
 import shutil
 import subprocess
-import sys
 import tempfile
 import zlib
 from pathlib import Path
 
+from over_gate import NotBuilt, below, build_archive, build_program, kit, read_uses
+
 BENCH = Path(__file__).resolve().parent.parent
 TOP = BENCH.parent
-sys.path.insert(0, str(TOP / "tools"))
-from over_gate import NotBuilt, below, build_archive, build_program, kit, read_uses
 
 # Set in the environment if programs are built over what the merge gate left in this checkout.
 OVER_GATE = "TRACERING_OVER_GATE"

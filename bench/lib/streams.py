@@ -2,15 +2,9 @@
 
 import random
 import struct
-import sys
-from pathlib import Path
 
-TOP = Path(__file__).resolve().parent.parent.parent
-sys.path.insert(0, str(TOP / "tools"))
-
-from plain_fleet import sealed
-
-from lib.images import word
+from made.images import word
+from oracles.fleet import sealed
 
 # How many records a parcel has, of what payload, and how long after each other.
 RECORDS, PAYLOAD, DELTA = 10, 24, 100

@@ -5,7 +5,7 @@ ghost use Rattle.trace_cli.specs.Answers.{OnlyVersionLine};
 
 use command_io::{DONE, END_FAILED, Sink, write_all};
 
-/// The line that `--version` prints. `tools/version --check` compares it with `include/tracering.h`.
+/// The line that `--version` prints. `tests/sources/version` compares it with `c/include/tracering.h`.
 pub const VERSION_LINE: &[u8] = b"tracering 0.1.0\n";
 
 /// Writes [`VERSION_LINE`]. Gives the exit status 0, or 4 if a write fails.

@@ -1,0 +1,263 @@
+"""A plain `collect`, to compare with the program's: it works out from the bytes of captures what docs/FORMATS.md says
+is printed of them, in "Captures".
+"""
+
+import struct
+
+from oracles import trace_dat
+from oracles.image import MOST, Fault, missed_before, records
+
+MAGIC = b"\x17\x08Dtracing"
+NUMBERS, STAMP, CPUS = 1 << 64, 1 << 59, 256
+
+
+class Refused(Exception):
+    """Why nothing is listed."""
+
+
+# ---- pages
+
+
+def restored(time, data):
+    """The data of a page with an extend in place of each stamp that has bits to take from the time before it."""
+    data, at = bytearray(data), 0
+    while len(data) - at >= 4:
+        first = int.from_bytes(data[at : at + 4], "little")
+        kind, delta = first & 31, first >> 5
+        if kind == 29 and delta == 0 or not 1 <= kind <= 28 and len(data) - at < 8:
+            break
+        second = int.from_bytes(data[at + 4 : at + 8], "little")
+        length = 4 + 4 * kind if 1 <= kind <= 28 else 8 if kind in (30, 31) else 4 + second
+        if kind in (0, 29) and (second < 4 or second % 4) or at + length > len(data):
+            break
+        if kind == 31:
+            stamp = delta + (second << 27)
+            if time >= STAMP:
+                until = (stamp - time) % STAMP
+                data[at : at + 8] = struct.pack("<II", 30 | (until % (1 << 27)) << 5, until >> 27)
+                time += until
+            else:
+                time = stamp
+        elif kind == 30:
+            time += delta + (second << 27)
+        elif kind != 29:
+            time += delta
+        time %= NUMBERS
+        at += length
+    return bytes(data)
+
+
+def page_reading(image):
+    """What a page states of losses before it, and its records, or a `Fault`."""
+    if len(image) < 16:
+        raise Fault("TooShort")
+    time, commit = struct.unpack_from("<QQ", image)
+    size = commit & 0x3FFF_FFFF
+    if size > len(image) - 16 or len(image) > MOST:
+        raise Fault("BadSize")
+    missed = missed_before(image, commit, size)
+    # trace-cmd writes such a count of a loss of unknown number.
+    missed = "unknown" if missed == NUMBERS - 1 else missed
+    return missed, [*records(time, restored(time, image[16 : 16 + size]))]
+
+
+class Cpu:
+    """What there is of one CPU."""
+
+    def __init__(self, cpu):
+        self.cpu, self.next, self.pages, self.bytes = cpu, 0, 0, 0
+        self.records, self.missing, self.unknown, self.damaged = [], [], [], []
+
+    def add_page(self, image, unknown):
+        try:
+            missed, found = page_reading(image)
+        except Fault as fault:
+            self.damaged.append((self.next, self.pages, self.bytes, str(fault)))
+        else:
+            if missed == "unknown" and unknown == 1:
+                self.unknown.append(self.next)
+            lost = {"none": 0, "unknown": unknown}.get(missed, missed)
+            if self.next + lost + len(found) >= NUMBERS:
+                raise Refused("numbers")
+            if lost:
+                self.missing.append((self.next, self.next + lost - 1))
+            first = self.next + lost
+            self.records += [(moment, self.cpu, first + at, data) for at, (moment, data) in enumerate(found)]
+            self.next = first + len(found)
+        self.pages += 1
+        self.bytes += len(image)
+
+    def add_part(self, size, pages, unknown=1):
+        for at in range(0, len(pages), size):
+            self.add_page(pages[at : at + size], unknown)
+
+    def runs(self):
+        """The missing numbers, as runs that don't touch each other."""
+        merged = []
+        for first, last in self.missing:
+            if merged and merged[-1][1] + 1 == first:
+                first = merged.pop()[0]
+            merged.append((first, last))
+        return merged
+
+
+# ---- files
+
+
+def dat_parts(file):
+    """The parts of the main buffer of a file of trace-cmd, its formats, and its counters by CPU."""
+    try:
+        formats, buffers, texts = trace_dat.reading(file)
+    except trace_dat.Fault as fault:
+        raise Refused("trace.dat: %s at %d" % fault.args) from fault
+    parts = []
+    for name, page_size, cpus in buffers:
+        if name:
+            continue
+        if not 4096 <= page_size <= 65536:
+            raise Refused(f"trace.dat: BadPage {page_size}")
+        for cpu, pages in cpus:
+            if cpu >= CPUS:
+                raise Refused(f"trace.dat: BadCpu {cpu}")
+            parts.append((cpu, page_size, pages))
+    if sum(len(pages) for _, _, pages in parts) > len(file):
+        raise Refused("trace.dat: Overlap")
+    counters = {}
+    for text in texts:
+        cpu = trace_dat.number(trace_dat.value(text, b"CPU: "), NUMBERS)
+        overrun = trace_dat.number(trace_dat.value(text, b"overrun: "), NUMBERS)
+        if None not in (cpu, overrun):
+            counters.setdefault(cpu, overrun)
+    return parts, formats, counters
+
+
+def settled(cpu, parts, overrun):
+    """The CPU, with the number of its only loss of unknown number, if its counters have it."""
+    found = Cpu(cpu)
+    for size, pages in parts:
+        found.add_part(size, pages)
+    lost = sum(last - first + 1 for first, last in found.missing) - len(found.unknown)
+    if overrun is None or len(found.unknown) != 1 or found.damaged or overrun <= lost:
+        return found
+    told = Cpu(cpu)
+    for size, pages in parts:
+        told.add_part(size, pages, overrun - lost)
+    told.unknown = []
+    return told
+
+
+def read_files(files, page):
+    """The CPUs that the files have, and the formats of events."""
+    cpus, formats = {}, []
+    for cpu, file in files:
+        parts, counters = [(cpu, page, file)], {}
+        if file.startswith(MAGIC):
+            parts, found, counters = dat_parts(file)
+            formats += found
+        if len(files) > 1:
+            counters = {}
+        of_cpu = {}
+        for number, size, pages in parts:
+            of_cpu.setdefault(number, []).append((size, pages))
+        for number, own in of_cpu.items():
+            if len(files) == 1:
+                cpus[number] = settled(number, own, counters.get(number))
+                continue
+            for size, pages in own:
+                cpus.setdefault(number, Cpu(number)).add_part(size, pages)
+    return cpus, formats
+
+
+# ---- texts
+
+
+def events_of(formats):
+    events = {}
+    for system, text in formats:
+        kind = trace_dat.number(trace_dat.value(text, b"ID: "), 1 << 16)
+        name = trace_dat.value(text, b"name: ")
+        if kind is not None and name is not None:
+            events[kind] = system, name
+    return events
+
+
+def shown(name):
+    return "".join(chr(byte) if 33 <= byte <= 126 and byte not in b'"\\' else "?" for byte in name)
+
+
+def quoted(text):
+    """A text in quotes, with escapes."""
+    try:
+        text.decode()
+        high = None
+    except UnicodeDecodeError:
+        high = b"\\ufffd"
+    out = bytearray(b'"')
+    for byte in text:
+        escape = {34: b'\\"', 92: b"\\\\", 10: b"\\n", 9: b"\\t", 13: b"\\r"}.get(byte)
+        if escape is None and (byte < 32 or byte == 127):
+            escape = b"\\u%04x" % byte
+        if escape is None and byte >= 128:
+            escape = high
+        out += escape or bytes([byte])
+    return bytes(out) + b'"'
+
+
+class Event:
+    """The event of a record, with its process, and its text if it is a marker."""
+
+    def __init__(self, data, events):
+        self.pid = self.name = self.text = None
+        if len(data) >= 8:
+            kind, self.pid = struct.unpack_from("<H2xi", data)
+            found = events.get(kind)
+            self.name = ":".join(map(shown, found)) if found else kind
+            if found == (b"ftrace", b"print"):
+                self.text = quoted(data[16:].split(b"\0")[0])
+
+
+def text_line(record, events):
+    moment, cpu, number, data = record
+    words = [b"%d %d %d" % (cpu, number, moment)]
+    if events is not None:
+        event = Event(data, events)
+        words.append(b"- -" if event.pid is None else f"{event.pid} {event.name}".encode())
+        words += [event.text] if event.text is not None else []
+    return b" ".join([*words, data.hex().encode() or b"-"]) + b"\n"
+
+
+def json_line(record, events):
+    moment, cpu, number, data = record
+    keys = b'"cpu":%d,"number":%d,"time":%d,' % (cpu, number, moment)
+    if events is not None:
+        event = Event(data, events)
+        if event.pid is not None:
+            name = event.name if isinstance(event.name, int) else f'"{event.name}"'
+            keys += f'"pid":{event.pid},"event":{name},'.encode()
+        if event.text is not None:
+            keys += b'"text":' + event.text + b","
+    return b"{" + keys + b'"data":"' + data.hex().encode() + b'"}\n'
+
+
+def collected(files, page=4096, json=False, names=False, formats=()):
+    """The exit status and the output for files, each with the CPU that it is of if it is raw."""
+    try:
+        cpus, found = read_files(files, page)
+    except Refused as refused:
+        return 1, f"{refused}\n".encode()
+    events = events_of([*found, *formats]) if names else None
+    order = [cpus[number] for number in sorted(cpus)]
+    line = json_line if json else text_line
+    out = [line(record, events) for record in sorted(record for cpu in order for record in cpu.records)]
+    kinds = {
+        "missing": ('{"cpu":%d,"missing":[%d,%d]}' if json else "missing %d %d-%d"),
+        "unknown": ('{"cpu":%d,"unknown":%d}' if json else "unknown %d %d"),
+        "damaged": (
+            '{"cpu":%d,"damaged":%d,"page":%d,"byte":%d,"fault":"%s"}' if json else "damaged %d %d page %d byte %d: %s"
+        ),
+    }
+    rows = [("missing", run) for cpu in order for run in ((cpu.cpu, *run) for run in cpu.runs())]
+    rows += [("unknown", (cpu.cpu, number)) for cpu in order for number in cpu.unknown]
+    rows += [("damaged", (cpu.cpu, *page)) for cpu in order for page in cpu.damaged]
+    out += [(kinds[kind] % row).encode() + b"\n" for kind, row in rows]
+    return int(any(cpu.damaged for cpu in order)), b"".join(out)

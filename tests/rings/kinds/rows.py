@@ -1,0 +1,12 @@
+"""Exchanges with a ring, which are answered as by a plain ring."""
+
+from made.rows import Source
+from oracles.ring import compare
+
+# How many lists of events there are.
+LISTS = 1_500
+
+
+def tried(program, seed=1):
+    compare(program, map(Source(seed).row, range(LISTS)), f"random: seed {seed}, rows")
+    return f"{LISTS:,} random rows are answered as by the plain ring"
