@@ -4,4 +4,4 @@
 mod command;
 pub mod laws;
 
-pub use command::{fault_line, read_text, replay_to};
+pub use command::replay_to;

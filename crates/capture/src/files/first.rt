@@ -4,7 +4,7 @@ ghost use Rattle.std.specs.Io.KnownBytes.{Consumes, IsAtEnd};
 ghost use Rattle.capture.specs.files.Giving.{IsReadOrMemory};
 
 use crate::files::fault::InputFault;
-use command_io::{READ_CHUNK, Source};
+use command_io::{READ_CHUNK, Source, fill_piece};
 use std::alloc::Global;
 
 /// All of a file, of which the first bytes are read already.

@@ -14,7 +14,7 @@ use crate::files::dat::{Losses, add_dat};
 use crate::files::fault::{InputFault, Unread};
 use crate::files::first::read_rest;
 use crate::files::raw::add_raw;
-use command_io::Source;
+use command_io::{Source, fill_piece};
 use std::alloc::{AllocError, Global};
 use trace_dat::begins_trace_dat;
 use trace_dat::kernel_texts::EventNames;

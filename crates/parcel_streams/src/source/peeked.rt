@@ -3,7 +3,7 @@ ghost use Rattle.std.specs.Prelude.{◌≤◌};
 ghost use Rattle.parcel_streams.specs.declared.source.peeked.TheConstants.{PEEKED};
 
 use crate::is_stream;
-use command_io::Source;
+use command_io::{Source, fill_piece};
 use std::io;
 
 /// How many bytes are looked at: the letters with which a stream begins.
