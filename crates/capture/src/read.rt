@@ -1,7 +1,7 @@
 //! A capture, read from its source in pieces of one page.
-ghost use Rattle.std.specs.Prelude.{◌≡◌, ◌↔◌, ◌<◌, ◌≤◌, false, true, Err, length, take, IfOk, IsErr, OnOk};
+ghost use Rattle.std.specs.Prelude.{◌≡◌, ◌↔◌, ◌<◌, ◌≤◌, false, true, Err, length, take, IfOk, OnOk};
 ghost use Rattle.std.specs.Prelude.{List};
-ghost use Rattle.std.specs.Io.KnownBytes.{Consumes, IsAtEnd};
+ghost use Rattle.std.specs.Io.KnownBytes.{IsAtEnd};
 ghost use Rattle.trace_model.specs.declared.limits.TheConstants.{MAX_CPUS};
 ghost use Rattle.capture.specs.Pages.{Page};
 ghost use Rattle.capture.specs.Captures.{IsCapture};

@@ -2,7 +2,7 @@
 -- docs/MODEL.md, "The running ring"; the words are specified in docs/FORMATS.md, "The ring".
 use Rattle.std.specs.Prelude.{◌≡◌, ℕ, ◌+◌, ◌-◌, ◌<◌, ◌≤◌, List, [], ◌∷◌, length, map, take, Option, Some, None, false}
 use Rattle.std.specs.Prelude.{slice_index_or}
-use mathlib.Core.Option.{some, none}
+use mathlib.Core.Option.{some}
 use mathlib.Core.Option as maybe
 use lib.ListN.{get_elem?}
 use Rattle.atomic_table.specs.Table.{State}
