@@ -37,8 +37,8 @@ fn put_line(out: &mut Vec<u8>, fault: ScriptFault) -> Result<(), NoMemory>
     Ok(())
 }
 
-/// Puts the line that states the fault, in the form of `docs/FORMATS.md`, "Printed text". If memory is refused, the
-/// text is as before.
+/// Puts the line that states the fault, in the form of `docs/formats/program.md`, "Printed text". If memory is refused,
+/// the text is as before.
 pub fn put_fault(out: &mut Vec<u8>, fault: ScriptFault) -> Result<(), NoMemory>
     ensures text { OnOk result (out.new.items ≡ out.old.items ++ (script_fault_text fault ++ 10 ∷ [])) }
     ensures kept { OnErr result (out.new.items ≡ out.old.items) }
