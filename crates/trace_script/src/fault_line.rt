@@ -1,4 +1,4 @@
-//! The printing of a script's fault.
+//! The printing of a script's fault. The fault's own `Display` is derived by `thiserror`; derived code has no contract.
 ghost use Rattle.std.specs.Prelude.{◌≡◌, ◌∷◌, [], ◌++◌, OnOk, OnErr, codes};
 ghost use Rattle.std.specs.Fmt.{decimal};
 ghost use Rattle.trace_model.specs.Sublist.{IsPrefix};
