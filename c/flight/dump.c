@@ -1,4 +1,4 @@
-// The flight recorder: dumps, which docs/FORMATS.md, "Flight dump", describes, and those that are made in a crash.
+// The flight recorder: dumps (docs/formats/files.md, "Flight dump"), and those that are made in a crash.
 #define _GNU_SOURCE
 #include "recorder.h"
 

@@ -1,4 +1,4 @@
-// The flight recorder's file, in which its rings lie, and all that their records need to be read: docs/FORMATS.md,
+// The flight recorder's file, which has its rings, and all that their records need to be read: docs/formats/files.md,
 // "Flight file". Whatever is stored here is stored so that the process may be killed after any instruction.
 #define _GNU_SOURCE
 #include "recorder.h"

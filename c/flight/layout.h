@@ -1,5 +1,5 @@
-// The bytes of a flight file, which the recorder writes and `tracering-flight` reads: docs/FORMATS.md, "Flight file".
-// All its numbers are words of eight bytes, but those of sites.
+// The bytes of a flight file, which the recorder writes and `tracering-flight` reads: docs/formats/files.md,
+// "Flight file". All its numbers are words of eight bytes, but those of sites.
 #ifndef FLIGHT_LAYOUT_H
 #define FLIGHT_LAYOUT_H
 

@@ -1,5 +1,5 @@
 // The flight recorder: threads and the rings that they have. c/include/tracering_flight.h says what each call does,
-// docs/FORMATS.md, "Flight dump", what a dump has, docs/ARCHITECTURE.md how the parts work together.
+// docs/formats/files.md, "Flight dump", what a dump has, recorder.h how the parts work together.
 //
 // TRACE, flight_dump, flight_name and the handlers keep to what a signal's handler may do: they take no memory and no
 // lock, and errno is as it was. What no handler of the same thread may interrupt runs with all signals blocked.

@@ -1,5 +1,18 @@
 // What the parts of the flight recorder share. Names that begin with flight_ are those of its functions that other
 // files call; nothing outside the library sees those of this file.
+//
+// How they work together. TRACE has a static flight_site, puts its arguments in a row (FLIGHT_PUT), and calls
+// flight_record (recorder.c), which writes them to the first ring of the thread's slot that isn't in a call. A thread
+// gets a slot by a compare and exchange of its owner (claim), and notes a lease in it.
+//
+// A dump (put_all, dump.c) gathers from each slot (flight_gather, gather.c) the closed pages of its rings, into the
+// queue of kept pages, then a copy of each page that is written. Nobody writes the ring meanwhile: the dump's own
+// thread has all signals blocked; another one gathers itself, in the handler of the signal that it is sent (ask,
+// flight_answer); a free slot belongs to the dump meanwhile. The slot's words request and owner settle who gathers.
+// Other uses of a slot are between go_in and go_out, which flight_stop waits for.
+//
+// With a file (file.c) rings, leases, counts of refusals and sites are there; a forked child leaves it
+// (flight_leave_file).
 #ifndef RECORDER_H
 #define RECORDER_H
 

@@ -3,10 +3,10 @@
 // One thread writes and one thread reads; neither waits for the other. Records are numbered from 0 on. If the ring is
 // full, the oldest closed page is overwritten, and the reader knows how many records were lost. What is taken is a
 // parcel: a page with its CPU, its fill, its first record's number and the count of lost records, in bytes that can be
-// stored and sent (docs/FORMATS.md, "Parcel bytes"). A collector puts parcels together again, of one CPU or of many,
-// whatever their order and repeats: it lists their records by time, and knows which numbers are missing. A fleet does
-// so for many streams, each of which is one incarnation of a machine: its pieces, which are packed parcels and marks,
-// come in any order and any number of times (docs/FORMATS.md, "Streams of parcels").
+// stored and sent (docs/formats/pages.md, "Parcel bytes"). A collector puts parcels together again, of one CPU or of
+// many, whatever their order and repeats: it lists their records by time, and knows which numbers are missing. A fleet
+// does so for many streams, each of which is one incarnation of a machine: its pieces, which are packed parcels and
+// marks, come in any order and any number of times (docs/formats/pages.md, "Streams of parcels").
 //
 // Handles. A handle is all zeros before its first call: {0} in C, and in C and C++ TRACERING_WRITER_INIT,
 // TRACERING_READER_INIT, TRACERING_COLLECTOR_INIT and TRACERING_FLEET_INIT. Only the calls below change it, and it must

@@ -16,7 +16,7 @@
 // that the first store to a page of a file which the kernel writes back to its disk may wait for that. A slot says how
 // much of it is whole in one word, its commit. That is zero from before the page's first byte until the first of its
 // records is whole, and is stored whenever the last frame is completed: so what a kill interrupts is there whole, or
-// not at all. docs/FORMATS.md, "Regions", has the bytes.
+// not at all. docs/formats/pages.md, "Regions", has the bytes.
 //
 // Survivors. What is left is each record that was complete when nothing was begun, unless its page was overwritten, or
 // given to the reader; the page that was given last is there until the reader's next take. Records that are nested in
@@ -69,10 +69,10 @@ size_t tracering_region_size(size_t pages, size_t size);
 int32_t tracering_raw_new_in(struct tracering_held *, struct tracering_held *, uint32_t, size_t, size_t, uint64_t,
     void *, size_t);
 
-// A new ring, as `tracering_new` makes it, whose pages lie in the `len` bytes from `region` on. What was there before
+// A new ring, as `tracering_new` makes it, whose pages are in the `len` bytes from `region` on. What was there before
 // is gone. All other memory of the ring is malloc's. `stream` is an id for its records: another one for each run. Rings
-// of one run may share it, if each has a CPU of its own (examples/c_recorder/survive.c; docs/FORMATS.md, "Streams of
-// parcels"). The region becomes one last, when all else is stored: a process that is killed in this call leaves none.
+// of one run may share it, if each has a CPU of its own (examples/c_recorder/survive.c; docs/formats/pages.md, "Streams
+// of parcels"). The region becomes one last, when all else is stored: a process killed in this call leaves none.
 // IN_USE, BAD_CPU, BAD_SIZE as new answers them. BAD_REGION: there are fewer bytes than `tracering_region_size` says,
 // they begin at no multiple of TRACERING_REGION_ALIGN, or an end of another ring in them isn't freed. Then nothing is
 // changed. NO_MEMORY: the handles aren't changed; the bytes may be, and then are no region.

@@ -1,4 +1,4 @@
-// The bytes of a region: docs/FORMATS.md, "Regions".
+// The bytes of a region: docs/formats/pages.md, "Regions".
 #ifndef REGION_LAYOUT_H
 #define REGION_LAYOUT_H
 

@@ -1,5 +1,5 @@
 #!/usr/bin/env python3
-"""Writes the regions of this folder, from the format alone: docs/FORMATS.md, "Regions"."""
+"""Writes the regions of this folder, from the format alone: docs/formats/pages.md, "Regions"."""
 
 import importlib.util
 import struct

@@ -1,5 +1,5 @@
 #!/usr/bin/env python3
-"""Writes the streams of this folder, from the format alone: docs/FORMATS.md, "Streams of parcels"."""
+"""Writes the streams of this folder, from the format alone: docs/formats/pages.md, "Streams of parcels"."""
 
 import struct
 from pathlib import Path

@@ -1,5 +1,5 @@
-// A strict reader of flight dumps for the tests, written from docs/FORMATS.md alone: whatever isn't as it says there
-// ends the program. It shares no code with the recorder or with `tracering-flight`.
+// A strict reader of flight dumps for the tests, written from docs/formats/files.md alone: whatever isn't as it says
+// there ends the program. It shares no code with the recorder or with `tracering-flight`.
 #ifndef FLIGHT_READER_H
 #define FLIGHT_READER_H
 

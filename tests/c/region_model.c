@@ -1,5 +1,5 @@
 // A plain ring behind the exports of the library, for the tools that try regions: a slot's words are stored in the
-// order that docs/FORMATS.md, "Regions", states. It is linked in front of the library, whose collectors are used.
+// order that docs/formats/pages.md, "Regions", states. It is linked in front of the library, whose collectors are used.
 // Compiled with PLANT_COMMIT_STAYS it leaves the commit of a page that it begins anew as it was, and with
 // PLANT_COMMIT_EARLY it commits a record before its bytes.
 //

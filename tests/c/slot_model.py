@@ -4,7 +4,7 @@
 The writer fills the slot again and again: it zeroes commit, stores the fill, and then each cell of data and how many
 are whole. Its stores are seen in their order, and each load of the reader is done before the next one, at any moment
 that isn't before that of the last. What the reader takes for whole has to be of the fill that it says. The order that
-docs/FORMATS.md, "Regions", states is never wrong; each other one that is tried here has to be.
+docs/formats/pages.md, "Regions", states is never wrong; each other one that is tried here has to be.
 """
 
 import sys

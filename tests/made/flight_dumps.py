@@ -1,4 +1,4 @@
-"""Makes dumps of the flight recorder from their format alone (docs/FORMATS.md, "Flight dump" and "Parcel bytes")."""
+"""Makes dumps of the flight recorder from their format alone (docs/formats, "Flight dump" and "Parcel bytes")."""
 
 import struct
 from dataclasses import dataclass, field

@@ -1,4 +1,4 @@
-"""Makes flight files from their format alone (docs/FORMATS.md, "Flight file" and "Regions")."""
+"""Makes flight files from their format alone (docs/formats, "Flight file" and "Regions")."""
 
 from dataclasses import dataclass, field
 

@@ -1,5 +1,5 @@
-"""A plain `collect`, to compare with the program's: it works out from the bytes of captures what docs/FORMATS.md says
-is printed of them, in "Captures".
+"""A plain `collect`, to compare with the program's: it works out from the bytes of captures what
+docs/formats/program.md says is printed of them, in "Captures".
 """
 
 import struct

@@ -1,6 +1,6 @@
 """A plain collector, to compare with `rows`: it keeps its records in a dictionary and its missing numbers in
-a list, and works out from them what the rules say: those of docs/FORMATS.md, in "Page image", "Parcel bytes" and
-"Printed text", and those of docs/PROVED.md, in "`collector`".
+a list, and works out from them what the rules say: those of docs/formats, in "Page image", "Parcel bytes" and "Printed
+text", and those of docs/PROVED.md, in "`collector`".
 """
 
 import re

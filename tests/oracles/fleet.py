@@ -1,5 +1,5 @@
 """A plain `collect` of streams of pieces, to compare with the program's: it works out from their bytes what
-docs/FORMATS.md says is printed of them, in "Streams of parcels".
+docs/formats says is printed of them, in "Streams of parcels" and "Fleets".
 
     PYTHONPATH=tests python3 -m oracles.fleet [--json] [--parcels | --keep FILE] FILE..     - is standard input
 

@@ -21,7 +21,7 @@ def missed_before(image, commit, size):
 
 
 def reading(image):
-    """The time of a page image, its size, what was missed before it, and its records, by docs/FORMATS.md."""
+    """The time of a page image, its size, what was missed before it, and its records, by docs/formats/pages.md."""
     if len(image) < 16:
         raise Fault("TooShort")
     time, commit = struct.unpack_from("<QQ", image)

@@ -1,5 +1,5 @@
-"""A plain `recover` of regions, to compare with the program's: it works out from their bytes what docs/FORMATS.md says
-is recovered of them, in "Regions", and prints it as "Regions" and "Fleets" there say.
+"""A plain `recover` of regions, to compare with the program's: it works out from their bytes what docs/formats says is
+recovered of them, in "Regions", and prints it as "Recovery" and "Fleets" there say.
 
     PYTHONPATH=tests python3 -m oracles.region [--json] [--keep FILE] FILE..     - is standard input
 

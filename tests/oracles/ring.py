@@ -1,6 +1,6 @@
 """A plain ring, to compare with `rows`: it keeps whole lists, and works out from them what the rules of
-docs/FORMATS.md, "The ring", say. The program asks the ring as a value and the two ends of a running ring, so there are two
-plain rings: the second makes a take whole with the step that ends it.
+docs/formats/ring.md, "The ring", say. The program asks the ring as a value and the two ends of a running ring, so there
+are two plain rings: the second makes a take whole with the step that ends it.
 """
 
 import re

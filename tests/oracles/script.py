@@ -1,4 +1,4 @@
-"""Reads a script, after docs/FORMATS.md, "Script"."""
+"""Reads a script, after docs/formats/program.md, "Script"."""
 
 import re
 from typing import NamedTuple

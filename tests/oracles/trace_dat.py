@@ -1,5 +1,5 @@
 """A plain reader of the files of trace-cmd, to compare with `rows`: it steps through the bytes by offsets, as
-docs/FORMATS.md says, and tells what a file holds in the same words."""
+docs/formats/files.md says, and says what a file holds in the same words."""
 
 
 class Fault(Exception):

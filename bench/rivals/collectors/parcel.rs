@@ -1,4 +1,4 @@
-//! Parcels and files of them, as bytes (docs/FORMATS.md, "Parcel bytes").
+//! Parcels and files of them, as bytes (docs/formats/pages.md, "Parcel bytes").
 //!
 //! A file of parcels is this benchmark's own: how many there are, each after its number of bytes; how many
 //! deliveries there are, each the place of its parcel among them, from 0. All these numbers are 8 bytes, the lowest

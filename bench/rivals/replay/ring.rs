@@ -1,4 +1,4 @@
-//! The ring of one CPU, step by step (docs/FORMATS.md, "The ring"). All its pages are one flat buffer.
+//! The ring of one CPU, step by step (docs/formats/ring.md, "The ring"). All its pages are one flat buffer.
 
 const MAX_FRAMES: usize = 4;
 const MOMENT_LIMIT: u64 = 1 << 59;

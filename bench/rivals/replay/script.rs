@@ -1,4 +1,4 @@
-//! A script's text, read whole into a list of commands, or its first fault (docs/FORMATS.md, "Script").
+//! A script's text, read whole into a list of commands, or its first fault (docs/formats/program.md, "Script").
 
 use crate::text::{decode, decoded_pair, number_of};
 

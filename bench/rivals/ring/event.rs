@@ -1,4 +1,4 @@
-//! What is asked of a ring, and what it answers (docs/FORMATS.md, "What is asked, and what is answered").
+//! What is asked of a ring, and what it answers (docs/formats/ring.md, "What is asked, and what is answered").
 
 use crate::page::{Body, Page};
 

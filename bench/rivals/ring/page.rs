@@ -1,4 +1,4 @@
-//! Pages of records in the words of docs/FORMATS.md, "Record words".
+//! Pages of records in the words of docs/formats/pages.md, "Record words".
 
 use std::iter;
 

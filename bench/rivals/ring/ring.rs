@@ -1,4 +1,4 @@
-//! A ring of this project's rules (docs/FORMATS.md, "The ring") in plain Rust: one value, one event at a time.
+//! A ring of this project's rules (docs/formats/ring.md, "The ring") in plain Rust: one value, one event at a time.
 
 use crate::event::{Answer, Ended, Event, FillNo, RecordNo, WriteFault};
 use crate::page::{longest_slot, slot_len, Body, Page, Place};

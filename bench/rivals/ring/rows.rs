@@ -248,7 +248,7 @@ fn hex(bytes: &[u8]) -> String {
     bytes.iter().map(|byte| format!("{byte:02x}")).collect()
 }
 
-/// The image of a page before which `missed` records are missing: docs/FORMATS.md, "Page image".
+/// The image of a page before which `missed` records are missing: docs/formats/pages.md, "Page image".
 fn image(page: &Page, missed: u64, size: usize) -> String {
     let data = page.data();
     let counted = missed > 0 && data.len() + 8 <= size;

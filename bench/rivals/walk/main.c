@@ -1,6 +1,6 @@
 // A bare walk over the records of a page image from standard input, to measure the reading of tracering against:
-// the same tests of each word as docs/FORMATS.md has them, nothing copied, and at the end one line printed. Its exit
-// status is 0 if the image has at most 4,096 bytes and reads.
+// the same tests of each word as docs/formats/pages.md has them, nothing copied, and at the end one line printed. Its
+// exit status is 0 if the image has at most 4,096 bytes and reads.
 #include <stdint.h>
 #include <stdio.h>
 #include <string.h>

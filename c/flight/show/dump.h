@@ -1,5 +1,5 @@
-// A flight dump, or a flight file, that was read and checked (docs/FORMATS.md, "Flight dump", "Flight file"). What is
-// named in it, are bytes of the file.
+// A flight dump, or a flight file, that was read and checked (docs/formats/files.md, "Flight dump", "Flight file"). The
+// bytes that it names are bytes of the file.
 #ifndef FLIGHT_SHOW_DUMP_H
 #define FLIGHT_SHOW_DUMP_H
 

@@ -1,4 +1,4 @@
-// Flight files (docs/FORMATS.md, "Flight file"): they are copied, since a program may write them, and then read as a
+// Flight files (docs/formats/files.md, "Flight file"): they are copied, since a program may write them, then read as a
 // dump.
 #ifndef FLIGHT_SHOW_FILE_H
 #define FLIGHT_SHOW_FILE_H

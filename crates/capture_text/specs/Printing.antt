@@ -1,5 +1,5 @@
 -- The lines of a collection: of its records, of its missing runs, of losses of unknown number, and of damaged pages, as
--- text or as JSON. docs/FORMATS.md, "Captures".
+-- text or as JSON. docs/formats/program.md, "Captures".
 use Rattle.std.specs.Prelude.{ℕ, ◌+◌, ◌-◌, ◌*◌, ◌==◌, nat_lt, if◌then◌else◌, List, [], ◌∷◌, ◌++◌, flat_map, codes}
 use Rattle.std.specs.Prelude.{Option, Some, None}
 use Rattle.std.specs.Int.{div_ceil}

@@ -1,4 +1,4 @@
--- The line that is printed in place of a listing. docs/FORMATS.md, "Captures".
+-- The line that is printed in place of a listing. docs/formats/program.md, "Captures".
 use Rattle.std.specs.Prelude.{ℕ, List, [], ◌∷◌, ◌++◌, codes}
 use Rattle.std.specs.Fmt.{decimal}
 use Rattle.text_model.specs.Text.{line_feed}

@@ -1,4 +1,4 @@
--- The line that says why nothing is made of a piece. docs/FORMATS.md, "Fleets".
+-- The line that says why nothing is made of a piece. docs/formats/program.md, "Fleets".
 use Rattle.std.specs.Prelude.{ℕ, Bool, true, false, List, [], ◌∷◌, ◌++◌, codes}
 use Rattle.std.specs.Fmt.{decimal}
 use Rattle.text_model.specs.Text.{line_feed, space}

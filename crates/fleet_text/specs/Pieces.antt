@@ -1,4 +1,4 @@
--- The lines of pieces, as text or as JSON. docs/FORMATS.md, "Fleets".
+-- The lines of pieces, as text or as JSON. docs/formats/program.md, "Fleets".
 use Rattle.std.specs.Prelude.{ℕ, ◌-◌, List, [], ◌∷◌, ◌++◌, length, codes}
 use Rattle.std.specs.Fmt.{decimal}
 use Rattle.text_model.specs.Text.{line_feed, space}

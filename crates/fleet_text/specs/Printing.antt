@@ -1,4 +1,4 @@
--- The lines of a fleet: of its records, and of the runs of its numbers, as text or as JSON. docs/FORMATS.md,
+-- The lines of a fleet: of its records, and of the runs of its numbers, as text or as JSON. docs/formats/program.md,
 -- "Fleets".
 use Rattle.std.specs.Prelude.{ℕ, List, [], ◌∷◌, ◌++◌, codes}
 use Rattle.std.specs.Int.{w64, to_be_bytes}

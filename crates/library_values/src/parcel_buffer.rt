@@ -1,4 +1,4 @@
-//! A page as parcel bytes in a caller's buffer, for which no memory is taken: `docs/FORMATS.md`, "Parcel bytes".
+//! A page as parcel bytes in a caller's buffer, for which no memory is taken: `docs/formats/pages.md`, "Parcel bytes".
 ghost use Rattle.std.specs.Prelude.{◌≡◌, ◌+◌, ◌-◌, ◌≤◌, ◌++◌, ℕ, List, take, drop, length, replicate, true};
 ghost use Rattle.std.specs.Int.{to_le_bytes, w64};
 ghost use Rattle.trace_model.specs.declared.limits.TheConstants.{MAX_SIZE};

@@ -1,5 +1,5 @@
 -- What the lines of one CPU's writer make of its history: one part for each line, in their order, without words or
--- loads of the ring. docs/FORMATS.md, "Script" and "Writer frames".
+-- loads of the ring. docs/formats/program.md, "Script", and docs/formats/ring.md, "Writer frames".
 use Rattle.std.specs.Prelude.{◌≡◌, ◌≢◌, ℕ, zero, suc, ◌+◌, ◌-◌, ◌≤◌, ◌⊎◌, ⊤, Bool, true, false, nat_eq, if◌then◌else◌}
 use Rattle.std.specs.Prelude.{List, [], ◌∷◌, ◌++◌, length, drop, Option, Some, None}
 use Rattle.trace_model.specs.declared.limits.TheConstants.{MAX_FRAMES, MOMENT_LIMIT, LINK_FILLS}

@@ -1,4 +1,4 @@
--- A frame that is alone on the stack: what it is refused, as statements. docs/FORMATS.md, "Writer frames".
+-- A frame that is alone on the stack: what it is refused, as statements. docs/formats/ring.md, "Writer frames".
 use Rattle.std.specs.Prelude.{◌≡◌, ◌≢◌, ℕ, ◌+◌, ◌≤◌, ⊤, List, [], ◌∷◌, length}
 use Rattle.trace_model.specs.declared.limits.TheConstants.{LINK_FILLS}
 use Rattle.trace_model.specs.History.{reserved_records}

@@ -1,5 +1,5 @@
 -- The calls of a writer for its lines, whatever the reader does between them.
--- docs/FORMATS.md, "Writer frames".
+-- docs/formats/ring.md, "Writer frames".
 use Rattle.std.specs.Prelude.{◌≡◌, ℕ, zero, suc, ◌+◌, ◌≤◌, ◌⊎◌, List, [], ◌∷◌, ◌++◌, length}
 use Rattle.trace_model.specs.History.{HistoryEvent}
 use Rattle.trace_model.specs.Frames.{Frame, WriteFault}

@@ -1,4 +1,5 @@
--- Which records the `w` and `c` lines of a CPU commit. docs/FORMATS.md, "Script" and "Writer frames".
+-- Which records the `w` and `c` lines of a CPU commit. docs/formats/program.md, "Script", and docs/formats/ring.md,
+-- "Writer frames".
 use Rattle.std.specs.Prelude.{◌≡◌, ◌≢◌, ℕ, max, ◌+◌, ◌≤◌, ◌⊎◌, ⊤, Bool, IsTrue, true, false, ◌&&◌, if◌then◌else◌}
 use Rattle.std.specs.Prelude.{nat_le, nat_lt, List, [], ◌∷◌, ◌++◌, length}
 use Rattle.trace_model.specs.declared.limits.TheConstants.{MIN_PAGES, MOMENT_LIMIT, LINK_FILLS}

@@ -1,7 +1,7 @@
 //! Page images, read.
 //!
 //! An image is a page as the kernel gives it to its readers: a header of 16 bytes and the data after it, specified in
-//! `docs/FORMATS.md`, "Page image".
+//! `docs/formats/pages.md`, "Page image".
 ghost use Rattle.std.specs.Prelude.{◌≡◌, ◌≢◌, ℕ, ◌*◌, ◌≤◌, ◌↔◌, IfOk, IfErr, length};
 ghost use Rattle.trace_model.specs.Faults.{Cause};
 ghost use Rattle.trace_model.specs.Image.{DecodesImage, FirstImageFault, too_short, bad_size, bad_count, bad_word};

@@ -1,6 +1,6 @@
 //! Pages of a trace ring: a header and the data that holds the records.
 //!
-//! The layout is that of the kernel's `struct buffer_data_page`, specified in `docs/FORMATS.md`.
+//! The layout is that of the kernel's `struct buffer_data_page`, specified in `docs/formats/pages.md`, "Page image".
 //!
 //! Code without loops names no fact of a page: `Page::fresh` gives what `Page::put` asks for, and `put` and a payload
 //! that is written give it again. A loop names what it keeps: that the page reads, the moment of its last record, and

@@ -89,7 +89,7 @@ impl Page {
 
     /// Adds a record of this moment with a zeroed payload after the others; it must fit. The answer is where
     /// its payload is: `len` bytes, rounded up to a multiple of 4 and at least 4. `prev` is the moment of the
-    /// last record, if there is one, and not above `moment`.
+    /// last record, if there is one, and not above `moment`; the caller knows it, and the page would have to be walked.
     #[inline(always)]
     pub fn put(&mut self, prev: u64, moment: u64, len: usize) -> Place
         requires { CanPut self.old prev moment len }

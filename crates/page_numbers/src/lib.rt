@@ -1,7 +1,7 @@
 //! Parcels: taken pages that are shared, each under its CPU, its fill and its records' numbers.
 //!
 //! A parcel has the records of one page and knows which numbers are missing before them. Its bytes are specified in
-//! `docs/FORMATS.md`, "Parcel bytes".
+//! `docs/formats/pages.md`, "Parcel bytes".
 #![tactic(auto)]
 
 mod fault;

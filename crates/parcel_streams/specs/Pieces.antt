@@ -1,5 +1,5 @@
 -- Streams of parcels: pieces, one after the other. A piece is a parcel, or a mark, which says something of a CPU's
--- numbers. All of it is this project's own, stated in docs/FORMATS.md, "Streams of parcels".
+-- numbers. All of it is this project's own, stated in docs/formats/pages.md, "Streams of parcels".
 use Rattle.std.specs.Prelude.{◌≡◌, ℕ, ◌+◌, ◌*◌, ◌^◌, ◌<◌, ◌≤◌, ⊤, List, [], ◌∷◌, ◌++◌, length}
 use Rattle.parcel_streams.specs.crc32c.Castagnoli.{crc32c}
 use Rattle.trace_model.specs.Words.{Decodes}

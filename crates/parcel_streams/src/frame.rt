@@ -77,7 +77,8 @@ fn has_sum(bytes: &[u8], len: usize) -> bool
     number_at(bytes, len - SUM) == u64::from(crc32c(&bytes[..len - SUM]))
 }
 
-/// The piece at the front, once its head and its checksum are read.
+/// The piece at the front, once its head and its checksum are read. Only the letters, the version and the length are
+/// looked at before the checksum, so that damage is reported as such.
 pub(crate) fn read_frame(bytes: &[u8]) -> Result<Frame<'_>, PieceFault>
     ensures frame { IfOk result (λ frame. HasFrame bytes.now frame) }
     ensures fault { IfErr result (λ fault. IsPieceFault bytes.now fault) }

@@ -2,7 +2,7 @@
 //!
 //! A piece of a stream is a parcel, or a mark: how many records a CPU has, below which number they are kept no longer,
 //! or which numbers were given up. Each states its version, its length and its stream, and ends in a checksum. Streams
-//! that are put one after the other are a stream. The format is specified in `docs/FORMATS.md`, "Streams of parcels".
+//! that are put one after the other are a stream. The format is in `docs/formats/pages.md`, "Streams of parcels".
 #![tactic(auto)]
 
 mod body;

@@ -52,7 +52,8 @@ fn put_piece(alloc: Global, pieces: &mut Vec<Piece>, bytes: &[u8]) -> Result<usi
 }
 
 /// All pieces of a stream. The first one that can't be read is reported, or the first one for which memory was refused:
-/// refused memory hides the faults of later pieces, and none of this one or of those before it.
+/// refused memory hides the faults of later pieces (to look for them first would read all twice), and none of this one
+/// or of those before it.
 pub fn read_stream(alloc: Global, bytes: &[u8]) -> Result<Vec<Piece>, StreamFault>
     ensures stream { IfOk result (λ pieces. IsStream bytes.now (pieces_seen pieces.items)) }
     ensures fault { (index at : ℕ) (cause : PieceCause)

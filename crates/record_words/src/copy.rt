@@ -1,4 +1,6 @@
 //! A payload copied by parts that overlap, so that payloads of many lengths take the same way, and short ones no call.
+//! `memmove` takes another branch for each length, which costs more than the copy. Numbers of 128 bits in place of
+//! vectors are as fast only if both calls of `byteorder` are inlined.
 ghost use Rattle.std.specs.Prelude.{◌≡◌, ◌+◌, ◌-◌, ◌≤◌, ◌<◌, ◌*◌, ℕ, length, drop};
 ghost use Rattle.record_words.specs.declared.format.TheConstants.{SHORT_LIMIT};
 ghost use Rattle.record_words.specs.Puts.{Puts};

@@ -1,7 +1,7 @@
 //! Record words: how a record is spelled in the data of a page, and how words are read back.
 //!
 //! The format is that of `include/linux/ring_buffer.h` on 64-bit little-endian kernels, specified in
-//! `docs/FORMATS.md`, "Record words".
+//! `docs/formats/pages.md`, "Record words".
 #![tactic(auto)]
 
 mod copy;

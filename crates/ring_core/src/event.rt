@@ -2,7 +2,8 @@
 use page_image::Body;
 pub use ring_frames::Answer;
 
-/// What happens to a ring.
+/// What happens to a ring. An event that reads brings the body of the take, and gets it back with every answer but the
+/// page: so a ring keeps no body for a reader that finds nothing.
 #[derive(Debug, Drop)]
 pub enum Event {
     /// A writer begins: a frame is pushed for a record.

@@ -1,8 +1,8 @@
 //! A ring as a value: writers and a reader over real pages, one event at a time.
 //!
 //! Each event is one step of the ring's model: it reads or writes at most one word of the ring, with what belongs to it
-//! in the frame on top or in the reader (`docs/FORMATS.md`, "The ring"). So any interleaving of nested writers and of
-//! the reader is a list of events.
+//! in the frame on top or in the reader (`docs/formats/ring.md`, "The ring"). So any interleaving of nested writers and
+//! of the reader is a list of events.
 //!
 //! Within a function, code without loops names no fact of the ring: `new` ensures what `step` requires, and `step`
 //! ensures it again. A function that is given a ring requires `IsReachedCore`. A loop names what it keeps, which is the

@@ -1,3 +1,6 @@
+-- What contracts cite. Frames are tied to the model by `AreFrames n size start frames state`, which says nothing of
+-- what the reader stores. A call ensures of a private step `MakesPrivate`; of a step on a word one half is here:
+-- `go_on`, `open_fill`, `release_fill`, `load_wish`, `head_seen`.
 pub mod Value
 pub mod PackedPhase
 pub mod Inside

@@ -1,5 +1,5 @@
 -- What each event of a ring appends to the history of its frames, by its answer.
--- docs/FORMATS.md, "Writer frames".
+-- docs/formats/ring.md, "Writer frames".
 use Rattle.std.specs.Prelude.{◌≡◌, ◌≢◌, ℕ, ◌⊎◌, List, [], ◌∷◌, length, Some, None}
 use Rattle.trace_model.specs.History.{HistoryEvent, push, push_close, open_fill, reserve, leave, wished}
 use Rattle.trace_model.specs.History.{reserved_records}

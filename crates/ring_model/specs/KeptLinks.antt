@@ -1,5 +1,5 @@
 -- What each step of a ring keeps of its links, its counts, its frames and its reader.
--- docs/FORMATS.md, "Writer frames" and "The reader".
+-- docs/formats/ring.md, "Writer frames" and "The reader".
 use Rattle.std.specs.Prelude.{◌≡◌, ◌≢◌, ℕ, suc, ◌+◌, ◌<◌, ◌≤◌, ◌⊎◌, List, [], ◌∷◌, length, Option, Some, None}
 use Rattle.trace_model.specs.declared.limits.TheConstants.{MIN_PAGES, LINK_FILLS}
 use Rattle.trace_model.specs.Links.{Link, normal_link, header_link, update_link}

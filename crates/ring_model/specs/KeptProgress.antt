@@ -1,5 +1,5 @@
 -- What each step of a ring keeps so that each event has a next one: a frame that begins a fill has seen the head's
--- HEADER set. docs/FORMATS.md, "Writer frames".
+-- HEADER set. docs/formats/ring.md, "Writer frames".
 use Rattle.std.specs.Prelude.{◌≡◌, ◌≢◌, ℕ, suc, ◌+◌, ◌<◌, ◌≤◌, List, [], ◌∷◌}
 use Rattle.trace_model.specs.Links.{Link, normal_link}
 use Rattle.trace_model.specs.Frames.{Phase, idle, looking, claiming, looking_next, marking, clearing, opening}

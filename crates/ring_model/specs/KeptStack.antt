@@ -1,5 +1,5 @@
 -- What each step of a ring keeps of its stack of frames, whatever its links are.
--- docs/FORMATS.md, "Writer frames".
+-- docs/formats/ring.md, "Writer frames".
 use Rattle.std.specs.Prelude.{◌≡◌, ◌≢◌, ℕ, ◌+◌, ◌≤◌, List, [], ◌∷◌, length}
 use Rattle.trace_model.specs.declared.limits.TheConstants.{MAX_FRAMES}
 use Rattle.trace_model.specs.Frames.{Purpose, for_record, for_close, Progress, waiting, reserved, left, Phase, idle}

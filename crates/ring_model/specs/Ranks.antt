@@ -1,6 +1,6 @@
 -- How far the frame on top is from being gone, and a take from its answer: numbers that are lower after each step of a
 -- take that isn't answered yet, and after each step of a frame that hasn't reserved, and each end, if the frame is
--- still on the stack. So both have an end. docs/FORMATS.md, "Writer frames" and "The reader".
+-- still on the stack. So both have an end. docs/formats/ring.md, "Writer frames" and "The reader".
 use Rattle.std.specs.Prelude.{◌≡◌, ℕ, ◌+◌, ◌-◌, ◌*◌, ◌<◌, ◌≤◌, min, None, Bool, true, false, if◌then◌else◌, ◌==◌, List}
 use Rattle.std.specs.Prelude.{[], ◌∷◌, length}
 use Rattle.trace_model.specs.History.{Reservation}

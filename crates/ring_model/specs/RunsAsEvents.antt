@@ -1,5 +1,5 @@
 -- A run of a ring, as events: which fills they take, and which they lose.
--- docs/FORMATS.md, "The ring".
+-- docs/formats/ring.md, "The ring".
 use Rattle.std.specs.Prelude.{◌≡◌, ℕ, ◌+◌, List, [], ◌∷◌, map}
 use Rattle.trace_model.specs.Window.{RingEvent, takes, loses, history_events_of, WindowRun}
 use Rattle.trace_model.specs.Ring.{TakenFill, Core, window_of}

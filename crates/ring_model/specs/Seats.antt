@@ -1,6 +1,6 @@
 -- The two seats of a ring, the writer's and the reader's: what each changes, and the writer's private steps, which
 -- touch no word of the ring.
--- docs/FORMATS.md, "The ring".
+-- docs/formats/ring.md, "The ring".
 use Rattle.std.specs.Prelude.{◌≡◌, ◌≢◌, ℕ, ◌<◌, List, [], ◌∷◌, length, slice_index_or}
 use Rattle.trace_model.specs.History.{HistoryEvent}
 use Rattle.trace_model.specs.Links.{Link}

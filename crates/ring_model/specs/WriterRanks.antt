@@ -1,7 +1,7 @@
 -- How far the frame on top of a running ring is from being gone, by what its writer knows: its own part of the ring,
 -- and below which fill all are passed. Each of its steps before it has reserved, or after it has left,
 -- lowers this number, whatever a reader does in between.
--- docs/FORMATS.md, "Writer frames".
+-- docs/formats/ring.md, "Writer frames".
 use Rattle.std.specs.Prelude.{◌≡◌, ◌≢◌, ℕ, ⊤, ◌+◌, ◌-◌, ◌*◌, ◌<◌, ◌≤◌, nat_lt, if◌then◌else◌, List, [], ◌∷◌, length, None}
 use Rattle.trace_model.specs.History.{HistoryEvent, Reservation}
 use Rattle.trace_model.specs.Packing.{tail_of}

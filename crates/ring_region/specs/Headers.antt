@@ -1,4 +1,4 @@
--- The header of a region, and where its slots are. All of it is this project's own, stated in docs/FORMATS.md,
+-- The header of a region, and where its slots are. All of it is this project's own, stated in docs/formats/pages.md,
 -- "Regions".
 use Rattle.std.specs.Prelude.{◌≡◌, ◌≢◌, ℕ, ◌+◌, ◌-◌, ◌*◌, ◌/◌, ◌%◌, ◌<◌, ◌≤◌, ◌⊎◌, ◌==◌, List, [], ◌∷◌, length, take}
 use Rattle.std.specs.Prelude.{drop, Option, Some, None}

@@ -1,7 +1,7 @@
 //! Regions: the bytes that a ring left in a file or in shared memory, whatever ended its process, read as parcels.
 //!
 //! Each page of a ring that others can read is in a slot of its region, and its records up to the last commit are
-//! there at every moment. Their format and what is recovered of them are specified in `docs/FORMATS.md`, "Regions".
+//! there at every moment. Their format and what is recovered of them are in `docs/formats/pages.md`, "Regions".
 //!
 //! ```
 //! let region = read_region(rt.alloc(), &bytes)?;

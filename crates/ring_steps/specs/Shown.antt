@@ -1,5 +1,5 @@
 -- The rule of a ring's table: its words, the pages at home and what its two ends know show some state of the ring.
--- docs/MODEL.md, "The running ring"; the words are specified in docs/FORMATS.md, "The ring".
+-- docs/MODEL.md, "The running ring"; the words are specified in docs/formats/ring.md, "The ring".
 use Rattle.std.specs.Prelude.{◌≡◌, ℕ, ◌+◌, ◌-◌, ◌<◌, ◌≤◌, List, [], ◌∷◌, length, map, take, Option, Some, None, false}
 use Rattle.std.specs.Prelude.{slice_index_or}
 use mathlib.Core.Option.{some}

@@ -17,7 +17,7 @@ impl Model for GhostPart {
     ghost also_owns = { λ _. ftrue };
 }
 
-// It owns nothing.
+// It has no bytes, and owns nothing.
 unsafe impl Send for GhostPart {}
 
 /// The part that the caller picks. `given` is what the caller states to the proof; no code reads it.

@@ -1,4 +1,5 @@
-//! The lanes of a script's CPUs, each at its CPU's index, from when a line first asks anything of its ring.
+//! The lanes of a script's CPUs, each at its CPU's index, from when a line first asks anything of its ring: so a
+//! header alone takes no memory.
 ghost use Rattle.std.specs.Prelude.{◌≡◌, ℕ, ◌<◌, length, OnOk, IfOk};
 ghost use Rattle.script_replay.specs.Lanes.{IsNewLaneOf};
 ghost use Rattle.script_replay.specs.LanesByCpu.{lane_at, AreSameBut, IsMadeFrom};

@@ -5,7 +5,7 @@ use page_numbers::Parcel;
 use ring_core::{Answer, Core};
 use trace_model::NoMemory;
 
-/// For a replay whose steps are told to nobody.
+/// For a replay whose steps are told to nobody. (It has a value, since the kit refuses methods that can't be called.)
 #[derive(Drop)]
 pub(crate) struct Nobody;
 

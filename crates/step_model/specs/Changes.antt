@@ -1,4 +1,4 @@
--- What a step changes of what is seen of a ring: the keys whose values are new. docs/FORMATS.md, "Step text".
+-- What a step changes of what is seen of a ring: the keys whose values are new. docs/formats/program.md, "Step text".
 use Rattle.std.specs.Prelude.{ℕ, suc, Bool, true, false, if◌then◌else◌, ◌&&◌, ◌==◌, nat_lt, List, [], ◌∷◌, ◌++◌, length}
 use Rattle.trace_model.specs.Links.{Link, same_link}
 use Rattle.trace_model.specs.Frames.{Progress, waiting, left, reserved, Role, owner, helper, Phase, idle, looking}

@@ -1,5 +1,5 @@
 -- The step text of a script: what its lines do to its rings, step by step, and what is delivered.
--- docs/FORMATS.md, "Step text".
+-- docs/formats/program.md, "Step text".
 use Rattle.std.specs.Prelude.{◌≡◌, ℕ, ◌-◌, ◌%◌, if◌then◌else◌, ◌==◌, List, [], ◌∷◌, ◌++◌, length, flat_map, codes}
 use Rattle.std.specs.Fmt.{decimal}
 use Rattle.std.specs.List.{enumerate_from}

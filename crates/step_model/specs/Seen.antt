@@ -1,5 +1,5 @@
 -- What a step text says of a ring: the words that the ring's ends share, the counts, the frames and the reader, each
--- under a key of its own. docs/FORMATS.md, "Step text".
+-- under a key of its own. docs/formats/program.md, "Step text".
 use Rattle.std.specs.Prelude.{ℕ, ◌+◌, ◌-◌, List, [], ◌∷◌, length, drop, fold, slice_set}
 use Rattle.trace_model.specs.HistoryLaws.{committed_count}
 use Rattle.trace_model.specs.Links.{Link}

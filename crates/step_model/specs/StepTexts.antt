@@ -1,5 +1,5 @@
 -- The text of one step of a ring: a line that says what was done and answered, and below it a line for each key whose
--- value is new. docs/FORMATS.md, "Step text".
+-- value is new. docs/formats/program.md, "Step text".
 use Rattle.std.specs.Prelude.{ℕ, suc, ◌-◌, Bool, true, false, if◌then◌else◌, ◌==◌, List, [], ◌∷◌, ◌++◌, length}
 use Rattle.std.specs.Prelude.{flat_map, codes, Option, Some, None}
 use Rattle.std.specs.Fmt.{decimal}

@@ -1,5 +1,5 @@
 -- How the lines of a script and their fields are written, without comments.
--- After docs/FORMATS.md, "Script".
+-- After docs/formats/program.md, "Script".
 use Rattle.std.specs.Prelude.{ℕ, List, [], ◌∷◌, ◌++◌, flat_map, decimal}
 use Rattle.std.specs.List.{join_with_byte}
 use Rattle.text_model.specs.Text.{line_feed, space}

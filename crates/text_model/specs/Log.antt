@@ -1,4 +1,4 @@
--- The log of a replay: what its commands met, in their order. docs/FORMATS.md, "Log".
+-- The log of a replay: what its commands met, in their order. docs/formats/program.md, "Log".
 use Rattle.std.specs.Prelude.{ℕ}
 use Rattle.trace_model.specs.Frames.{WriteFault}
 

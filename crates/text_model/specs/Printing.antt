@@ -1,5 +1,5 @@
 -- What is printed of a line of the log, of a page image, and of the fault of a script or of an image.
--- docs/FORMATS.md, "Printed text" and "Log".
+-- docs/formats/program.md, "Printed text" and "Log".
 use Rattle.std.specs.Prelude.{ℕ, List, [], ◌∷◌, ◌++◌, flat_map, codes}
 use Rattle.std.specs.Fmt.{decimal}
 use Rattle.trace_model.specs.Record.{Record}

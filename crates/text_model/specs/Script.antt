@@ -1,5 +1,5 @@
 -- The script text: what script a text spells as a whole, or which of its lines is the first at fault.
--- After docs/FORMATS.md, "Script".
+-- After docs/formats/program.md, "Script".
 use Rattle.std.specs.Prelude.{◌≡◌, ℕ, ◌+◌, ◌-◌, ◌⊎◌, ⊤, Bool, IsTrue, false, ◌&&◌, if◌then◌else◌, nat_le, List, [], ◌∷◌}
 use Rattle.std.specs.Prelude.{◌++◌, length, codes, bytes_eq, Result, Ok, Err}
 use Rattle.trace_model.specs.declared.limits.TheConstants.{START_FILL, LINK_FILLS}

@@ -1,4 +1,4 @@
--- The limits that every script keeps that a text spells. docs/FORMATS.md, "Script".
+-- The limits that every script keeps that a text spells. docs/formats/program.md, "Script".
 use Rattle.std.specs.Prelude.{◌≡◌, ℕ, ◌+◌, ◌%◌, ◌^◌, ◌<◌, ◌≤◌, List, All}
 use Rattle.trace_model.specs.declared.limits.TheConstants.{MIN_PAGES, MAX_PAGES, MIN_SIZE, MAX_SIZE, START_FILL}
 use Rattle.trace_model.specs.declared.limits.TheConstants.{LINK_FILLS}

@@ -1,5 +1,5 @@
 -- What the lines of a script text and their fields spell, whichever commands there are; the lines of a header.
--- After docs/FORMATS.md, "Script".
+-- After docs/formats/program.md, "Script".
 use Rattle.std.specs.Prelude.{◌≡◌, ℕ, ◌%◌, ⊤, Bool, false, not, ◌&&◌, if◌then◌else◌, ◌==◌, nat_lt, nat_le, List, []}
 use Rattle.std.specs.Prelude.{◌∷◌, ◌++◌, length, drop, filter, codes, bytes_eq, decimal, Result, Ok, Err}
 use Rattle.std.specs.List.{enumerate_from}

@@ -1,5 +1,5 @@
 -- The reading of a script, line by line from the front. That it is the script of the whole text, or its first fault, in
--- the words of Script, is a law. docs/FORMATS.md, "Script".
+-- the words of Script, is a law. docs/formats/program.md, "Script".
 use Rattle.std.specs.Prelude.{ℕ, ◌+◌, if◌then◌else◌, List, [], ◌∷◌, length, drop, slice_index, slice_index_or, Result}
 use Rattle.std.specs.Prelude.{Ok}
 use Rattle.trace_model.specs.declared.limits.TheConstants.{START_FILL}

@@ -1,5 +1,5 @@
 -- How a script is written, line by line without comments: the laws read it back.
--- After docs/FORMATS.md, "Script".
+-- After docs/formats/program.md, "Script".
 use Rattle.std.specs.Prelude.{ℕ, List, [], ◌∷◌, map, codes, decimal}
 use Rattle.text_model.specs.Text.{hex_text}
 use Rattle.text_model.specs.ScriptLines.{pages_setting, size_setting}

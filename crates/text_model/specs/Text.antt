@@ -1,5 +1,5 @@
 -- Texts: their lines, the fields of a line, and what a field spells: a number or bytes.
--- After docs/FORMATS.md, "Script".
+-- After docs/formats/program.md, "Script".
 use Rattle.std.specs.Prelude.{ℕ, ◌+◌, ◌*◌, ◌/◌, ◌%◌, ◌^◌, Bool, ◌&&◌, ◌||◌, if◌then◌else◌, ◌==◌, nat_lt, nat_le, List}
 use Rattle.std.specs.Prelude.{[], ◌∷◌, length, flat_map, codes, bytes_eq}
 use Rattle.std.specs.Char.{digit_value, digit_char, is_digit}

@@ -1,7 +1,7 @@
 -- What is wrong at the front of a page's data if neither a whole word nor an ending padding is there.
 -- kernel/trace/ring_buffer.c (rb_event_data_length, rb_event_length) trusts its own pages. The search for
 -- what is wrong, in the order of IsWordFault, is this project's own; what is right is stated in
--- docs/FORMATS.md, "How data is read".
+-- docs/formats/pages.md, "How data is read".
 use Rattle.std.specs.Prelude.{◌≡◌, ◌≢◌, ℕ, ◌+◌, ◌*◌, ◌/◌, ◌%◌, ◌<◌, ◌≤◌, ◌⊎◌, IsSome, List, ◌++◌, length, drop}
 use Rattle.trace_model.specs.Words.{ending_padding}
 use Rattle.trace_model.specs.Reading.{from_le32, word_at_front}

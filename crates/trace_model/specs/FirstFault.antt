@@ -1,6 +1,6 @@
 -- The first fault of the data of a page: what is before it, and what is wrong there. It is the counterpart
 -- of Decodes in Words: data with a time has one reading or one first fault. The causes and their
--- order are stated in docs/FORMATS.md, "Record words".
+-- order are stated in docs/formats/pages.md, "Record words".
 use Rattle.std.specs.Prelude.{◌≡◌, ◌≢◌, ℕ, ◌^◌, ◌<◌, ◌≤◌, List, [], ◌∷◌, ◌++◌, length, slice_index}
 use Rattle.std.specs.List.{AllByRecursion}
 use Rattle.trace_model.specs.Words.{Word, bytes_of_word, IsWord, joined, moment_after, MovesTime, FitsTime}

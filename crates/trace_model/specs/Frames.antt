@@ -1,6 +1,6 @@
 -- The frames on the writer's stack of a ring, and how far each has come.
 -- After kernel/trace/ring_buffer.c (rb_reserve_next_event, rb_move_tail, rb_handle_head_page) and
--- Documentation/trace/ring-buffer-design.rst, "Nested writes"; phase by phase in docs/FORMATS.md,
+-- Documentation/trace/ring-buffer-design.rst, "Nested writes"; phase by phase in docs/formats/ring.md,
 -- "Writer frames".
 use Rattle.std.specs.Prelude.{ℕ, List, [], ◌∷◌, Option, Some, None}
 use Rattle.trace_model.specs.History.{PushedFrame, record_frame, close_frame}
@@ -53,10 +53,10 @@ pub data Role : Type 0 where
   owner helper : Role
 
 -- How far a frame has come with the ring's words, in this order: idle, it has noted nothing; looking, claiming,
--- looking_next, marking, clearing, opening, the rows of docs/FORMATS.md, "Writer frames"; releasing, it closes fills;
--- wishing, none was left to close, and it looks for the reader's wish. noted: the number of begun fills when it found
--- that it needs a page, which is the number of the fill to open. page: the page at that fill's position. next: the page
--- after that.
+-- looking_next, marking, clearing, opening, the rows of docs/formats/ring.md, "Writer frames"; releasing, it closes
+-- fills; wishing, none was left to close, and it looks for the reader's wish. noted: the number of begun fills when
+-- it found that it needs a page, which is the number of the fill to open. page: the page at that fill's position. next:
+-- the page after that.
 pub data Phase : Type 0 where
   idle releasing wishing : Phase
   looking : (noted : ℕ) → Phase
@@ -100,6 +100,6 @@ owned_update _ = None
 
 -- ---- refusals
 
--- why a push, a step or an end is refused: docs/FORMATS.md, "What is asked, and what is answered"
+-- why a push, a step or an end is refused: docs/formats/ring.md, "What is asked, and what is answered"
 pub data WriteFault : Type 0 where
   too_deep too_long late_moment crowded worn no_frame not_reserved : WriteFault

@@ -1,4 +1,4 @@
--- How a frame moves the head away from the page that it needs: docs/FORMATS.md, "Writer frames", the rows from
+-- How a frame moves the head away from the page that it needs: docs/formats/ring.md, "Writer frames", the rows from
 -- claiming to clearing. After kernel/trace/ring_buffer.c (rb_handle_head_page, rb_head_page_set_update,
 -- rb_head_page_set_head, rb_head_page_set_normal).
 use Rattle.std.specs.Prelude.{ℕ, suc, ◌+◌, ◌-◌, if◌then◌else◌, ◌&&◌, nat_le, List}

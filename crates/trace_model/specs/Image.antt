@@ -1,6 +1,6 @@
 -- Page images: a page as the reader gets it, its header first. After kernel/trace/ring_buffer.c (struct
 -- buffer_data_page, RB_MISSED_EVENTS, RB_MISSED_STORED, ring_buffer_read_page); what is this project's
--- own is stated in docs/FORMATS.md, "Page image".
+-- own is stated in docs/formats/pages.md, "Page image".
 use Rattle.std.specs.Prelude.{◌≡◌, ℕ, ◌+◌, ◌-◌, ◌*◌, ◌^◌, ◌<◌, ◌≤◌, ◌⊎◌, Bool, true, false, ◌&&◌, if◌then◌else◌, nat_lt}
 use Rattle.std.specs.Prelude.{nat_le, List, [], ◌++◌, length, replicate}
 use Rattle.std.specs.Int.{to_le_bytes, from_le_bytes, w64}

@@ -1,7 +1,7 @@
 -- The links of a ring: each states which page is at a position, and in which fill.
 -- After Documentation/trace/ring-buffer-design.rst, "Making the Ring Buffer Lockless": the two low bits
 -- of a page's next pointer say HEADER or UPDATE. That the fill's number is in the link too is this
--- project's own, and so is the word (docs/FORMATS.md, "Link word").
+-- project's own, and so is the word (docs/formats/ring.md, "Link word").
 use Rattle.std.specs.Prelude.{◌≡◌, ◌≢◌, ℕ, ◌+◌, ◌*◌, ◌%◌, ◌^◌, ◌<◌, Bool, ◌&&◌, ◌==◌}
 use Rattle.trace_model.specs.declared.limits.TheConstants.{LINK_PAGES, LINK_FILLS}
 

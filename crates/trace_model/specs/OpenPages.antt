@@ -1,6 +1,6 @@
 -- How the data of a page holds a fill of which some records are still being written.
 -- After kernel/trace/ring_buffer.c (__rb_reserve_next, rb_commit): a reserved event has its header and its place
--- in the page at once, and its payload is the writer's until it commits. docs/FORMATS.md, "Record words".
+-- in the page at once, and its payload is the writer's until it commits. docs/formats/pages.md, "Record words".
 use Rattle.std.specs.Prelude.{◌≡◌, ℕ, List, [], ◌∷◌, length, IfSome}
 use Rattle.trace_model.specs.Record.{Record}
 use Rattle.trace_model.specs.Words.{Decodes}

@@ -1,6 +1,7 @@
 -- The fills of a CPU: which records are in which page, and when a new page is begun.
 -- After kernel/trace/ring_buffer.c (rb_reserve_next_event, rb_move_tail): a record that doesn't fit in
--- what the tail page has left goes to the next page. docs/FORMATS.md, "Record words", "The ring".
+-- what the tail page has left goes to the next page. docs/formats/pages.md, "Record words", and docs/formats/ring.md,
+-- "The ring".
 use Rattle.std.specs.Prelude.{◌≡◌, ◌≢◌, ℕ, ◌+◌, ◌-◌, ◌<◌, ◌≤◌, Bool, true, false, IsTrue, fold, List, [], ◌∷◌, ◌++◌}
 use Rattle.std.specs.Prelude.{length, take, drop, map, Option, Some, None, slice_index_or}
 use Rattle.std.specs.List.{AllByRecursion}

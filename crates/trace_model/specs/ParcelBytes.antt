@@ -1,5 +1,5 @@
 -- Parcels as bytes: four numbers, and the image of the page after them. All of it is this project's own, stated in
--- docs/FORMATS.md, "Parcel bytes".
+-- docs/formats/pages.md, "Parcel bytes".
 use Rattle.std.specs.Prelude.{◌≡◌, ℕ, ◌+◌, ◌^◌, ◌<◌, ◌≤◌, List, ◌++◌, length}
 use Rattle.trace_model.specs.Image.{le64, Missed, none, unknown, counted, DecodesImage, image_of, ImageCause, too_short}
 use Rattle.trace_model.specs.Image.{bad_size, bad_count, bad_word, FirstImageFault}

@@ -1,4 +1,4 @@
--- The steps of the reader: docs/FORMATS.md, "The reader", row by row.
+-- The steps of the reader: docs/formats/ring.md, "The reader", row by row.
 -- After kernel/trace/ring_buffer.c (rb_get_reader_page, rb_head_page_replace).
 use Rattle.std.specs.Prelude.{ℕ, suc, ◌+◌, ◌-◌, ◌%◌, if◌then◌else◌, ◌&&◌, ◌==◌, nat_lt, nat_le, [], ◌∷◌, ◌++◌, length}
 use Rattle.std.specs.Prelude.{Some, slice_set}

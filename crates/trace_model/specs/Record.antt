@@ -2,7 +2,7 @@
 use Rattle.std.specs.Prelude.{◌≡◌, ℕ, ◌%◌, List, length}
 
 -- The bytes are as they are in a page, with those after them that fill whole words, of four bytes each: zeros, unless
--- its writer put others there (docs/FORMATS.md, "Record words").
+-- its writer put others there (docs/formats/pages.md, "Record words").
 pub record Record : Type 0 where
   pub moment : ℕ
   pub bytes : List ℕ

@@ -1,6 +1,6 @@
 -- The state of a ring, and what holds of it between any two steps.
 -- After Documentation/trace/ring-buffer-design.rst and kernel/trace/ring_buffer.c (struct
--- ring_buffer_per_cpu, rb_handle_head_page, rb_get_reader_page); docs/FORMATS.md, "The ring".
+-- ring_buffer_per_cpu, rb_handle_head_page, rb_get_reader_page); docs/formats/ring.md, "The ring".
 use Rattle.std.specs.Prelude.{◌≡◌, ◌≢◌, ℕ, suc, ◌+◌, ◌-◌, ◌%◌, ◌<◌, ◌≤◌, ◌⊎◌, List, [], ◌∷◌, length, take, map, Some}
 use Rattle.std.specs.Prelude.{slice_index_or, slice_get, slice_set}
 use Rattle.trace_model.specs.declared.limits.TheConstants.{MIN_PAGES, MAX_PAGES, MIN_SIZE, MAX_SIZE}

@@ -1,5 +1,5 @@
 -- One step of a ring: what an event makes of its state, and what it answers.
--- After kernel/trace/ring_buffer.c and docs/FORMATS.md, "Writer frames" and "The reader": each row is one case of
+-- After kernel/trace/ring_buffer.c and docs/formats/ring.md, "Writer frames" and "The reader": each row is one case of
 -- WriterSteps, HeadMove or ReaderSteps.
 use Rattle.std.specs.Prelude.{◌≡◌, ℕ, List, [], ◌∷◌, Some}
 use Rattle.trace_model.specs.Frames.{Phase, idle, looking, claiming, looking_next, marking, clearing, opening}

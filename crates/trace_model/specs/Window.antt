@@ -1,6 +1,6 @@
 -- The window of a ring of n positions: how many fills are taken or lost, closed, and begun, and what may
 -- happen to these counts. After kernel/trace/ring_buffer.c (rb_move_tail, rb_handle_head_page,
--- rb_get_reader_page) and docs/FORMATS.md, "The ring".
+-- rb_get_reader_page) and docs/formats/ring.md, "The ring".
 use Rattle.std.specs.Prelude.{◌≡◌, ℕ, ◌+◌, ◌<◌, ◌≤◌, List, [], ◌∷◌, ◌++◌, IsTrue}
 use Rattle.trace_model.specs.History.{HistoryEvent, push, push_close, open_fill, reserve, leave, wished, is_settled}
 

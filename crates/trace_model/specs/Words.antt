@@ -1,7 +1,7 @@
 -- Record words: how a record is written, and what the data of a page reads as.
 -- After include/linux/ring_buffer.h (enum ring_buffer_type, struct ring_buffer_event) and
 -- kernel/trace/ring_buffer.c (rb_update_event, rb_add_timestamp, rb_update_read_stamp); what is
--- this project's own is stated in docs/FORMATS.md, "Record words".
+-- this project's own is stated in docs/formats/pages.md, "Record words".
 use Rattle.std.specs.Prelude.{◌≡◌, ℕ, ◌+◌, ◌-◌, ◌*◌, ◌/◌, ◌%◌, ◌^◌, ◌<◌, ◌≤◌, max, ◌⊎◌, ⊤, Bool, true, false}
 use Rattle.std.specs.Prelude.{if◌then◌else◌, nat_lt, nat_le, List, [], ◌∷◌, ◌++◌, length, replicate, flat_map, sum_by}
 use Rattle.std.specs.Prelude.{Option, Some, None, unwrap_or}

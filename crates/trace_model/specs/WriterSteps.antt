@@ -1,4 +1,4 @@
--- The steps of a writer's frame but for the move of the head: docs/FORMATS.md, "Writer frames", row by row.
+-- The steps of a writer's frame but for the move of the head: docs/formats/ring.md, "Writer frames", row by row.
 -- After kernel/trace/ring_buffer.c (rb_reserve_next_event, rb_move_tail, rb_end_commit, rb_set_commit_to_write). A step
 -- reads or writes one word of the ring at most, with what goes with it in the frame.
 use Rattle.std.specs.Prelude.{ℕ, ◌+◌, ◌-◌, Bool, true, if◌then◌else◌, ◌&&◌, ◌||◌, ◌==◌, nat_lt, nat_le, List, [], ◌∷◌}

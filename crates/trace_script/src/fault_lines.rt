@@ -1,4 +1,4 @@
-//! The printing of a script's fault.
+//! The printing of a script's fault. The fault's own `Display` is derived by `thiserror`; derived code has no contract.
 ghost use Rattle.std.specs.Prelude.{◌≡◌, ◌∷◌, [], ◌++◌, IfOk, OnOk, OnErr, codes};
 ghost use Rattle.std.specs.Fmt.{decimal};
 ghost use Rattle.trace_model.specs.Sublist.{IsPrefix};
@@ -38,8 +38,8 @@ fn put_line(out: &mut Vec<u8>, fault: ScriptFault) -> Result<(), NoMemory>
     Ok(())
 }
 
-/// Puts the line that states the fault, in the form of `docs/FORMATS.md`, "Printed text". If memory is refused, the
-/// text is as before.
+/// Puts the line that states the fault, in the form of `docs/formats/program.md`, "Printed text". If memory is refused,
+/// the text is as before.
 pub fn put_fault(out: &mut Vec<u8>, fault: ScriptFault) -> Result<(), NoMemory>
     ensures text { OnOk result (out.new.items ≡ out.old.items ++ (script_fault_text fault ++ 10 ∷ [])) }
     ensures kept { OnErr result (out.new.items ≡ out.old.items) }

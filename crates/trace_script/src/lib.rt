@@ -1,6 +1,6 @@
 //! The reader of the script text: what script a text spells, and the line that states its first fault.
 //!
-//! A script is lines of fields, which `docs/FORMATS.md`, "Script", describes.
+//! A script is lines of fields, which `docs/formats/program.md`, "Script", describes.
 #![tactic(auto)]
 
 mod command;

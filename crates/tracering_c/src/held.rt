@@ -16,7 +16,7 @@ pub struct Opaque {
 }
 
 /// A writer, a reader, a collector or a fleet, or nothing. Which of them it is only proofs see: C's types distinguish
-/// them.
+/// them. An export takes no generic struct, and a tag in memory would cost each call a test.
 #[repr(C)]
 #[derive(Drop)]
 pub struct Held {

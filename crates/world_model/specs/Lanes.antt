@@ -1,4 +1,5 @@
--- What a line of a script does to the ring of its CPU: the exchanges that it has with it. docs/FORMATS.md, "Script".
+-- What a line of a script does to the ring of its CPU: the exchanges that it has with it.
+-- docs/formats/program.md, "Script".
 use Rattle.std.specs.Prelude.{◌≡◌, ◌≢◌, ℕ, ◌-◌, ◌<◌, ◌≤◌, ◌⊎◌, ⊤, List, [], ◌∷◌, length, drop}
 use Rattle.trace_model.specs.Words.{padded}
 use Rattle.trace_model.specs.Frames.{Purpose, for_record, for_close, Progress, reserved, Frame, no_frame}

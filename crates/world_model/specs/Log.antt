@@ -1,4 +1,4 @@
--- The log of a replay: what its lines met, in their order. docs/FORMATS.md, "Log".
+-- The log of a replay: what its lines met, in their order. docs/formats/program.md, "Log".
 use Rattle.std.specs.Prelude.{ℕ, List, [], ◌∷◌, length, flat_map}
 use Rattle.trace_model.specs.Steps.{Answer, refused, empty, moving, page_taken, wished_for, Exchange}
 use Rattle.text_model.specs.Log.{LogLine}

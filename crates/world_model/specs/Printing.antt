@@ -1,4 +1,4 @@
--- What a replay prints: its log, and its collectors. docs/FORMATS.md, "Printed text" and "Log".
+-- What a replay prints: its log, and its collectors. docs/formats/program.md, "Printed text" and "Log".
 use Rattle.std.specs.Prelude.{ℕ, Bool, if◌then◌else◌, List, [], ◌∷◌, ◌++◌, flat_map, codes}
 use Rattle.std.specs.Fmt.{decimal}
 use Rattle.std.specs.List.{enumerate_from}

@@ -1,4 +1,4 @@
--- A run of a ring with the events of each of its steps. docs/FORMATS.md, "The ring".
+-- A run of a ring with the events of each of its steps. docs/formats/ring.md, "The ring".
 use Rattle.std.specs.Prelude.{◌≡◌, ℕ, List, [], ◌∷◌, ◌++◌}
 use Rattle.trace_model.specs.Window.{RingEvent, history_events_of, WindowRunFrom}
 use Rattle.trace_model.specs.Ring.{Core, window_of}

@@ -1,5 +1,5 @@
 -- The world of a script: what its lines lead to, one after the other, by their exchanges with the rings.
--- docs/FORMATS.md, "Script" and "Log".
+-- docs/formats/program.md, "Script" and "Log".
 use Rattle.std.specs.Prelude.{◌≡◌, ℕ, List, [], ◌∷◌, ◌++◌, length, map, flat_map, All, Contains, slice_set, Some}
 use Rattle.std.specs.List.{slice_get}
 use Rattle.trace_model.specs.History.{as_record}

@@ -47,7 +47,9 @@ impl WriterStack {
     }
 
     /// The payload in the slot of the frame on top, to be written: it acts as the slice of its bytes. All else stays as
-    /// it is, and what is written there leaves the stack that of its history.
+    /// it is, and what is written there leaves the stack that of its history. (It is no slice: for one that is lent
+    /// inside an enum the toolchain proves no lends clause. A `Payload` promises only that its place is within its
+    /// page's data: a caller that exchanges two payloads as wholes can no longer prove that either stack is one.)
     #[inline(always)]
     pub fn top_mut(&mut self) -> Result<&mut Payload, WriteFault>
         requires stack { IsReachedStack self.old }

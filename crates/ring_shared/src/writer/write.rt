@@ -21,7 +21,8 @@ impl Writer {
     /// Writes a record of this moment and payload in one call: what `begin`, `finish_top`, the payload's copy into what
     /// `top_mut` lends, `end`, and `finish_top` if no frame is below, do together, nested in the frames on the stack.
     /// Refused as `begin` is, or as `Crowded` or `Worn`, and then no record is left. In a ring of N pages it makes at
-    /// most 3N + 54 steps, whatever the reader does.
+    /// most 3N + 54 steps, whatever the reader does. It doesn't answer the record's number, as the kernel's
+    /// `ring_buffer_write` doesn't; the single calls do.
     #[inline(always)]
     pub fn write(&mut self, moment: u64, payload: &[u8]) -> Result<(), WriteFault>
         requires writer { IsWriter self.old }

@@ -1,4 +1,4 @@
--- What a run prints: its collectors, each with its audit. docs/FORMATS.md, "Printed text".
+-- What a run prints: its collectors, each with its audit. docs/formats/program.md, "Printed text".
 use Rattle.std.specs.Prelude.{ℕ, List, [], ◌∷◌, ◌++◌, flat_map, codes}
 use Rattle.std.specs.Fmt.{decimal}
 use Rattle.std.specs.List.{enumerate_from}
