@@ -1,4 +1,5 @@
-//! Captures: all that was read of a CPU's pages, as `per_cpu/cpuN/trace_pipe_raw` gives them, read as parcels.
+//! Captures: all that was read of a CPU's pages, as `per_cpu/cpuN/trace_pipe_raw` gives them, read as parcels;
+//! and files of captures, raw ones and those of trace-cmd.
 //!
 //! A page states how many records were lost before it, if the kernel knew and had room for their number; it has no
 //! number itself. So the numbers of a capture's records are counted: over its records, and over what its pages say was

@@ -1,4 +1,5 @@
-//! The command `collect`: captures in, one listing by time out, with what was lost.
+//! The commands that list: `collect` of captures and of streams, and `recover` of regions. Each reads its inputs, and
+//! prints one listing by time with what was lost.
 #![tactic(auto)]
 
 mod collect;

@@ -1,4 +1,5 @@
-//! Collectors: what several parcels have and miss together.
+//! Collectors: what several parcels have and miss together; and deliveries, by which a taken page is found by its fill
+//! and added to one.
 //!
 //! A collector keeps the parcels that add something, and shares their pages. Which numbers of a CPU they have and miss
 //! is kept beside them as disjoint ranges, so that what is known of a number is found in logarithmic time.

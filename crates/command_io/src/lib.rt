@@ -1,6 +1,6 @@
-//! What a command of a program does with its two ends: it reads all of its source, makes its output of
-//! that text as a whole, and writes it to its sink, with an exit status; and the line of standard error for
-//! that status.
+//! What a command of a program does with its two ends: it reads all of its source, makes its output of that text as a
+//! whole, and writes it to its sink, with an exit status; and the line of standard error for that status. It also has
+//! the words of a program's command line, and fills a piece from a source.
 #![tactic(auto)]
 
 mod command;

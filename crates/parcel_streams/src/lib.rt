@@ -1,4 +1,5 @@
-//! Streams of parcels: parcels packed one after the other as bytes, as collectors on many machines store and send them.
+//! Streams of parcels: parcels packed one after the other as bytes, as collectors on many machines store and send
+//! them; read whole or piece by piece from a source.
 //!
 //! A piece of a stream is a parcel, or a mark: how many records a CPU has, below which number they are kept no longer,
 //! or which numbers were given up. Each states its version, its length and its stream, and ends in a checksum. Streams

@@ -1,4 +1,4 @@
-//! The command `run`: a script in, the printing of what its threads left out.
+//! The command `run`: a script in, the printing of what its threads left out; and that printing's text.
 #![tactic(auto)]
 
 mod running;

@@ -1,4 +1,5 @@
-//! The replay of a script: what its lines do to the rings of its CPUs, and to its collectors.
+//! The replay of a script: what its lines do to the rings of its CPUs, and to its collectors; and the log of
+//! what they met.
 //!
 //! A lane is the ring of one CPU with the payloads of its frames and the pages that were taken from it; a line is steps
 //! of its lane, or a delivery to a collector.

@@ -1,5 +1,5 @@
 //! The text of a replay's steps: what was done at each step of a ring, and the keys whose values are new after it, with
-//! what each delivery brings.
+//! what each delivery brings; and the command `steps`, which prints it.
 #![tactic(auto)]
 
 mod changes;

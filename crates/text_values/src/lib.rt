@@ -1,4 +1,5 @@
-//! Numbers and payloads as text, for what is printed.
+//! Numbers and payloads as text, for what is printed; and text that is put piece by piece, and reaches a writer through
+//! a buffer of fixed size.
 #![tactic(auto)]
 
 mod buffer;

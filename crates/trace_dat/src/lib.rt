@@ -1,4 +1,4 @@
-//! The files of trace-cmd, `trace.dat`, in versions 6 and 7.
+//! The files of trace-cmd, `trace.dat`, in versions 6 and 7, and the texts that the kernel prints of its trace.
 #![tactic(auto)]
 
 mod buffers;
