@@ -1,3 +1,1 @@
 pub mod StatusFour
-pub mod SameCpus
-pub mod Each

@@ -3,22 +3,13 @@
 #![tactic(auto)]
 
 mod answer;
-mod choose;
-mod collect;
-mod host;
-mod inputs;
-mod kept;
 mod laws;
-mod recover;
-mod streams;
-mod unkept;
 mod version;
 
 use crate::answer::answer_to;
-use crate::choose::collect;
-use crate::recover::recover;
 use command_io::{Std, given_words, message_for};
 use command_line::{Call, USAGE_LINE, given_call};
+use host_commands::{collect, recover};
 use std::process::ExitCode;
 
 // What is chosen here, `answer_to` and `message_for` say, and of `collect` and `recover` the functions that these call.

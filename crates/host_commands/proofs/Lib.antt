@@ -1,0 +1,2 @@
+pub mod SameCpus
+pub mod Each

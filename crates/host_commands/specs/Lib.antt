@@ -1,0 +1,4 @@
+pub mod Feeds
+pub mod Formats
+pub mod Messages
+pub mod Watches

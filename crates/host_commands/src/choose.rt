@@ -1,0 +1,120 @@
+//! The command `collect`: over captures, or over streams of parcels.
+ghost use Rattle.std.specs.Prelude.{◌≡◌, ◌⊎◌, ◌↔◌, IsTrue, All, length};
+ghost use Rattle.command_line.specs.Calls.{IsInRange};
+ghost use Rattle.parcel_streams.specs.source.Reading.{BeginsStream};
+ghost use Rattle.parcel_streams.specs.source.Readers.{peeked_unread};
+
+use crate::collect::collect_captures;
+use crate::inputs::{Reader, Trial, open_inputs};
+use crate::kept::is_kept_in;
+use crate::streams::collect_pieces;
+use capture::files::Input;
+use command_io::{END_FAILED, Std, USAGE, print_memory_line};
+use command_line::CollectCall;
+use std::io::IsTerminal;
+
+/// What the command line asks for that can't be done.
+const BOTH: &str = "tracering: --keep and --parcels exclude each other";
+
+const MIXED: &str = "tracering: some files are streams of parcels and others are not";
+
+const NOT_FOR_CAPTURES: &str = "tracering: --keep and --parcels are for streams of parcels";
+
+const NOT_FOR_STREAMS: &str = "tracering: --page, --names and --formats are for captures";
+
+pub(crate) const KEEP_IS_READ: &str = "tracering: the file of --keep is read";
+
+/// Whether each input begins as a stream of parcels does, or has no byte: it is a stream without a piece then.
+fn are_streams(inputs: &[Input<Reader<'_>>]) -> bool
+    ensures { IsTrue result ↔ All (λ input. BeginsStream (peeked_unread input.reader)
+        ⊎ (length (peeked_unread input.reader) ≡ 0)) inputs.now }
+{
+    for input in inputs {
+        if !input.reader.is_stream() && !input.reader.is_empty() {
+            return false;
+        }
+    }
+    true
+}
+
+/// Whether none begins as a stream of parcels does.
+fn are_captures(inputs: &[Input<Reader<'_>>]) -> bool
+    ensures { IsTrue result ↔ All (λ input. BeginsStream (peeked_unread input.reader) → ⊥) inputs.now }
+{
+    for input in inputs {
+        if input.reader.is_stream() {
+            return false;
+        }
+    }
+    true
+}
+
+/// Whether a file is both read and written.
+fn keep_is_read(rt: &HostRuntime, asked: &CollectCall<'_>) -> bool {
+    match asked.keep {
+        Some(kept) => asked
+            .files
+            .iter()
+            .any(|file| is_kept_in(rt, file.path, kept)),
+        None => false,
+    }
+}
+
+/// What is wrong with the options, whatever the files have.
+fn wrong_options(rt: &HostRuntime, asked: &CollectCall<'_>) -> Option<&'static str> {
+    if asked.keep.is_some() && asked.parcels {
+        return Some(BOTH);
+    }
+    if keep_is_read(rt, asked) {
+        return Some(KEEP_IS_READ);
+    }
+    None
+}
+
+/// Says on standard error why nothing is done.
+pub(crate) fn refuse(rt: &HostRuntime, sentence: &str) -> u8 {
+    let _ = eprintln!(rt; "{sentence}");
+    USAGE
+}
+
+/// Lists the files, and gives the exit status.
+fn list<'b>(rt: &HostRuntime, asked: &CollectCall<'b>) -> Result<u8, Trial<'b>>
+    requires { IsInRange asked.now }
+{
+    if let Some(sentence) = wrong_options(rt, asked) {
+        return Ok(refuse(rt, sentence));
+    }
+    let is_watched = rt.stderr().is_terminal();
+    // What a terminal shows of the output says how far it is.
+    let is_unseen = is_watched && !rt.stdout().is_terminal();
+    let inputs = open_inputs(rt, &asked.files, is_watched)?;
+    let is_for_streams = asked.keep.is_some() || asked.parcels;
+    let is_capture = are_captures(&inputs);
+    if are_streams(&inputs) && (is_for_streams || !is_capture) {
+        if asked.has_page || asked.names {
+            return Ok(refuse(rt, NOT_FOR_STREAMS));
+        }
+        return collect_pieces(rt, asked, inputs, is_unseen);
+    }
+    if !is_capture {
+        return Ok(refuse(rt, MIXED));
+    }
+    if is_for_streams {
+        return Ok(refuse(rt, NOT_FOR_CAPTURES));
+    }
+    collect_captures(rt, asked, inputs, is_unseen)
+}
+
+/// Carries out `collect`, and gives the exit status.
+pub fn collect(rt: &HostRuntime, asked: &CollectCall<'_>) -> u8
+    requires { IsInRange asked.now }
+{
+    match list(rt, asked) {
+        Ok(status) => status,
+        Err(Trial::File(message)) => {
+            let _ = eprintln!(rt; "{message}");
+            END_FAILED
+        }
+        Err(Trial::NoMemory) => print_memory_line(&mut Std::new(rt.stdout())),
+    }
+}

@@ -1,0 +1,130 @@
+//! The command `collect` over captures.
+ghost use Rattle.std.specs.Prelude.{◌≡◌, ◌<◌, false, if◌then◌else◌, map, All, IfOk};
+ghost use Rattle.command_io.specs.Ends.{has_failed};
+ghost use Rattle.parcel_streams.specs.source.Readers.{peeked_reader};
+ghost use Rattle.command_line.specs.Calls.{IsInRange};
+ghost use Rattle.trace_dat.specs.Contents.{format_seen};
+ghost use Rattle.host_commands.specs.Formats.{format_read};
+
+use crate::formats::{FormatText, formats_below};
+use crate::inputs::{Reader, Trial, name_of, open_output, trial_of};
+use crate::message::{FileMessage, Trouble};
+use capture::files::{FileFault, Input};
+use capture_text::Form;
+use collect_command::{Collected, Collecting, Ending, collect_to};
+use command_io::WRITE_FAILED;
+use command_line::{CollectCall, CpuFile};
+use trace_dat::{Cause, Format};
+
+/// The formats below the folder that is named, if one is.
+fn given_formats<'b>(
+    rt: &HostRuntime,
+    folder: Option<&'b str>,
+) -> Result<Vec<FormatText>, Trial<'b>> {
+    let Some(name) = folder else {
+        return Ok(Vec::new(rt.alloc()));
+    };
+    match formats_below(rt, name) {
+        Ok(formats) => Ok(formats),
+        Err(error) => Err(trial_of(error, Trouble::Unread, name)),
+    }
+}
+
+/// The formats, lent.
+fn lent<'a>(rt: &HostRuntime, texts: &'a [FormatText]) -> Result<Vec<Format<'a>>, Trial<'static>>
+    ensures { IfOk result (λ formats. map format_seen formats.items ≡ map format_read texts.now) }
+{
+    let mut formats = Vec::new(rt.alloc());
+    for format in texts {
+        let pushed = formats.push(Format {
+            system: format.system.as_slice(),
+            text: format.text.as_slice(),
+        });
+        if pushed.is_err() {
+            return Err(Trial::NoMemory);
+        }
+    }
+    Ok(formats)
+}
+
+/// What is the matter with a malformed file.
+fn trouble_of(fault: FileFault) -> Trouble {
+    match fault {
+        FileFault::Format(fault) if fault.cause == Cause::Compressed => Trouble::Compressed,
+        _ => Trouble::Malformed,
+    }
+}
+
+/// Says on standard error what the ending leaves to be said there.
+fn tell_ending(rt: &HostRuntime, files: &[CpuFile<'_>], ending: Ending) {
+    let (trouble, input) = match ending {
+        Ending::NotRead(input) => (Trouble::Unread, input),
+        Ending::Malformed { input, fault } => (trouble_of(fault), input),
+        Ending::NotWritten => {
+            let _ = eprintln!(rt; "{WRITE_FAILED}");
+            return;
+        }
+        _ => return,
+    };
+    let name = name_of(files, input);
+    let message = FileMessage { trouble, name };
+    let _ = eprintln!(rt; "{message}");
+}
+
+/// Says on standard error how many instances aren't listed, if there are any.
+fn tell_instances(rt: &HostRuntime, instances: u64) {
+    if instances > 0 {
+        let _ = eprintln!(rt; "tracering: instances that are not listed: {instances}");
+    }
+}
+
+/// How the files are listed.
+fn collecting_of<'a>(asked: &CollectCall<'_>, formats: &'a [Format<'a>]) -> Collecting<'a>
+    ensures form { result.form ≡ (if asked.now.json then Form.Json else Form.Text) }
+    ensures page { result.page ≡ asked.now.page }
+    ensures names { result.names ≡ asked.now.names }
+    ensures formats { result.formats.now ≡ formats.now }
+{
+    Collecting {
+        form: if asked.json { Form::Json } else { Form::Text },
+        page: asked.page,
+        names: asked.names,
+        formats,
+    }
+}
+
+/// Lists captures, and gives how that ends.
+fn list<'b>(
+    rt: &HostRuntime,
+    asked: &CollectCall<'b>,
+    inputs: Vec<Input<Reader<'_>>>,
+    is_watched: bool,
+) -> Result<Collected, Trial<'b>>
+    requires range { IsInRange asked.now }
+    requires cpus { map (λ input. input.cpu) inputs.items ≡ map (λ file. file.cpu) asked.now.files.items }
+    requires sound { All (λ input. has_failed (peeked_reader input.reader) ≡ false) inputs.items }
+{
+    let mut inputs = inputs;
+    let texts = given_formats(rt, asked.formats)?;
+    let formats = lent(rt, &texts)?;
+    let collecting = collecting_of(asked, &formats);
+    let mut output = open_output(rt, is_watched);
+    Ok(collect_to(rt.alloc(), &collecting, inputs.as_mut_slice(), &mut output))
+}
+
+/// Lists captures, and gives the exit status.
+pub(crate) fn collect_captures<'b>(
+    rt: &HostRuntime,
+    asked: &CollectCall<'b>,
+    inputs: Vec<Input<Reader<'_>>>,
+    is_watched: bool,
+) -> Result<u8, Trial<'b>>
+    requires range { IsInRange asked.now }
+    requires cpus { map (λ input. input.cpu) inputs.items ≡ map (λ file. file.cpu) asked.now.files.items }
+    requires sound { All (λ input. has_failed (peeked_reader input.reader) ≡ false) inputs.items }
+{
+    let Collected { ending, instances } = list(rt, asked, inputs, is_watched)?;
+    tell_instances(rt, instances);
+    tell_ending(rt, &asked.files, ending);
+    Ok(ending.status())
+}

@@ -1,0 +1,115 @@
+//! The inputs of `collect` and `recover`: files of the host, and standard input.
+ghost use Rattle.std.specs.Prelude.{◌≡◌, false, map, All, IfOk};
+ghost use Rattle.command_io.specs.Ends.{has_failed};
+ghost use Rattle.parcel_streams.specs.source.Readers.{peeked_reader};
+
+use crate::feed::Feed;
+use crate::message::{FileMessage, Trouble};
+use crate::progress::{Progress, Watched};
+use capture::files::Input;
+use command_io::Std;
+use command_line::CpuFile;
+use parcel_streams::source::Peeked;
+use std::fs::File;
+use std::io::{ErrorKind, Stdin, Stdout};
+use std::{fs, io};
+
+/// What an input is read from, of which the first bytes were looked at.
+pub(crate) type Reader<'a> = Peeked<Opened<'a>>;
+
+/// What an input is read from.
+pub(crate) type Opened<'a> = Std<Watched<'a, HostRuntime, Feed<File, Stdin>>>;
+
+/// Why the files aren't read.
+pub(crate) enum Trial<'a> {
+    /// There is something with this file.
+    File(FileMessage<'a>),
+    /// Memory was refused.
+    NoMemory,
+}
+
+/// What an error makes of a file: trouble, unless memory was refused.
+pub(crate) fn trial_of(error: io::Error, trouble: Trouble, name: &str) -> Trial<'_> {
+    match error.kind() {
+        ErrorKind::OutOfMemory => Trial::NoMemory,
+        _ => Trial::File(FileMessage { trouble, name }),
+    }
+}
+
+/// The input of a file, which is watched if that is wanted.
+pub(crate) fn open_input<'a>(
+    rt: &'a HostRuntime,
+    path: &str,
+    is_watched: bool,
+) -> io::Result<Opened<'a>>
+    ensures { IfOk result (λ reader. has_failed reader ≡ false) }
+{
+    let feed = if path == "-" {
+        Feed::Standard(rt.stdin())
+    } else {
+        Feed::File(fs::open(rt, path)?)
+    };
+    let progress = Progress::begin(rt, "read", is_watched);
+    Ok(Std::new(Watched::new(feed, progress)))
+}
+
+/// The input of a file, of which the first bytes were looked at.
+fn peeked_input<'a, 'b>(
+    rt: &'a HostRuntime,
+    path: &'b str,
+    is_watched: bool,
+) -> Result<Reader<'a>, Trial<'b>>
+    ensures { IfOk result (λ reader. has_failed (peeked_reader reader) ≡ false) }
+{
+    let opened = match open_input(rt, path, is_watched) {
+        Ok(opened) => opened,
+        Err(error) => return Err(trial_of(error, Trouble::Unopened, path)),
+    };
+    match Peeked::new(opened) {
+        Ok(reader) => Ok(reader),
+        Err(error) => Err(trial_of(error, Trouble::Unread, path)),
+    }
+}
+
+/// The inputs of these files.
+pub(crate) fn open_inputs<'a, 'b>(
+    rt: &'a HostRuntime,
+    files: &[CpuFile<'b>],
+    is_watched: bool,
+) -> Result<Vec<Input<Reader<'a>>>, Trial<'b>>
+    ensures cpus { IfOk result (λ inputs. map (λ input. input.cpu) inputs.items ≡ map (λ file. file.cpu) files.now) }
+    ensures sound { IfOk result (λ inputs.
+        All (λ input. has_failed (peeked_reader input.reader) ≡ false) inputs.items) }
+{
+    let mut inputs = Vec::new(rt.alloc());
+    for file in files {
+        let reader = peeked_input(rt, file.path, is_watched)?;
+        let pushed = inputs.push(Input {
+            cpu: file.cpu,
+            reader,
+        });
+        if pushed.is_err() {
+            return Err(Trial::NoMemory);
+        }
+    }
+    Ok(inputs)
+}
+
+/// The name of the input of this index.
+pub(crate) fn name_of<'b>(files: &[CpuFile<'b>], input: usize) -> &'b str {
+    match files.get(input) {
+        Some(file) => file.path,
+        None => "",
+    }
+}
+
+/// Standard output, which reports how far it is if that is wanted.
+pub(crate) fn open_output(
+    rt: &HostRuntime,
+    is_watched: bool,
+) -> Std<Watched<'_, HostRuntime, Stdout>>
+    ensures { has_failed result ≡ false }
+{
+    let progress = Progress::begin(rt, "written", is_watched);
+    Std::new(Watched::new(rt.stdout(), progress))
+}

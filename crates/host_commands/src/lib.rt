@@ -1,0 +1,19 @@
+//! The listing commands over files of the host: which files the words of `collect` and `recover` name, what is printed of
+//! them, and what is said of a file that can't be read.
+#![tactic(auto)]
+
+mod choose;
+mod collect;
+mod feed;
+mod formats;
+mod inputs;
+mod kept;
+mod message;
+mod progress;
+mod recover;
+mod same;
+mod streams;
+mod unkept;
+
+pub use choose::collect;
+pub use recover::recover;

@@ -1,0 +1,45 @@
+//! What the program says on standard error of a file.
+use std::fmt;
+
+/// What is the matter with a file.
+#[derive(Clone, Copy, Debug, PartialEq, Eq)]
+pub enum Trouble {
+    /// It can't be opened.
+    Unopened,
+    /// It can't be read to its end.
+    Unread,
+    /// It is a file of trace-cmd whose pages are compressed.
+    Compressed,
+    /// It has another fault, whose line is printed.
+    Malformed,
+}
+
+/// The line for a file, without a line feed. It takes no memory.
+#[derive(Clone, Copy, Debug)]
+pub struct FileMessage<'a> {
+    /// What is the matter with it.
+    pub trouble: Trouble,
+    /// Its name, as it was given.
+    pub name: &'a str,
+}
+
+impl<'a> fmt::Display for FileMessage<'a> {
+    ghost use Rattle.std.specs.Prelude.{Some};
+    ghost use Rattle.host_commands.specs.Messages.{message_text};
+
+    ghost output = { λ m. Some (message_text m.trouble m.name.now) };
+
+    fn fmt<W: fmt::Write>(&self, f: &mut fmt::Formatter<W>) -> fmt::Result {
+        let name = self.name;
+        match self.trouble {
+            Trouble::Unopened => write!(f, "tracering: cannot open {name}"),
+            Trouble::Unread => write!(f, "tracering: cannot read {name}"),
+            Trouble::Compressed => write!(
+                f,
+                "tracering: {name} is compressed: \
+                trace-cmd convert -i {name} --compression none -o FILE.dat makes one that is not"
+            ),
+            Trouble::Malformed => write!(f, "tracering: {name} is malformed"),
+        }
+    }
+}

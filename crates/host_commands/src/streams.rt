@@ -1,0 +1,142 @@
+//! The command `collect` over streams of parcels.
+ghost use Rattle.std.specs.Prelude.{◌≡◌, false, All, IfOk, if◌then◌else◌};
+ghost use Rattle.command_io.specs.Ends.{has_failed};
+ghost use Rattle.parcel_streams.specs.source.Readers.{peeked_reader, source_of};
+ghost use Rattle.collect_command.specs.streams.Reading.{IsFresh};
+
+use crate::inputs::{Reader, Trial, name_of, open_output, trial_of};
+use crate::message::{FileMessage, Trouble};
+use crate::unkept::Unkept;
+use capture::files::Input;
+use capture_text::Form;
+use collect_command::streams::{Collected, Ending, collect_streams, print_pieces};
+use command_io::{Std, WRITE_FAILED};
+use command_line::{CollectCall, CpuFile};
+use parcel_streams::source::PieceReader;
+use std::fs;
+
+/// Readers of the inputs' pieces.
+fn readers_of<'a>(
+    rt: &HostRuntime,
+    inputs: Vec<Input<Reader<'a>>>,
+) -> Result<Vec<PieceReader<Reader<'a>>>, Trial<'static>>
+    requires { All (λ input. has_failed (peeked_reader input.reader) ≡ false) inputs.items }
+    ensures sound { IfOk result (λ readers.
+        All (λ reader. has_failed (peeked_reader (source_of reader)) ≡ false) readers.items) }
+    ensures fresh { IfOk result (λ readers. All (λ reader. IsFresh reader) readers.items) }
+{
+    let mut readers = Vec::new(rt.alloc());
+    for input in inputs {
+        let Input { cpu: _, reader } = input;
+        let Ok(reader) = PieceReader::new(rt.alloc(), reader) else {
+            return Err(Trial::NoMemory);
+        };
+        if readers.push(reader).is_err() {
+            return Err(Trial::NoMemory);
+        }
+    }
+    Ok(readers)
+}
+
+/// The form of the lines.
+fn form_of(asked: &CollectCall<'_>) -> Form
+    ensures { result ≡ (if asked.now.json then Form.Json else Form.Text) }
+{
+    if asked.json { Form::Json } else { Form::Text }
+}
+
+/// Says on standard error what the ending leaves to be said there.
+fn tell_ending(rt: &HostRuntime, files: &[CpuFile<'_>], ending: Ending) {
+    let (trouble, input) = match ending {
+        Ending::NotRead(input) => (Trouble::Unread, input),
+        Ending::Malformed(input) => (Trouble::Malformed, input),
+        Ending::NotWritten => {
+            let _ = eprintln!(rt; "{WRITE_FAILED}");
+            return;
+        }
+        _ => return,
+    };
+    let name = name_of(files, input);
+    let message = FileMessage { trouble, name };
+    let _ = eprintln!(rt; "{message}");
+}
+
+/// Lists streams, keeps what is new in the file that is named, if one is, and gives how that ends.
+fn list<'b>(
+    rt: &HostRuntime,
+    asked: &CollectCall<'b>,
+    readers: Vec<PieceReader<Reader<'_>>>,
+    is_watched: bool,
+) -> Result<Collected, Trial<'b>>
+    requires sound { All (λ reader. has_failed (peeked_reader (source_of reader)) ≡ false) readers.items }
+    requires fresh { All (λ reader. IsFresh reader) readers.items }
+{
+    let mut readers = readers;
+    let form = form_of(asked);
+    let mut output = open_output(rt, is_watched);
+    let Some(path) = asked.keep else {
+        let mut keep = Unkept;
+        return Ok(collect_streams(
+            rt.alloc(),
+            form,
+            readers.as_mut_slice(),
+            &mut keep,
+            &mut output,
+        ));
+    };
+    let file = match fs::create(rt, path) {
+        Ok(file) => file,
+        Err(error) => return Err(trial_of(error, Trouble::Unopened, path)),
+    };
+    let mut keep = Std::new(file);
+    Ok(collect_streams(
+        rt.alloc(),
+        form,
+        readers.as_mut_slice(),
+        &mut keep,
+        &mut output,
+    ))
+}
+
+/// Prints the pieces of streams, and gives how that ends.
+fn print(
+    rt: &HostRuntime,
+    asked: &CollectCall<'_>,
+    readers: Vec<PieceReader<Reader<'_>>>,
+    is_watched: bool,
+) -> Ending
+    requires sound { All (λ reader. has_failed (peeked_reader (source_of reader)) ≡ false) readers.items }
+    requires fresh { All (λ reader. IsFresh reader) readers.items }
+{
+    let mut readers = readers;
+    let mut output = open_output(rt, is_watched);
+    print_pieces(
+        rt.alloc(),
+        form_of(asked),
+        readers.as_mut_slice(),
+        &mut output,
+    )
+}
+
+/// Lists streams or their pieces, and gives the exit status.
+pub(crate) fn collect_pieces<'b>(
+    rt: &HostRuntime,
+    asked: &CollectCall<'b>,
+    inputs: Vec<Input<Reader<'_>>>,
+    is_watched: bool,
+) -> Result<u8, Trial<'b>>
+    requires { All (λ input. has_failed (peeked_reader input.reader) ≡ false) inputs.items }
+{
+    let readers = readers_of(rt, inputs)?;
+    if asked.parcels {
+        let ending = print(rt, asked, readers, is_watched);
+        tell_ending(rt, &asked.files, ending);
+        return Ok(ending.status());
+    }
+    let collected = list(rt, asked, readers, is_watched)?;
+    if let (Some(name), false) = (asked.keep, collected.is_kept) {
+        let _ = eprintln!(rt; "tracering: cannot write {name}");
+    }
+    tell_ending(rt, &asked.files, collected.ending);
+    Ok(collected.status())
+}

@@ -1,6 +1,0 @@
--- A watched end, as contracts see it.
-use Rattle.trace_cli.specs.declared.host.progress.Watched.{Watched}
-
--- the end itself
-abbrev pub inner_of : {R T : Type 0} → Watched R T → T
-inner_of watched = watched.inner
