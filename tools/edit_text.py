@@ -8,7 +8,9 @@ does it.
 import re
 
 FUNCTION = re.compile(r'(\s*)(?:pub(?:\([^)]*\))? )?(?:const )?(?:unsafe )?(?:extern "C" )?fn (\w+)')
-IMPL = re.compile(r"impl\b(?:<.*?>)?\s+(?:(?P<trait>[\w:]+)(?:<.*?>)?\s+for\s+)?&?(?:mut )?(?P<type>[\w:]+)")
+IMPL = re.compile(
+    r"impl\b(?:<(?P<own>.*?)>)?\s+(?:(?P<trait>[\w:]+)(?:<(?P<given>.*?)>)?\s+for\s+)?&?(?:mut )?(?P<type>[\w:]+)"
+)
 TRAIT = re.compile(r"(?:pub(?:\([^)]*\))? )?trait (\w+)")
 
 
@@ -100,11 +102,13 @@ def module_of(file):
 
 
 def owner_of(lines, row):
-    """The type, with the trait after it, in whose block this row stands, as the kit names a method."""
+    """The type in whose block this row is, as the kit names a method: after it the trait, and types given to that."""
     for line in reversed(lines[:row]):
         impl, trait = IMPL.match(line), TRAIT.match(line)
         if impl:
             names = [(impl[it] or "").split("::")[-1] for it in ("type", "trait")]
+            own = re.findall(r"(?:^|, )(\w+)", impl["own"] or "")
+            names += [name for name in re.findall(r"\b[A-Z]\w*", impl["given"] or "") if name not in own]
             return f"{''.join(names)}::"
         if trait:
             return f"{trait[1]}::"
