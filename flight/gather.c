@@ -160,7 +160,10 @@ static bool send_request(struct slot *slot, uint32_t owner)
 }
 
 // Asks the thread of a slot until it answers amid no call, or the time is over; then once more, if it answered at all.
-// NOT_ASKED: it didn't answer. What a thread is asked that ended without handing back its slot, it never answers: gone.
+// NOT_ASKED: it didn't answer. What a thread is asked that ended without giving its slot back, it never answers: gone.
+// (A thread that records all the time is in a call for a third of it. A signal costs an event nothing; if a dump
+// borrowed the writer's handle, an event meanwhile would be refused as busy, and the loan would need a barrier on each
+// event, or the kernel's for all threads, membarrier.)
 static uint32_t ask(struct slot *slot, uint32_t owner, bool *is_gone)
 {
     uint64_t wait = (uint64_t)flight_recorder.config.wait_ms * 1000000;

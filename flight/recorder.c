@@ -425,7 +425,8 @@ static bool await_none_inside(void)
     return true;
 }
 
-// Stops, or goes on as if it hadn't been told to.
+// Stops, or gives up after a while and goes on: a thread that is halted where it gives its slot back may go on at any
+// time, so its memory can't be released.
 static int stop(void)
 {
     uint32_t running = load(&flight_running);

@@ -45,8 +45,9 @@
 // of a process with threads, no call may be made that takes or releases memory.
 //
 // ThreadSanitizer doesn't know how the two ends of a ring are ordered. If a program is compiled for it, the calls on
-// rings hide what they do from it, but tell it of payloads that they read, and of `out`, where they write it. What else
-// one thread hands to another by a record, it takes for unordered.
+// rings hide what they do from it, but report payloads that they read, and `out`, where they write it. What else one
+// thread passes to another by a record, it takes for unordered. (The order needs a name that the two handles of a ring
+// share, and they have none; one name for all rings would hide races between others.)
 #ifndef TRACERING_H
 #define TRACERING_H
 
@@ -690,7 +691,10 @@ static inline int32_t tracering_depth(struct tracering_writer *w)
 // the handle, by any handler, and by another thread. (`missed` of a page that is taken has none of these records: it
 // counts those that were written and overwritten.) settle, writer_free and writer_abandon set the counts to 0, so read
 // them first. It answers DONE, of a handle that has nothing too.
-// (In C++ the struct is written `struct tracering_refused`, since the call has its name; that is no slip.)
+// (The header counts, not the library: within a call no export may be called, and BUSY is the refusal that matters
+// most. A record costs a test of the answer and three instructions more. A reader's handle has no counts of fills,
+// which would say in pages, not in records, how much a taker lacks. In C++ the struct is written
+// `struct tracering_refused`, since the call has its name; that is no slip.)
 #pragma GCC diagnostic push
 #pragma GCC diagnostic ignored "-Wshadow"
 static inline int32_t tracering_refused(const struct tracering_writer *w, struct tracering_refused *out)

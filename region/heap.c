@@ -1,4 +1,5 @@
-// Where the bodies of a ring's pages lie: in malloc's memory, or in a region.
+// Where the bodies of a ring's pages are: in malloc's memory, or in a region. That is decided when the library is
+// linked, not by an allocator that types name: a dozen types of seven crates would have one more parameter.
 //
 // tracering-lib renames the calls of memory that the library's proved code makes to those below. While a thread makes a
 // ring in a region, each body that it takes is the region's next slot; all else goes on to the kit's own calls. What is
