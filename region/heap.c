@@ -19,7 +19,7 @@ void rattle_dealloc(void *at, size_t size, size_t align);
 // looks at them needs no lock. Of one that is being changed, or was, nobody holds a body.
 struct used_region {
     struct used_region *next;
-    _Atomic uint64_t changes; // odd amid a change of the two below
+    _Atomic uint64_t changes; // odd during a change of the two below
     _Atomic uintptr_t begin, end;
     _Atomic size_t holders; // the bodies, and who is filling the region; 0: the entry is free
 };
