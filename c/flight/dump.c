@@ -9,7 +9,7 @@
 #include <ucontext.h>
 
 // ---- The file. After a write that fails nothing more is written. (The C library's open, write and close would end a
-// thread that is to be cancelled, amid the dump; its other calls here don't.)
+// thread that is to be cancelled, during the dump; its other calls here don't.)
 
 static int open_file(const char *path, int flags)
 {

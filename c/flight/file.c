@@ -205,8 +205,8 @@ static uint8_t *put_number(uint8_t *at, uint32_t value)
     return put(at, &value, sizeof value);
 }
 
-// Gets so much room behind the sites that are there, or null. A room is stated by the exchange that gets it: whoever
-// finds one stated goes on behind it, whether it has a site yet or never will.
+// Gets this much room after the sites that are there, or null. A room is stated by the exchange that gets it: whoever
+// finds one stated goes on after it, whether it has a site yet or never will.
 static uint32_t *get_room(size_t room)
 {
     uint8_t *sites = (uint8_t *)flight_recorder.file + number(FILE_SITES);

@@ -43,7 +43,7 @@ void flight_drop_pages(void)
 }
 
 // Takes the closed pages of a ring, and answers whether these were all. A ring that is written meanwhile could go on
-// for ever, so they are no more than it has.
+// for ever, so they are at most as many as it has.
 static bool take_pages(uint32_t number, uint32_t most)
 {
     struct tracering_reader *reader = &ring_of(number)->reader;
@@ -99,7 +99,7 @@ static void gather(struct slot *slot, bool with_tails)
     }
 }
 
-// What a thread does that is asked: with all signals blocked, on its own slot. (So a fault amid this ends the process.)
+// What a thread does that is asked: with all signals blocked, on its own slot. (So a fault in it ends the process.)
 void flight_answer(struct slot *slot)
 {
     uint32_t asked = load(&slot->request);
@@ -146,7 +146,7 @@ static uint32_t await_answer(struct slot *slot, uint32_t owner, uint32_t asked, 
 
 // Sends the owner of a slot the dump's signal, unless one is still to arrive there: a thread that blocks it would get
 // one more of each dump. Answers whether the thread is gone. (Its handler first says that it arrived, then looks at
-// what is asked, which stands there already.)
+// what is asked, which is there already.)
 static bool send_request(struct slot *slot, uint32_t owner)
 {
     bool is_sent = load(&slot->signalled) == owner;
@@ -159,8 +159,11 @@ static bool send_request(struct slot *slot, uint32_t owner)
     return errno == ESRCH;
 }
 
-// Asks the thread of a slot until it answers amid no call, or the time is over; then once more, if it answered at all.
-// NOT_ASKED: it didn't answer. What a thread is asked that ended without handing back its slot, it never answers: gone.
+// Asks the thread of a slot until it answers outside of a call, or the time is over; then once more, if it answered.
+// NOT_ASKED: it didn't answer. What a thread is asked that ended without giving its slot back, it never answers: gone.
+// (A thread that records all the time is in a call for a third of it. A signal costs an event nothing; if a dump
+// borrowed the writer's handle, an event meanwhile would be refused as busy, and the loan would need a barrier on each
+// event, or the kernel's for all threads, membarrier.)
 static uint32_t ask(struct slot *slot, uint32_t owner, bool *is_gone)
 {
     uint64_t wait = (uint64_t)flight_recorder.config.wait_ms * 1000000;

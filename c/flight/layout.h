@@ -72,7 +72,7 @@ static inline uint64_t next_version(uint64_t version)
     return (version | (2 * SLOT_MOST_LEASES - 1)) + 1;
 }
 
-// Where in the header the last pair of both clocks is, of so many stamps; it is none of the start's if `stamps` is 0.
+// Where in the header the last pair of both clocks is, of this many stamps; it is none of the start's if `stamps` is 0.
 static inline size_t stamp_word(uint64_t stamps)
 {
     return FILE_STAMP + 2 * ((stamps / 2 - 1) & 1);

@@ -75,7 +75,7 @@ void flight_count_without_ring(void)
         (void)__atomic_fetch_add(flight_recorder.file + FILE_WITHOUT_RING, 1, __ATOMIC_RELAXED);
 }
 
-// Hands back a slot, as the one that is to be claimed after all that are free now.
+// Gives a slot back, as the one that is to be claimed after all that are free now.
 void flight_hand_back(struct slot *slot)
 {
     uint64_t returns = __atomic_add_fetch(&flight_recorder.returns, 1, __ATOMIC_SEQ_CST);
@@ -83,7 +83,7 @@ void flight_hand_back(struct slot *slot)
     __atomic_store_n(&slot->owner, NOBODY, __ATOMIC_SEQ_CST);
 }
 
-// The slot that was handed back longest ago, if one is free; `is_held` says whether a dump has one.
+// The slot that was given back longest ago, if one is free; `is_held` says whether a dump has one.
 static struct slot *longest_free(bool *is_held)
 {
     struct slot *found = NULL;
@@ -160,7 +160,7 @@ static inline struct slot *own_slot(void)
     return flight_mine.running == __atomic_load_n(&flight_running, __ATOMIC_ACQUIRE) ? flight_mine.slot : enter();
 }
 
-// Hands back the slot of a thread that ends.
+// Gives back the slot of a thread that ends.
 static void leave(void *given)
 {
     sigset_t signals;
@@ -224,7 +224,7 @@ static void after_fork(void)
     unblock_signals(&unforked);
 }
 
-// The child of a fork has this thread alone, which has no slot: the rings may be amid calls of threads that are gone.
+// The child of a fork has this thread alone, which has no slot: the rings may be in calls of threads that are gone.
 static void start_child(void)
 {
     flight_mine.slot = NULL;
@@ -425,7 +425,8 @@ static bool await_none_inside(void)
     return true;
 }
 
-// Stops, or goes on as if it hadn't been told to.
+// Stops, or gives up after a while and goes on: a thread that is halted where it gives its slot back may go on at any
+// time, so its memory can't be released.
 static int stop(void)
 {
     uint32_t running = load(&flight_running);

@@ -92,7 +92,7 @@ _Static_assert(sizeof(struct noted) == SLOT_BYTES, "a slot of a flight file has 
 // What a dump asks the thread of a slot, and what that answers.
 enum request {
     NOT_ASKED,
-    ASKED_AT_REST, // to answer only if it is amid no call
+    ASKED_AT_REST, // to answer only if it is in no call
     ASKED_ANYWAY,
     ANSWERING,
     IS_AMID,
@@ -105,7 +105,7 @@ struct slot {
     uint32_t owner;
     uint32_t request;
     uint32_t signalled; // the owner that was sent the dump's signal, until it arrives
-    uint64_t freed;     // by how many returns of slots it was handed back
+    uint64_t freed;     // by how many returns of slots it was given back
     struct noted *noted;
 } __attribute__((aligned(128)));
 
@@ -137,7 +137,7 @@ struct recorder {
     struct flight_config config;
     uint64_t started, started_real; // the clock, and the time of day
     uint64_t without_ring;          // how many events found no ring
-    uint64_t returns;               // how often a slot was handed back
+    uint64_t returns;               // how often a slot was given back
     char program[NAME_SIZE];
     void *memory;
     size_t memory_len;
@@ -180,7 +180,7 @@ extern _Thread_local __attribute__((tls_model("initial-exec"))) struct mine flig
 void flight_gather(struct slot *slot);
 // Answers a dump, if it asks for this slot, which is the calling thread's. All signals are blocked.
 void flight_answer(struct slot *slot);
-// Hands back a slot, as the one that is to be claimed after all that are free now.
+// Gives a slot back, as the one that is to be claimed after all that are free now.
 void flight_hand_back(struct slot *slot);
 // Drops the oldest pages that are more than are to be kept.
 void flight_drop_pages(void);

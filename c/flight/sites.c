@@ -55,7 +55,8 @@ static bool set_has(const char *set, int byte, const char **end)
     return has != is_negated;
 }
 
-// Whether the pattern's next element matches the byte; `end` is where the pattern goes on.
+// Whether the pattern's next element matches the byte; `end` is where the pattern goes on. (A site may be first reached
+// in a handler, where the C library's fnmatch isn't safe.)
 static bool element_matches(const char *pattern, int byte, const char **end)
 {
     if (*pattern == '[') {
@@ -222,7 +223,8 @@ static uint8_t kind_of(const struct flight_site *site, unsigned argument)
 }
 
 // Finds out how far each text of a site may be read: only one of %s, which the format orders. Any other pointer to
-// characters is an address. (Two threads may do this at once: both find the same.)
+// characters is an address. (Two threads may do this at once: both find the same. %.*s is often given bytes without an
+// end, and %p any bytes. A format that orders its arguments, as %2$s does, is rare, and has no text.)
 static void find_limits(struct flight_site *site)
 {
     uint16_t limits[FLIGHT_ARGUMENTS];
@@ -249,7 +251,7 @@ static void find_limits(struct flight_site *site)
 }
 
 // A site gets its id, from which a dump finds it, and is in the file before any event has that. (Two threads may both
-// give it one.)
+// give it one, and each id leads to it. In a list one of them would have to wait.)
 bool flight_register(struct flight_site *site)
 {
     if (!load(&flight_running))

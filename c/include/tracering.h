@@ -1,4 +1,4 @@
-// A running trace ring: a writer's end and a reader's end, each behind a handle.
+// A running trace ring: a writer's end and a reader's end, each in a handle.
 //
 // One thread writes and one thread reads; neither waits for the other. Records are numbered from 0 on. If the ring is
 // full, the oldest closed page is overwritten, and the reader knows how many records were lost. What is taken is a
@@ -31,9 +31,9 @@
 // so.
 //
 // Signals. A handler may call write, begin, put, finish, end, begin_close, depth and peek on the handle of the thread
-// that it interrupts: its records are nested. Amid a call on that handle they answer BUSY: the handler's record isn't
+// that it interrupts: its records are nested. Within a call on that handle they answer BUSY: the handler's record isn't
 // written, and the handle counts it. It may call take and wish on a reader's handle in the same way, and at any time,
-// amid a call too, written, refused, writer_room and reader_room. It must not call new, settle, those that free, pack,
+// in a call too, written, refused, writer_room and reader_room. It must not call new, settle, those that free, pack,
 // or any call on a collector or a fleet: most of these take or release memory. It completes what it begins.
 // No record of a handler is refused so if it has a ring that nothing which it interrupts writes: one ring for the
 // thread's own code, and one for each level of handlers. Handlers are of one level if each blocks the signals of all of
@@ -45,8 +45,9 @@
 // of a process with threads, no call may be made that takes or releases memory.
 //
 // ThreadSanitizer doesn't know how the two ends of a ring are ordered. If a program is compiled for it, the calls on
-// rings hide what they do from it, but tell it of payloads that they read, and of `out`, where they write it. What else
-// one thread hands to another by a record, it takes for unordered.
+// rings hide what they do from it, but report payloads that they read, and `out`, where they write it. What else one
+// thread passes to another by a record, it takes for unordered. (The order needs a name that the two handles of a ring
+// share, and they have none; one name for all rings would hide races between others.)
 #ifndef TRACERING_H
 #define TRACERING_H
 
@@ -191,7 +192,7 @@ struct tracering_cpu_state {
 // The bytes of a parcel before its page's data.
 #define TRACERING_HEADER 48
 
-// The most bytes of a mark, and of the piece that a parcel of so many bytes is packed to.
+// The most bytes of a mark, and of the piece that a parcel of `len` bytes is packed to.
 #define TRACERING_MARK 64
 #define TRACERING_PIECE(parcel) (40 + (parcel))
 
@@ -415,7 +416,7 @@ static inline int32_t tracering_leave_both(volatile sig_atomic_t *in_call, volat
     return tracering_leave(in_call, code);
 }
 
-// What calls on rings hide from ThreadSanitizer, and what they tell it.
+// What calls on rings hide from ThreadSanitizer, and what they report to it.
 #ifdef __SANITIZE_THREAD__
 #define TRACERING_TSAN 1
 #elif defined(__has_feature)
@@ -456,7 +457,7 @@ static inline int32_t tracering_leave_end(volatile sig_atomic_t *in_call, int32_
     return tracering_leave(in_call, code);
 }
 
-// Counts a record that is lost for this reason, if that is one, and answers it. A handler may count amid it.
+// Counts a record that is lost for this reason, if that is one, and answers it. A handler may count within it.
 static __attribute__((noinline, cold, unused)) int32_t tracering_lost(struct tracering_writer *w, int32_t code)
 {
     struct tracering_refused *refused = &w->refused;
@@ -504,7 +505,7 @@ static inline void tracering_join(struct tracering_writer *w, struct tracering_r
     w->room = r->room = TRACERING_HEADER + size;
 }
 
-// The parts of a call that a region is told (tracering_region.h): a ring without one skips them.
+// The parts of a call that are stored in a region (tracering_region.h): a ring without one skips them.
 // A ring's region says which record is the first that wasn't taken, after each page that is given.
 static inline void tracering_tell_taken(const struct tracering_reader *r, const struct tracering_taken *taken)
 {
@@ -532,7 +533,7 @@ static inline void tracering_tell_settled(const struct tracering_writer *w, cons
         __atomic_store_n(w->region_ended, 1, __ATOMIC_RELEASE);
 }
 
-// Counts a record that is complete. Its call is still marked, so no handler counts amid it.
+// Counts a record that is complete. Its call is still marked, so no handler counts within it.
 static inline void tracering_complete(struct tracering_writer *w)
 {
     __atomic_store_n(&w->written, __atomic_load_n(&w->written, __ATOMIC_RELAXED) + 1, __ATOMIC_RELAXED);
@@ -555,7 +556,7 @@ static inline int32_t tracering_new(struct tracering_writer *w, struct tracering
 }
 
 // How many bytes `out` of take, of peek and of settle has room for at least: TRACERING_HEADER and the ring's `size`. It
-// is 0 if the handle has nothing, or is null. They may be made amid a call on the handle.
+// is 0 if the handle has nothing, or is null. They may be made within a call on the handle.
 static inline size_t tracering_writer_room(const struct tracering_writer *w)
 {
     return w ? w->room : 0;
@@ -665,7 +666,7 @@ static inline int32_t tracering_end(struct tracering_writer *w)
 
 // Copies to `records` how many records are complete: written, or ended. Whoever has taken pages, of which the last one
 // has the numbers `first` to `first + count - 1`, has got, or seen counted as missed, all but *records - first - count
-// of them. (While a frame is begun, its record's number may be before theirs.) It may be made amid a call on the
+// of them. (While a frame is begun, its record's number may be before theirs.) It may be made within a call on the
 // handle, by any handler, and by another thread. settle, writer_free and writer_abandon set the number to 0. It answers
 // DONE, of a handle that has nothing too.
 static inline int32_t tracering_written(const struct tracering_writer *w, uint64_t *records)
@@ -686,11 +687,14 @@ static inline int32_t tracering_depth(struct tracering_writer *w)
     return tracering_leave_end(&w->in_call, w->held.live ? (int32_t)tracering_raw_depth(&w->held) : TRACERING_ABSENT);
 }
 
-// Copies to `out` how many records write, begin and finish lost so far, by their answers. It may be made amid a call on
+// Copies to `out` how many records write, begin and finish lost so far, by their answers. It may be made in a call on
 // the handle, by any handler, and by another thread. (`missed` of a page that is taken has none of these records: it
 // counts those that were written and overwritten.) settle, writer_free and writer_abandon set the counts to 0, so read
 // them first. It answers DONE, of a handle that has nothing too.
-// (In C++ the struct is written `struct tracering_refused`, since the call has its name; that is no slip.)
+// (The header counts, not the library: within a call no export may be called, and BUSY is the refusal that matters
+// most. A record costs a test of the answer and three instructions more. A reader's handle has no counts of fills,
+// which would say in pages, not in records, how much a taker lacks. In C++ the struct is written
+// `struct tracering_refused`, since the call has its name; that is no slip.)
 #pragma GCC diagnostic push
 #pragma GCC diagnostic ignored "-Wshadow"
 static inline int32_t tracering_refused(const struct tracering_writer *w, struct tracering_refused *out)
@@ -732,9 +736,9 @@ static inline int32_t tracering_peek(struct tracering_writer *w, void *out, size
 // most 2N + 8 steps, whatever the writer does.
 
 // Takes the oldest page that is closed and unread, or gives the one that `collector_take` didn't add: its parcel goes
-// to the front of `out`. `out` has room for TRACERING_HEADER and the ring's `size` bytes at least, and so many are
-// written. EMPTY, MOVING, NO_ROOM: then `out` and `taken` are not changed, and no page is taken (NO_ROOM doesn't look
-// whether there is one).
+// to the front of `out`. `out` has room for TRACERING_HEADER and the ring's `size` bytes at least, and that many
+// are written. EMPTY, MOVING, NO_ROOM: then `out` and `taken` are not changed, and no page is taken (NO_ROOM doesn't
+// look whether there is one).
 static inline int32_t tracering_take(struct tracering_reader *r, void *out, size_t room, struct tracering_taken *taken)
 {
     if (!(r && out && taken))
@@ -802,7 +806,7 @@ static inline int32_t tracering_settle(struct tracering_writer *w, struct tracer
 // counted as missed.) `lost`, which may be null, is set to how many records are lost: those that are written or
 // reserved, and on a page that was never closed. It is 0 if no frame is begun, unless no number is left for the page's
 // close (WORN). It doesn't count records of closed pages that were overwritten: they count as missed before the next
-// page that is taken. If frames are begun, there may be no such page: then `tracering_written`, called before, tells
+// page that is taken. If frames are begun, there may be no such page: then `tracering_written`, called before, says
 // how many complete records the reader hasn't got.
 static inline int32_t tracering_writer_free(struct tracering_writer *w, uint64_t *lost)
 {
@@ -835,7 +839,7 @@ static inline int32_t tracering_reader_free(struct tracering_reader *r)
 
 // Each gives up a handle that stays in a call for ever: a handler that interrupted the call never came back to it (it
 // left by siglongjmp, or the thread was cancelled in it). What the handle had is not released, since the call may be
-// amid anything; the other end may be used and freed. If the call was amid a move of the head, takes of the other end
+// at any point; the other end may be used and freed. If the call was in a move of the head, takes of the other end
 // answer MOVING for ever, and what is unread is lost: so whoever abandons a writer tries MOVING again only so often.
 // The handle is all zeros afterwards, and can be made new.
 static inline int32_t tracering_writer_abandon(struct tracering_writer *w)
@@ -896,7 +900,7 @@ static inline int32_t tracering_collector_add(struct tracering_collector *c, con
 // MOVING: no page is next. CLASH, TAKEN_AND_MISSING, NO_MEMORY: the page isn't added, and isn't lost: it stays with the
 // reader, whose next call of `take` or of this one gives it, before any other page (`settle` answers UNREAD until
 // then). `at` is changed by CLASH and TAKEN_AND_MISSING, as `add` does. If it answers a positive number, the collector
-// and `taken` are as they were. A handler that calls `take` amid it is answered BUSY.
+// and `taken` are as they were. A handler that calls `take` within it is answered BUSY.
 static inline int32_t tracering_collector_take(struct tracering_collector *c, struct tracering_reader *r,
     struct tracering_taken *taken, struct tracering_fault_at *at)
 {

@@ -28,12 +28,12 @@
 // the newest events, and says how many. The signal's handler interrupts calls that wait: nanosleep, poll and others
 // then answer EINTR. The signal belongs to the recorder until flight_stop.
 //
-// Files. With `file`, all that a first dump would have lies in that file from flight_start on. So after SIGKILL, a
+// Files. With `file`, all that a first dump would have is in that file from flight_start on. So after SIGKILL, a
 // crash, or whatever else ends the process, `tracering-flight show FILE` shows each event whose TRACE had returned, but
 // for those that it counts: overwritten, refused, or taken by an earlier flight_dump, whose file alone has them. `show`
 // may also read it while the program runs (on x86-64). So no crash needs to be handled, but the file doesn't say which
 // signal ended the process. If that is wanted, flight_dump_on_crash may be called too, with another path: at the
-// recorder's own the dump is refused (EEXIST), and nobody is told. What the dump took is in it alone, as with
+// recorder's own the dump is refused (EEXIST), and nothing reports that. What the dump took is in it alone, as with
 // flight_dump.
 // `tracering_write` takes no longer there (docs/SPEED.md), but where the kernel writes the file back to a disk its
 // first store to a page may wait for that: a file in /dev/shm isn't written anywhere. A crash of the machine leaves
@@ -44,7 +44,7 @@
 // conversion is %s: to its end, its precision or 255 bytes, whichever comes first. For %p its address is recorded, as
 // of any other pointer. A long double is recorded as a double. A bit-field has to be cast. Conversions other than
 // d i u o x X c s p f F e E g G a A and %% aren't formatted by `show`. Arguments are evaluated once, and not at all if
-// the event is switched off. In C, TRACE can't stand in an inline function that isn't static.
+// the event is switched off. In C, TRACE can't be in an inline function that isn't static.
 //
 // Shared objects. An object with TRACE must not be unloaded while a dump can be made (link it with `-z nodelete`), and
 // all objects of a process share one copy of the recorder: link the archive into the program alone (with -rdynamic, if
@@ -90,7 +90,7 @@ struct flight_config {
     uint64_t (*now)(void);   // FLIGHT_CALLER: the clock, below 2^59; it may be called in handlers. Null for others
     int signal;              // the signal that asks a thread for its newest events (SIGRTMAX - 1)
     uint32_t wait_ms;        // how many milliseconds a dump waits for each thread's answer, one thread after the other;
-                             // up to twice as many for one that answers that it is amid a TRACE (100)
+                             // up to twice as many for one that answers that it is in a TRACE (100)
     const char *file;        // a file that has all events from the start on, after a kill, too: "Files" (none)
 };
 
@@ -106,7 +106,7 @@ struct flight_config {
 // (LeakSanitizer doesn't look into all of this memory: unless flight_stop is called, it reports the rings as lost.)
 int flight_start(const struct flight_config *config);
 
-// Stops it and releases its memory. No thread or handler may be amid a TRACE when it is called, or begin one before it
+// Stops it and releases its memory. No thread or handler may be in a TRACE when it is called, or begin one before it
 // returns. A thread that ends, or answers a dump late, is waited for, up to five seconds. The file says that it was
 // stopped, and stays; of each ring the page that is written is closed, which in a full ring overwrites the oldest page.
 // The signals of a crash do again what they did before: after a new start flight_dump_on_crash is to be called again.

@@ -134,7 +134,8 @@ int32_t tracering_region_about(const void *region, size_t len, struct tracering_
 // but for pages that were overwritten, or given to the reader, before or meanwhile.
 // `copy` has room for as many bytes as the region has (`len` of `tracering_region_about`). NO_ROOM: `copy_len` is too
 // small. BAD_REGION: as there, or the region begins at no multiple of TRACERING_REGION_ALIGN; then nothing is copied,
-// as with NO_ROOM. Or another ring, of another stream, was made there meanwhile; then the copy is no region.
+// as with NO_ROOM. Or another ring, of another stream, was made there meanwhile; then the copy is no region,
+// and isn't tried again: whoever asked for the ring of that stream has to know that it is gone.
 int32_t tracering_region_copy(const void *region, size_t len, void *copy, size_t copy_len);
 
 // What slot `slot` (from 0 on) of a copy, or of a region that nothing writes any more, has: `bytes` is set to where in

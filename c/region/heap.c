@@ -1,4 +1,5 @@
-// Where the bodies of a ring's pages lie: in malloc's memory, or in a region.
+// Where the bodies of a ring's pages are: in malloc's memory, or in a region. That is decided when the library is
+// linked, not by an allocator that types name: a dozen types of seven crates would have one more parameter.
 //
 // tracering-lib renames the calls of memory that the library's proved code makes to those below. While a thread makes a
 // ring in a region, each body that it takes is the region's next slot; all else goes on to the kit's own calls. What is
@@ -18,7 +19,7 @@ void rattle_dealloc(void *at, size_t size, size_t align);
 // looks at them needs no lock. Of one that is being changed, or was, nobody holds a body.
 struct used_region {
     struct used_region *next;
-    _Atomic uint64_t changes; // odd amid a change of the two below
+    _Atomic uint64_t changes; // odd during a change of the two below
     _Atomic uintptr_t begin, end;
     _Atomic size_t holders; // the bodies, and who is filling the region; 0: the entry is free
 };

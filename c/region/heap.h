@@ -1,4 +1,4 @@
-// The memory that the library's proved code takes and releases, and the regions that some of it lies in.
+// The memory that the library's proved code takes and releases, and the regions that some of it is in.
 #ifndef REGION_HEAP_H
 #define REGION_HEAP_H
 
@@ -21,12 +21,12 @@ struct filling {
     struct used_region *region;
 };
 
-// From here on the thread's bodies are the slots of this memory: 1. 0: there is no memory to note that; -1: a ring lies
+// From here on the thread's bodies are the slots of this memory: 1. 0: there is no memory to note that; -1: a ring is
 // in it. After 1, tracering_heap_end is called by the same thread.
 int tracering_heap_begin(struct filling *filling, void *begin, size_t len);
 void tracering_heap_end(struct filling *filling);
 
-// Whether a body lies in this memory.
+// Whether a body is in this memory.
 bool tracering_heap_has_bodies(const void *begin, size_t len);
 
 // What the proved code calls.

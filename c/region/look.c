@@ -33,7 +33,7 @@ static void read_header(const void *region, uint64_t *header)
         header[word] = is_aligned(region) ? load((const uint64_t *)region + word) : word_at(region, word);
 }
 
-// Whether the words of a header are a region's that has no more than `len` bytes.
+// Whether the words of a header are a region's that has at most `len` bytes.
 static bool is_header(const uint64_t *header, size_t len)
 {
     return header[MAGIC_WORD] == REGION_MAGIC && header[VERSION_WORD] == REGION_VERSION
@@ -122,7 +122,7 @@ static inline uint64_t newest_fill(const struct slots *slots)
     return newest;
 }
 
-// Empties the copies of slots that were begun anew since; whether there was one.
+// Empties the copies of slots that were begun again since; whether there was one.
 static bool drop_overwritten(const struct slots *slots)
 {
     bool dropped = false;
@@ -139,7 +139,7 @@ static bool drop_overwritten(const struct slots *slots)
 }
 
 // Pages newer than the newest one before are left out: in the copy that one may lack its last records. All pages that
-// stay were there at one moment, when all that are left out had been overwritten: so the copy tells what was lost as a
+// stay were there at one moment, when all that are left out had been overwritten: so the copy shows what was lost as a
 // region does that nobody writes.
 static void copy_once(const struct slots *slots)
 {

@@ -27,7 +27,7 @@ static void *mapped(size_t len, int protection, int flags, int file)
 }
 
 // Allocates the blocks of a file, with all signals blocked: a file system may answer EINTR where one has come, and
-// begin anew when it is asked again, so that a timer's signals would hold up a large file for ever.
+// begin again when it is asked again, so that a timer's signals would hold up a large file for ever.
 static int allocate(int file, size_t len)
 {
     sigset_t all, before;

@@ -3,8 +3,8 @@
 // of its own level and of those below, so what writes a ring is never interrupted by what writes the same one. A
 // collector has the records of all in order of time.
 //
-// `./tracering-lib` prints how to compile and link it. `levels RECORDS` has ring 0 get so many records, and prints the
-// same each time: that each record is there. It ends with 1 if one isn't.
+// `./tracering-lib` prints how to compile and link it. `levels RECORDS` has ring 0 get RECORDS records, and prints
+// the same each time: that each record is there. It ends with 1 if one isn't.
 #define _POSIX_C_SOURCE 200809L
 #include "tracering.h"
 
@@ -17,7 +17,7 @@ enum { LEVELS = 4, PAGES = 64, SIZE = 1024 };
 
 static struct tracering_writer writers[LEVELS];
 static struct tracering_reader readers[LEVELS];
-// How many records of each level were made, and how many of them amid a call on another level's ring: on a ring of all
+// How many records of each level were made, and how many of them in a call on another level's ring: on a ring of all
 // levels these would be refused.
 static uint64_t made[LEVELS];
 static volatile sig_atomic_t amid_calls;

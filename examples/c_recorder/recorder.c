@@ -45,7 +45,7 @@ static void close_page(void)
         (void)tracering_finish(&writers[cpu]);
 }
 
-// Dumps the closed pages of a ring, if its writer isn't halted amid a move of the head: then takes answer MOVING, and
+// Dumps the closed pages of a ring, if its writer isn't halted in a move of the head: then takes answer MOVING, and
 // pages may be left out. `take` allocates nothing and waits for nothing, so a handler may make it.
 static void dump(struct tracering_reader *reader)
 {
@@ -61,9 +61,9 @@ static void dump(struct tracering_reader *reader)
     }
 }
 
-// Of each ring the closed pages are dumped, and then the page that this thread was writing. If the fault is amid a call
-// on its ring, that page is left out, and closed ones may be (`dump`); so may those of a ring that another thread is
-// amid a call on. Of two threads that are hit, one dumps; no signal interrupts it.
+// Of each ring the closed pages are dumped, and then the page that this thread was writing. If the fault is in a call
+// on its ring, that page is left out, and closed ones may be (`dump`); so may those of a ring that another thread is in
+// a call on. Of two threads that are hit, one dumps; no signal interrupts it.
 static void on_fault(int signal)
 {
     static atomic_flag dumped = ATOMIC_FLAG_INIT;

@@ -23,7 +23,7 @@ struct recorder {
 
 static struct recorder recorders[THREADS];
 
-// One id for all rings of this run, each of which has a CPU of its own. By it they are told apart from those of other
+// One id for all rings of this run, each of which has a CPU of its own. By it they differ from those of other
 // runs, on this machine and elsewhere.
 static uint64_t stream_of_this_run(void)
 {

@@ -81,7 +81,7 @@ static inline void stop_at_signals(void)
         die("sigaction", strerror(errno));
 }
 
-// ---- Pieces: where their bytes say what they are (docs/formats/pages.md, "Streams of parcels").
+// ---- Pieces: the offsets at which their bytes say what they are (docs/formats/pages.md, "Streams of parcels").
 
 enum { KIND_AT = 12, CPU_AT = 32, FILL_AT = 40 };
 enum { RINGS = 64, PAGE = 65520, PARCEL = TRACERING_HEADER + PAGE };

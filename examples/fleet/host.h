@@ -28,7 +28,7 @@ struct host {
 
 #define NOTE(host, ...) ((host)->ledger ? (void)fprintf((host)->ledger, __VA_ARGS__) : (void)0)
 
-// An event of a CPU: a record, and amid the first of several the others, as by an interrupt. The ledger has its line
+// An event of a CPU: a record, and within the first of several the others, as by an interrupt. The ledger has its line
 // before the ring has its record, so it has the line of each record that a collector ever gets.
 static inline void record(struct host *h, uint32_t cpu, int events)
 {
@@ -52,7 +52,7 @@ static inline void record(struct host *h, uint32_t cpu, int events)
     must(tracering_finish(&r->writer), "finish");
 }
 
-// Writes so many events of each CPU a second, or as many as it can, and waits for nobody.
+// Writes this many events of each CPU a second, or as many as it can, and waits for nobody.
 static inline void *write_events(void *given)
 {
     struct host *h = (struct host *)given;
@@ -74,7 +74,7 @@ static inline void start_host(struct host *h, char **words)
 {
     const char *ledger = word_after(words, "--ledger", NULL);
     size_t pages = number_after(words, "--pages", 64), size = number_after(words, "--size", 4080);
-    // A host that starts anew begins at record 0 again, so its stream has another number.
+    // A host that starts again begins at record 0 again, so its stream has another number.
     h->stream = number_after(words, "--host", 1) << 32 | number_after(words, "--incarnation", 1);
     h->cpus = (uint32_t)number_after(words, "--cpus", 4);
     h->rate = number_after(words, "--rate", 1000);

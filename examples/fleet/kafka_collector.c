@@ -4,7 +4,7 @@
 //     kafka_collector --log FILE (--copy NAME | --share NAME) [--servers HOST:PORT,..] [--topic NAME] [--idle SECONDS]
 //
 // With `--copy` it gets all parcels that the brokers keep; its name is its own. Collectors that share a name get some
-// of the partitions each. It ends by SIGTERM, or after so many seconds without a message.
+// of the partitions each. It ends by SIGTERM, or after `--idle` seconds without a message.
 #include "kafka_bus.h"
 #include "log.h"
 

@@ -14,7 +14,7 @@ struct log {
 };
 
 // What is below the watermarks is known for good, and is in the log: the fleet needn't keep it. (To forget it takes
-// time by all that is kept. The second call finds nothing to forget, so it tells what is left: that may take a tenth of
+// time by all that is kept. The second call finds nothing to forget, so it shows what is left: that may take a tenth of
 // the time.)
 static inline void forget_final(struct log *l)
 {
@@ -28,7 +28,7 @@ static inline void forget_final(struct log *l)
 }
 
 // Adds the first piece of these bytes, if there is one: `used` is how many it has, or 0. One that is at odds with
-// others is told, and left out.
+// others is reported, and left out.
 static inline int32_t add_piece(struct log *l, const uint8_t *bytes, size_t len, size_t *used)
 {
     struct tracering_stream_fault at = {.stream = 0};

@@ -1,11 +1,11 @@
 // A host of the fleet on NATS JetStream: it takes the pages of its rings, packs them, and publishes each until the bus
-// has acknowledged it. It has so many on the way at most: if the bus is slow or away, it takes no page meanwhile, and
-// the rings overwrite their oldest pages and count what is lost. README.md here tells how to compile it.
+// has acknowledged it. It has `--window` on the way at most: if the bus is slow or away, it takes no page meanwhile,
+// and the rings overwrite their oldest pages and count what is lost. README.md here says how to compile it.
 //
 //     publisher [--servers nats://HOST:PORT,..] [--copies N] [--host N] [--incarnation N] [--cpus N] [--pages N]
 //         [--size BYTES] [--rate EVENTS_A_SECOND] [--seconds N] [--window N] [--patience SECONDS] [--ledger FILE]
 //
-// After so many seconds, or SIGTERM, it sends what is left and the mark of each CPU's end. The status is 3 if the bus
+// After `--seconds`, or SIGTERM, it sends what is left and the mark of each CPU's end. The status is 3 if the bus
 // didn't acknowledge all of it in `--patience` seconds.
 #include "host.h"
 #include "nats_bus.h"

@@ -1,5 +1,5 @@
 // Checks of the library for C: which misuse is refused; what a peek gives; a signal's handler that calls one end of a
-// ring amid calls on the other end; and a writer's thread, a reader's thread, and a handler that writes between the
+// ring within calls on the other end; and a writer's thread, a reader's thread, and a handler that writes between the
 // writer's calls, in the middle of them, and nested in records. The reader looks at each page's numbers and at each
 // payload. The pages that are taken are added to a collector, which has to miss what the reader missed, and to list the
 // others by moments that don't fall and numbers that rise. Prints the same whatever the schedule, and ends with 0 if
@@ -37,8 +37,8 @@ static int32_t write_filled(size_t len)
     return tracering_write(&writer, ++moment, payload, len);
 }
 
-// The handler writes one record, or two of which the second is nested, and leaves no frame behind. Amid a call of the
-// writer on its handle it is refused.
+// The handler writes one record, or two of which the second is nested, and leaves no frame on the stack. Within a call
+// of the writer on its handle it is refused.
 static int32_t write_nested(size_t len)
 {
     uint8_t payload[LONGEST];
@@ -198,7 +198,7 @@ static void *read_pages(void *given)
             return NULL;
         if (code != TRACERING_DONE) {
             seen->faults += code != TRACERING_EMPTY && code != TRACERING_MOVING;
-            // Wishes amid the writer's calls, which close the page that is written sooner.
+            // Wishes within the writer's calls, which close the page that is written sooner.
             seen->faults += tracering_wish(&seen->reader) != TRACERING_DONE;
             sched_yield();
         }
@@ -210,8 +210,8 @@ static void *read_pages(void *given)
 static struct seen own;
 static _Atomic uint64_t amid_writes, amid_takes, peeks;
 
-// Takes all pages that are closed, and then peeks: what is peeked comes right after what was taken. Amid a call of the
-// writer the peek is refused.
+// Takes all pages that are closed, and then peeks: what is peeked comes right after what was taken. Within a call of
+// the writer the peek is refused.
 static void on_alarm_take(int signal)
 {
     (void)signal;
@@ -259,7 +259,7 @@ static int alarms(void (*handler)(int))
     return sigaction(SIGALRM, &action, NULL) || setitimer(ITIMER_REAL, handler ? &soon : &never, NULL);
 }
 
-// How many records of handlers the writer's handle says that it refused amid its calls.
+// How many records of handlers the writer's handle says that it refused within its calls.
 static uint64_t refused_amid(void)
 {
     struct tracering_refused counts;
@@ -314,7 +314,7 @@ static bool has_only_zeros(const void *handle, size_t len)
     return true;
 }
 
-// Amid a call on their handle all calls are refused, and two handles are marked together or not at all.
+// Within a call on their handle all calls are refused, and two handles are marked together or not at all.
 static int amid(void)
 {
     struct tracering_writer busy = {.in_call = 1}, w = {0};
@@ -338,7 +338,7 @@ static int amid(void)
     bad += tracering_settle(&w, &busy_reader, byte, sizeof byte, &taken) != TRACERING_BUSY || w.in_call;
     bad += tracering_writer_free(&busy, NULL) != TRACERING_BUSY;
     bad += tracering_reader_free(&busy_reader) != TRACERING_BUSY;
-    // Of the calls on a writer only write and begin are counted, and the counts are there amid a call.
+    // Of the calls on a writer only write and begin are counted, and the counts are there within a call.
     bad += !is_counted(&busy, (struct tracering_refused){.busy = 2}) || !is_counted(&w, (struct tracering_refused){0});
     return bad + (!busy.in_call || !busy_reader.in_call);
 }
@@ -507,7 +507,7 @@ static int refusals(void)
     return bad;
 }
 
-// Whether a page that is peeked is the one of this fill, with so many records from this number on, each of which has
+// Whether a page that is peeked is the one of this fill, with `count` records from number `first` on, each of which has
 // its own number as its moment and its first byte.
 static bool is_peeked(struct tracering_writer *w, uint64_t fill, uint64_t first, uint64_t count)
 {
@@ -605,7 +605,7 @@ static int closed(void)
     return bad + (tracering_writer_free(&w, NULL) != TRACERING_DONE || tracering_reader_free(&r) != TRACERING_DONE);
 }
 
-// Eleven records, of which eight fill a page; so many frames, each with a record on a page of its own; and one record
+// Eleven records, of which eight fill a page; `frames` frames, each with a record on a page of its own; and one record
 // more, if there may be a frame for it. Then the writer is freed, and the reader takes the pages that are closed.
 static int freed_above(int frames)
 {
@@ -667,8 +667,8 @@ static int freed(void)
     return bad + (!has_only_zeros(&w, sizeof w) || !has_only_zeros(&r, sizeof r));
 }
 
-// A parcel of CPU 3: so many records of 4 bytes from this number on, the first at moment 10 and each of the later ones
-// 10 after it, and so many missing before them.
+// A parcel of CPU 3: `count` records of 4 bytes from number `first` on, the first at moment 10 and each of the later
+// ones 10 after it, and `missed` missing before them.
 static size_t make_parcel(uint8_t *out, uint64_t first, uint64_t missed, uint64_t count, const char *payload)
 {
     uint64_t numbers[6] = {3, 0, first, missed, 10, 8 * count | (missed ? 1ull << 31 : 0)};

@@ -1,4 +1,4 @@
-// How a fleet grows: `fleet_scale PARCELS STREAMS ORDER [forget]` adds so many parcels of so many streams, each
+// How a fleet grows: `fleet_scale PARCELS STREAMS ORDER [forget]` adds PARCELS parcels of STREAMS streams, each
 // stream's in their order (`rising`) or all shuffled (`shuffled`), and prints what that took, a number a line with its
 // name. With `forget` the bounds are raised to the watermarks meanwhile.
 //

@@ -567,8 +567,8 @@ static void idle_threads(void)
     free_dump(dump);
 }
 
-// ---- A thread whose stack is used up dumps on its alternate stack: on one of its own that is just large enough, or on
-// the one that it gets in place of one that is too small.
+// ---- A thread whose stack is used up dumps on its alternate stack: on one of its own that is barely large enough, or
+// on the one that it gets in place of one that is too small.
 
 // A stack for handlers, below which no byte can be reached.
 static void have_stack(size_t size)
@@ -793,7 +793,7 @@ static void crowded(void)
     free_dump(dump);
 }
 
-// ---- Handlers that record, amid events of the thread that they interrupt.
+// ---- Handlers that record, within events of the thread that they interrupt.
 
 static void on_timer(int signal)
 {
@@ -1163,7 +1163,7 @@ static void stop_in_rounds(uint64_t rounds)
     }
 }
 
-// Starts, and has a thread that is held where it hands back its slot.
+// Starts, and has a thread that is held where it gives its slot back.
 static void start_and_hold(void)
 {
     truth->ready = truth->other = 0;
@@ -1360,7 +1360,7 @@ static void chained(void)
     }
 }
 
-// ---- Dumps in handlers, some of which are amid an event.
+// ---- Dumps in handlers, some of which interrupt an event.
 
 static void on_timer_dump(int signal)
 {

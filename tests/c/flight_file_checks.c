@@ -175,7 +175,7 @@ static void stop_body(void)
     (void)raise(SIGKILL);
 }
 
-// A program that is begun anew keeps what it left.
+// A program that is begun again keeps what it left.
 static void begin_again(void)
 {
     struct stat found;
@@ -385,7 +385,7 @@ static pid_t child = -1;
 static rlim_t most_data = RLIM_INFINITY; // of the child
 static int wait_pipe[2];
 
-// Forks amid a TRACE, and both go on with that: the child when its parent has recorded all.
+// Forks within a TRACE, and both go on with that: the child when its parent has recorded all.
 static uint64_t fork_amid(void)
 {
     static uint64_t now;

@@ -1,5 +1,5 @@
 // Kills programs that record in a flight file, at random instants, and reads what is there: `flight_file_kills FOLDER
-// KILLS SEED [live]`. Their threads begin, record, name themselves anew and end; handlers of two signals interrupt
+// KILLS SEED [live]`. Their threads begin, record, change their names and end; handlers of two signals interrupt
 // these and each other; sites are first reached all the time. With `live` the file is read while the program runs.
 #define _GNU_SOURCE
 #include "flight_file_account.h"
@@ -64,7 +64,7 @@ static void on_signal(int signal)
     errno = before;
 }
 
-// No handler records amid a change of the name.
+// No handler records during a change of the name.
 static void take_name(struct person *person)
 {
     sigset_t all, former;

@@ -124,7 +124,7 @@ static void counted(void)
     IS(tracering_settle(&w, &r, out, sizeof out, &taken) == TRACERING_DONE && written(&w) == 0);
 }
 
-// Ends of two rings are told apart, also if one was made where the other was before.
+// Ends of two rings are distinguished, also if one was made where the other was before.
 static void strangers(void)
 {
     static struct tracering_writer w[2] = {TRACERING_WRITER_INIT, TRACERING_WRITER_INIT};

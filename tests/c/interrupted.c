@@ -112,7 +112,7 @@ static uint64_t count_of(const struct tracering_refused *counts, int32_t code)
     }
 }
 
-// A handler that writes is answered BUSY amid a call and else what the export answers, and so many are counted.
+// A handler that writes is answered BUSY within a call and else what the export answers, and that many are counted.
 static bool are_counted(int32_t code)
 {
     struct tracering_refused counts;

@@ -184,7 +184,7 @@ static inline bool has_records(const struct found *found, size_t pages, uint64_t
 }
 
 // What the collector lists: each record's bytes are those of its source and id, moments don't fall, and of each source
-// the ids rise by one from number to number; where numbers are left out, they rise.
+// the ids rise by one from number to number; if numbers are left out, they rise.
 static inline bool lists_records(struct tracering_collector *c, size_t size, uint64_t *records)
 {
     unsigned char bytes[LONGEST + 8], wanted[LONGEST + 8];

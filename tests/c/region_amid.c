@@ -16,7 +16,7 @@ static uint64_t load_amid(const uint64_t *at);
 
 enum { PAGES = 4, SIZE = 64, CPU = 7, FORMER = 1, LATER = 2, MOST_TAKEN = 64, MOST_BEFORE = 36 };
 
-// What is done amid a copy: another ring is made, so many pages are taken, so many records are written.
+// What is done during a copy: another ring is made, this many pages are taken, this many records are written.
 struct act {
     bool remakes;
     int takes, records;
@@ -128,7 +128,7 @@ static bool tells_losses(const struct found *found)
     return is_so;
 }
 
-// A copy of the former ring that wasn't refused, before which there were so many records, in fills up to the newest.
+// A copy of the former ring that wasn't refused, before which there were `rest` records, in fills up to the newest.
 static bool copy_holds(uint64_t rest, uint64_t newest)
 {
     struct tracering_collector c = TRACERING_COLLECTOR_INIT;
@@ -148,7 +148,7 @@ static bool copy_holds(uint64_t rest, uint64_t newest)
     return is_so;
 }
 
-// One copy, with the act before this load of it. `is_done` says whether there were so many.
+// One copy, with the act before this load of it. `is_done` says whether there were that many.
 static bool try_copy(const struct act *what, int before, uint64_t at, bool *is_done)
 {
     uint64_t begun, newest;

@@ -1,5 +1,5 @@
 // Checks of rings in regions: which misuse is refused, and that nothing is changed then; what a region says of its
-// ring; that each page lies in it and nothing of it is released twice; the memory that is mapped for regions; and
+// ring; that each page is in it and nothing of it is released twice; the memory that is mapped for regions; and
 // threads that make and free rings in regions of their own, beside others in malloc's memory.
 //
 //     region_checks FOLDER
@@ -163,7 +163,7 @@ static void misuse(void)
     CHECK(!memcmp(w, &no_ring.writer, sizeof *w) && !memcmp(r, &no_ring.reader, sizeof *r));
     CHECK(!memcmp(before, at, ring.len));
     CHECK(make(&ring) == TRACERING_DONE && make(&ring) == TRACERING_IN_USE);
-    // What lies behind the region is left alone, and no other ring fits into it.
+    // What is after the region is left alone, and no other ring fits into it.
     CHECK(at[ring.len] == 0x5a);
     struct ring other = no_ring;
     other.region = at + 64;
@@ -215,7 +215,7 @@ static void told(void)
     CHECK(said_by(&ring).has_ended && said_by(&ring).taken == 15);
     CHECK(!memcmp(&ring.writer, &no_ring.writer, sizeof ring.writer));
     CHECK(!memcmp(&ring.reader, &no_ring.reader, sizeof ring.reader));
-    // Another one there, whose writer is freed amid a record, and one that is freed after it.
+    // Another one there, whose writer is freed within a record, and one that is freed after it.
     CHECK(make(&ring) == TRACERING_DONE && !said_by(&ring).taken && !said_by(&ring).has_ended);
     CHECK(tracering_begin(&ring.writer, 1, 4) == TRACERING_DONE);
     CHECK(tracering_writer_free(&ring.writer, NULL) == TRACERING_DONE && !said_by(&ring).has_ended);
@@ -361,7 +361,7 @@ static void no_entry(void)
     CHECK(tracering_write(&ring.writer, 1, "abcd", 4) == TRACERING_DONE);
     CHECK(tracering_writer_free(&ring.writer, NULL) == TRACERING_DONE);
     CHECK(tracering_reader_free(&ring.reader) == TRACERING_DONE);
-    // (So many are used at once for the first time: no entry is free.)
+    // (This many are used at once for the first time: no entry is free.)
     for (size_t each = 0; each < OTHERS; each++)
         others[each] = new_ring();
     long at_first = blocks;

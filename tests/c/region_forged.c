@@ -1,7 +1,7 @@
 // Looks at random and mutated regions, as whoever recovers one does: region_forged REGIONS SEED
 //
-// Each begins as what a ring left, or as a region's header with nothing behind it; some of its words get random values,
-// its length may be cut, and it may lie at any byte. The calls that look at regions read nothing outside of it
+// Each begins as what a ring left, or as a region's header with nothing after it; some of its words get random values,
+// its length may be cut, and it may be at any byte. The calls that look at regions read nothing outside of it
 // (AddressSanitizer sees that), whatever it says, and a collector takes or refuses what they give. What they answer of
 // a slot is what its numbers say, and what a collector knows that was given this slot alone.
 #define _GNU_SOURCE

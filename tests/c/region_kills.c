@@ -6,7 +6,7 @@
 // Each writer is a process of its own, which writes whole records, records by their parts, and closes of pages. Two
 // levels of handlers, of a timer and of raise, interrupt it and write nested records; in some runs a thread of it takes
 // pages and wishes for more. All records that were complete, with nothing begun, have to be there unless they were
-// overwritten, which the fills of the pages tell; of what a kill interrupts at most that; none is torn, has another
+// overwritten, which the fills of the pages show; of what a kill interrupts at most that; none is torn, has another
 // number or is there twice; and the pages that were taken agree with what is left. With `live`, the parent copies the
 // region all the time until it kills, and each copy has to hold as much.
 #define _GNU_SOURCE
@@ -22,7 +22,7 @@
 
 enum { TAKEN = 3000, CPU = 7, MOST_SIZE = 1024, CLAIMS = 4096 };
 
-// What the writer tells its parent.
+// What the writer reports to its parent.
 struct told {
     uint64_t rest;   // all records below it were complete as nothing was begun
     uint64_t begun;  // no record has this number or one above
@@ -238,7 +238,7 @@ static void claim(uint64_t first, uint64_t end)
         claims[claim_count++ % CLAIMS] = (struct claim){first, end};
 }
 
-// What the pages of a region, and what it says was taken, tell of losses.
+// What the pages of a region, and what it says was taken, say of losses.
 static void note_claims(const struct found *found, uint64_t taken)
 {
     if (found->count)

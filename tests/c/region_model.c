@@ -1,6 +1,6 @@
-// A plain ring behind the exports of the library, for the tools that try regions: a slot's words are stored in the
-// order that docs/formats/pages.md, "Regions", states. It is linked in front of the library, whose collectors are used.
-// Compiled with PLANT_COMMIT_STAYS it leaves the commit of a page that it begins anew as it was, and with
+// A plain ring with the exports of the library, for the tools that try regions: a slot's words are stored in the
+// order that docs/formats/pages.md, "Regions", states. It is linked before the library, whose collectors are used.
+// Compiled with PLANT_COMMIT_STAYS it leaves the commit of a page that it begins again as it was, and with
 // PLANT_COMMIT_EARLY it commits a record before its bytes.
 //
 // A call holds the ring's lock, so handlers that interrupt it are refused by the handle's mark; `take` tries the lock.
@@ -314,7 +314,7 @@ size_t tracering_raw_depth(struct tracering_held *w)
     return depth;
 }
 
-// The parcel of a page, before whose first record so many are missing.
+// The parcel of a page, before whose first record `missed` are missing.
 static void give(const struct ring *ring, const struct page *page, uint8_t *out, struct tracering_taken *taken)
 {
     uint64_t missed = page->first - ring->expected, commit = page->len;

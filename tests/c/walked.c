@@ -1,4 +1,4 @@
-// Makes each call of the library once, so that a debugger can be asked amid each of its instructions who called it
+// Makes each call of the library once, so that a debugger can be asked at each of its instructions who called it
 // (walked.py).
 #include "tracering.h"
 

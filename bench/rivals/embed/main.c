@@ -1,6 +1,6 @@
 // Records of 8 to 112 bytes, for `bench/run embed`: by the library for C (`library`), in a region of its own in memory
 // (`region`) or in the file of that name (`file`), by a ring of the same protocol in plain C (`plain`), or only copied.
-// `main WAY PAGES SIZE ROUNDS RUNS` prints how many nanoseconds the fastest run of so many rounds took, how many records
+// `main WAY PAGES SIZE ROUNDS RUNS` prints how many nanoseconds the fastest run of ROUNDS rounds took, how many records
 // a reader then finds, and whether the region is in huge pages. The plain ring has its own number of pages and size.
 #include "ring.h"
 #include "tracering_region.h"

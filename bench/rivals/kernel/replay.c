@@ -4,12 +4,12 @@
  *
  *   replay pages < SCRIPT    writes each page that is taken, 4,096 bytes as `ring_buffer_read_page` hands it out
  *   replay records < SCRIPT  prints what `tracering replay --log` prints; moments, payloads and losses are those that
- *                            `ring_buffer_consume` tells
+ *                            `ring_buffer_consume` reports
  *
  * The script has one CPU, one collector and pages of 4,080 bytes. `b` and `w` set the clock and reserve at once, so `s`
- * has nothing to do; `t` reads a page that the writer has left; behind a `c` it may read the one that the writer is on;
- * each page that was taken is delivered once. The status is 2 if the kernel tells other losses than it counts, hands out
- * a record of an open frame, or refuses what only a full ring may, and 3 if one of its own checks warns.
+ * has nothing to do; `t` reads a page that the writer has left; after a `c` it may read the one that the writer is on;
+ * each page that was taken is delivered once. The status is 2 if the kernel reports other losses than it counts,
+ * returns a record of an open frame, or refuses what only a full ring may, and 3 if one of its own checks warns.
  */
 #include RING_SOURCE
 
@@ -120,7 +120,7 @@ static bool is_closed(void)
 	return unread() || rb_set_head_page(cpu) != cpu->commit_page;
 }
 
-/* hands out the page, and answers what it tells of losses */
+/* returns the page, and answers what it reports of losses */
 static u64 read_page(bool whole)
 {
 	u64 commit, size, told = 0;
@@ -138,7 +138,7 @@ static u64 read_page(bool whole)
 	return told;
 }
 
-/* reads the records of one page, and answers what is told of losses */
+/* reads the records of one page, and answers what is reported of losses */
 static u64 read_records(void)
 {
 	struct buffer_page *page = NULL;

@@ -1,5 +1,5 @@
 // Records of 8 to 112 bytes by LTTng-UST, for `bench/run embed`: `main ROUNDS RUNS` prints how many nanoseconds the
-// fastest run of so many rounds took. The session that records them is made by the benchmark.
+// fastest run of ROUNDS rounds took. The session that records them is made by the benchmark.
 #define LTTNG_UST_TRACEPOINT_CREATE_PROBES
 #define LTTNG_UST_TRACEPOINT_DEFINE
 #include "events.h"

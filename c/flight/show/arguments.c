@@ -77,7 +77,7 @@ void add_shortest(struct text *text, const struct argument *argument)
     char digits[64];
     double value = double_of(argument);
     bool is_short = argument->size == 4;
-    // So many digits survive the way to such a value and back; zeros at the end are no digits of the shortest.
+    // This many digits survive the way to such a value and back; zeros at the end are no digits of the shortest.
     int sure = is_short ? 6 : 15, most = is_short ? 9 : 17;
     for (int count = sure; count <= most; count++) {
         snprintf(digits, sizeof digits, "%.*e", count - 1, value);

@@ -19,7 +19,7 @@ struct arguments {
     size_t rest; // how many bytes of the payload are after them
 };
 
-// Reads the arguments of a site's record from its payload behind the site's id.
+// Reads the arguments of a site's record from its payload after the site's id.
 void read_arguments(struct arguments *arguments, const struct site *site, struct bytes payload);
 
 // The next argument, or null: there is none.

@@ -23,7 +23,7 @@ struct rest {
     const uint8_t *at, *end;
 };
 
-// A number as it is printed: sign and prefix stay in front of zeros that fill its field.
+// A number as it is printed: sign and prefix stay before zeros that fill its field.
 struct number {
     const char *sign, *prefix;
     struct text digits;
@@ -172,7 +172,7 @@ static void add_power_digits(struct text *text, uint64_t value, unsigned bits, c
         add_bytes(text, &digits[value >> ((k - 1) * bits) & ((1u << bits) - 1)], 1);
 }
 
-// Makes the digits of an integer with an exponent: those in front of its last zeros.
+// Makes the digits of an integer with an exponent: those before its last zeros.
 static void make_exponent(struct number *number, uint64_t size, char letter)
 {
     char digits[24];
@@ -221,7 +221,7 @@ static bool add_integer(struct text *text, const struct spec *spec, const struct
     return is_known;
 }
 
-// Adds a text's front of so many characters.
+// Adds this many characters of a text's front.
 static struct bytes front_of(struct bytes bytes, int precision)
 {
     size_t len = 0;
@@ -292,7 +292,7 @@ static void add_exponent(struct text *text, const char *printed, char letter)
     add_format(text, "%c%d", letter, atoi(exponent + 1));
 }
 
-// Adds the shortest digits without an exponent, and with this many behind the point at least.
+// Adds the shortest digits without an exponent, and with this many after the point at least.
 static void add_plain(struct text *text, const char *shortest, int least)
 {
     char digits[32];
@@ -301,7 +301,7 @@ static void add_plain(struct text *text, const char *shortest, int least)
         if (*at != '.')
             digits[count++] = *at;
     digits[count] = 0;
-    int whole = exponent + 1; // digits in front of the point
+    int whole = exponent + 1; // digits before the point
     if (whole <= 0)
         add_string(text, "0");
     add_bytes(text, digits, (size_t)(whole < 0 ? 0 : whole < count ? whole : count));
@@ -379,7 +379,7 @@ static bool add_formatted(struct text *text, const struct spec *spec, const stru
     }
 }
 
-// Adds what stands between two braces.
+// Adds what is between two braces.
 static void add_replacement(struct text *text, struct bytes body, struct arguments *arguments)
 {
     struct rest rest = {body.at, body.at + body.len};

@@ -130,7 +130,7 @@ static void add_type(struct text *text, uint8_t kind)
     }
 }
 
-// The class of a record's event: its site's place among the sites, and behind them that of an unknown site.
+// The class of a record's event: its site's place among the sites, and after them that of an unknown site.
 static uint32_t class_of(const struct dump *dump, const struct site *site)
 {
     return (uint32_t)(site ? (size_t)(site - dump->sites) : dump->site_count);

@@ -12,7 +12,7 @@ struct record {
     const struct lease *lease; // null: the dump doesn't say which thread wrote it
     const struct site *site;   // null: the dump doesn't have it
     uint32_t id;               // of its site
-    struct bytes payload;      // behind the id
+    struct bytes payload;      // after the id
 };
 
 // Numbers of a ring without a record.

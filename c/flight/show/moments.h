@@ -19,7 +19,7 @@ nanoseconds time_of(const struct process *process, uint64_t moment);
 // Adds the time of day, as in 13:45:07.123456789.
 void add_time_of_day(struct text *text, nanoseconds time);
 
-// Adds the date and the time, as in 2026-11-27T13:45:07.123456789Z, with these letters between and behind. False: the
+// Adds the date and the time, as in 2026-11-27T13:45:07.123456789Z, with these letters between and after. False: the
 // time is beyond the years 1970 to 9999, and nothing was added.
 bool add_date(struct text *text, nanoseconds time, const char *between, const char *behind);
 

@@ -11,7 +11,7 @@ struct text {
 
 _Noreturn void end_without_memory(void);
 
-// Memory for so many things of this size, all zeros.
+// Memory for this many things of this size, all zeros.
 void *allocate(size_t count, size_t size);
 
 void free_text(struct text *text);
