@@ -147,8 +147,8 @@ MayDo s closing_fills event = event ≡ closes
 MayDo s asking event = event ≡ acts wished
 MayDo s off event = ⊥
 
--- Or it makes none, and leads to the stage `next`. A search may go on, or be over if another frame began the fill; how
--- many steps it takes to its event isn't said. Who asks, and finds no wish, closes fills that were begun meanwhile,
+-- Or it makes none, and leads to the stage `next`. A search may go on, or be over at any step, as it is if another
+-- frame began the fill; how many steps it takes to its event isn't said. Who asks, and finds no wish, closes fills that were begun meanwhile,
 -- or is off.
 abbrev pub MayPass : Situation → (below : List LineFrame) → Option (List ℕ) → Stage → Stage → Type 0
 MayPass s below payload resting next = (next ≡ searching) × IsFillNeeded s × (HasNoFill s → ⊥)
