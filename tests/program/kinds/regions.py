@@ -1,5 +1,5 @@
 """Regions, which `recover` reads: one to three files, or standard input. Of regions that aren't forged the plain program
-has to tell each record that is there, and each loss, as the made rings know them.
+has to list each record that is there, and each loss, as the made rings know them.
 """
 
 from made.cases import Case, check
