@@ -6,11 +6,11 @@ ghost use Rattle.command_line.specs.Calls.{IsInRange};
 ghost use Rattle.trace_dat.specs.Contents.{format_seen};
 ghost use Rattle.host_commands.specs.Formats.{format_read};
 
+use crate::form::form_of;
 use crate::formats::{FormatText, formats_below};
 use crate::inputs::{Reader, Trial, name_of, open_output, trial_of};
 use crate::message::{FileMessage, Trouble};
 use capture::files::{FileFault, Input};
-use capture_text::Form;
 use collect_command::{Collected, Collecting, Ending, collect_to};
 use command_io::WRITE_FAILED;
 use command_line::{CollectCall, CpuFile};
@@ -86,7 +86,7 @@ fn collecting_of<'a>(asked: &CollectCall<'_>, formats: &'a [Format<'a>]) -> Coll
     ensures formats { result.formats.now ≡ formats.now }
 {
     Collecting {
-        form: if asked.json { Form::Json } else { Form::Text },
+        form: form_of(asked.json),
         page: asked.page,
         names: asked.names,
         formats,

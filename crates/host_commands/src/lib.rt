@@ -5,6 +5,7 @@
 mod choose;
 mod collect;
 mod feed;
+mod form;
 mod formats;
 mod inputs;
 mod kept;

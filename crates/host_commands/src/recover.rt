@@ -1,13 +1,13 @@
 //! The command `recover` over files of the host.
-ghost use Rattle.std.specs.Prelude.{◌≡◌, false, All, IfOk, if◌then◌else◌};
+ghost use Rattle.std.specs.Prelude.{◌≡◌, false, All, IfOk};
 ghost use Rattle.command_io.specs.Ends.{has_failed};
 
 use crate::choose::{KEEP_IS_READ, refuse};
+use crate::form::form_of;
 use crate::inputs::{Opened, Trial, open_input, open_output, trial_of};
 use crate::kept::is_kept_in;
 use crate::message::{FileMessage, Trouble};
 use crate::unkept::Unkept;
-use capture_text::Form;
 use collect_command::recovery::{Ending, Outcome, recover_to};
 use command_io::{END_FAILED, INPUT_TOO_LONG, Std, WRITE_FAILED, print_memory_line};
 use command_line::RecoverCall;
@@ -33,13 +33,6 @@ fn open_regions<'a, 'b>(
         }
     }
     Ok(readers)
-}
-
-/// The form of the lines.
-fn form_of(asked: &RecoverCall<'_>) -> Form
-    ensures { result ≡ (if asked.now.json then Form.Json else Form.Text) }
-{
-    if asked.json { Form::Json } else { Form::Text }
 }
 
 /// Says on standard error that there is something with the input of this index.
@@ -77,7 +70,7 @@ fn list<'b>(
     requires { All (λ reader. has_failed reader ≡ false) readers.items }
 {
     let mut readers = readers;
-    let form = form_of(asked);
+    let form = form_of(asked.json);
     let mut output = open_output(rt, is_watched);
     let Some(path) = asked.keep else {
         let mut keep = Unkept;

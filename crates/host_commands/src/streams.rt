@@ -1,14 +1,14 @@
 //! The command `collect` over streams of parcels.
-ghost use Rattle.std.specs.Prelude.{◌≡◌, false, All, IfOk, if◌then◌else◌};
+ghost use Rattle.std.specs.Prelude.{◌≡◌, false, All, IfOk};
 ghost use Rattle.command_io.specs.Ends.{has_failed};
 ghost use Rattle.parcel_streams.specs.source.Readers.{peeked_reader, source_of};
 ghost use Rattle.collect_command.specs.streams.Reading.{IsFresh};
 
+use crate::form::form_of;
 use crate::inputs::{Reader, Trial, name_of, open_output, trial_of};
 use crate::message::{FileMessage, Trouble};
 use crate::unkept::Unkept;
 use capture::files::Input;
-use capture_text::Form;
 use collect_command::streams::{Collected, Ending, collect_streams, print_pieces};
 use command_io::{Std, WRITE_FAILED};
 use command_line::{CollectCall, CpuFile};
@@ -38,13 +38,6 @@ fn readers_of<'a>(
     Ok(readers)
 }
 
-/// The form of the lines.
-fn form_of(asked: &CollectCall<'_>) -> Form
-    ensures { result ≡ (if asked.now.json then Form.Json else Form.Text) }
-{
-    if asked.json { Form::Json } else { Form::Text }
-}
-
 /// Says on standard error what the ending leaves to be said there.
 fn tell_ending(rt: &HostRuntime, files: &[CpuFile<'_>], ending: Ending) {
     let (trouble, input) = match ending {
@@ -72,7 +65,7 @@ fn list<'b>(
     requires fresh { All (λ reader. IsFresh reader) readers.items }
 {
     let mut readers = readers;
-    let form = form_of(asked);
+    let form = form_of(asked.json);
     let mut output = open_output(rt, is_watched);
     let Some(path) = asked.keep else {
         let mut keep = Unkept;
@@ -112,7 +105,7 @@ fn print(
     let mut output = open_output(rt, is_watched);
     print_pieces(
         rt.alloc(),
-        form_of(asked),
+        form_of(asked.json),
         readers.as_mut_slice(),
         &mut output,
     )
