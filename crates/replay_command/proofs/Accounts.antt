@@ -14,12 +14,13 @@ use Rattle.trace_model.specs.Parcel.{Parcel}
 use Rattle.trace_model.specs.Collection.{Has, Misses}
 use Rattle.trace_model.proofs.collections.Elements.{some_is}
 use Rattle.ring_model.specs.RunsAsEvents.{fills_taken}
+use Rattle.text_model.proofs.ReadLimits.{script_in-within}
 use Rattle.text_model.specs.Text.{line_feed}
 use Rattle.text_model.specs.Log.{LogLine}
 use Rattle.text_model.specs.Printing.{printed_log_line}
 use Rattle.text_model.specs.Script.{deliver, Script}
 use Rattle.text_model.specs.ScriptLimits.{IsWithinLimits}
-use Rattle.replay_command.proofs.OneOutput.{script_in-within, cases_given}
+use Rattle.replay_command.proofs.OneOutput.{cases_given}
 use Rattle.command_io.specs.CommandRun.{SourceRun, SinkRun, WritesOutput, IsCommandRun}
 use Rattle.command_io.specs.declared.status.TheConstants.{DONE, REFUSED}
 use Rattle.collector.specs.Runs.{AreRuns}
