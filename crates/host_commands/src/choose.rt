@@ -4,7 +4,7 @@ ghost use Rattle.command_line.specs.Calls.{IsInRange};
 ghost use Rattle.parcel_streams.specs.source.Reading.{BeginsStream};
 ghost use Rattle.parcel_streams.specs.source.Readers.{peeked_unread};
 
-use crate::collect::collect_captures;
+use crate::captures::collect_captures;
 use crate::inputs::{Reader, Trial, open_inputs};
 use crate::kept::is_kept_in;
 use crate::streams::collect_pieces;

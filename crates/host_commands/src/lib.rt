@@ -2,8 +2,8 @@
 //! them, and what is said of a file that can't be read.
 #![tactic(auto)]
 
+mod captures;
 mod choose;
-mod collect;
 mod feed;
 mod form;
 mod formats;
@@ -11,10 +11,10 @@ mod inputs;
 mod kept;
 mod message;
 mod progress;
-mod recover;
+mod regions;
 mod same;
 mod streams;
 mod unkept;
 
 pub use choose::collect;
-pub use recover::recover;
+pub use regions::recover;

@@ -1,7 +1,7 @@
 use Rattle.std.proofs.Common.{◌<◌}
 use Rattle.trace_model.specs.declared.limits.TheConstants.{MAX_CPUS}
 use Rattle.host_commands.proofs.SameCpus.{All-same}
-use Rattle.host_commands.proofs.collect.list.Goals as goal
+use Rattle.host_commands.proofs.captures.list.Goals as goal
 
 pub collect_to-requires-clause-cpus : goal.collect_to-requires-clause-cpus
 collect_to-requires-clause-cpus c =
