@@ -11,6 +11,7 @@ use crate::formats::{FormatText, formats_below};
 use crate::inputs::{Reader, Trial, name_of, open_output, trial_of};
 use crate::message::{FileMessage, Trouble};
 use capture::files::{FileFault, Input};
+use capture_text::Form;
 use collect_command::{Collected, Collecting, Ending, collect_to};
 use command_io::WRITE_FAILED;
 use command_line::{CollectCall, CpuFile};
