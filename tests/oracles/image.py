@@ -1,4 +1,4 @@
-"""Page images: a plain reader of them, by docs/FORMATS.md."""
+"""Page images: a plain reader of them, by docs/formats/pages.md."""
 
 import struct
 
