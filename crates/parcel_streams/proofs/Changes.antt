@@ -10,7 +10,8 @@ use Rattle.std.proofs.lemmas.List.{take-append-drop, take-set, drop-set-lt, leng
 use Rattle.std.proofs.lemmas.List.{get_or-set_other}
 use Rattle.std.proofs.Math.Seq.{drop-cons}
 use Rattle.std.proofs.Math.Nat.{pow-le-pow_right}
-use Rattle.parcel_streams.specs.crc32c.Castagnoli.{polynomial, all_ones, next_bit, next_bits, next_byte, remainder_after, crc32c}
+use Rattle.parcel_streams.specs.crc32c.Castagnoli.{polynomial, all_ones, next_bit, next_bits, next_byte}
+use Rattle.parcel_streams.specs.crc32c.Castagnoli.{remainder_after, crc32c}
 use Rattle.parcel_streams.specs.crc32c.Changes.{AreBytes, DifferAt, DifferWithin, DifferInBits, number_of}
 use Rattle.parcel_streams.proofs.Bits.{xor_four, next_bit-sum, next_bits-xor, next_bits-add, next_bits-shifted}
 use Rattle.parcel_streams.proofs.Bytes.{AreBytes-tail, remainder_after-append, remainder_after-number}

@@ -3,7 +3,8 @@ use Rattle.std.proofs.Common.{◌≡◌, ℕ, zero, suc, ◌*◌, ◌/◌, ◌%�
 use Rattle.std.proofs.Common.{subst, arith}
 use Rattle.std.specs.Int.Bits.{bit_xor, xor_assoc, xor_self, xor_zero_r}
 use Rattle.std.proofs.lemmas.Nat.{xor_lt}
-use Rattle.parcel_streams.specs.crc32c.Castagnoli.{polynomial, all_ones, next_bit, next_bits, next_byte, remainder_after, crc32c}
+use Rattle.parcel_streams.specs.crc32c.Castagnoli.{polynomial, all_ones, next_bit, next_bits, next_byte}
+use Rattle.parcel_streams.specs.crc32c.Castagnoli.{remainder_after, crc32c}
 use Rattle.parcel_streams.specs.crc32c.Castagnoli.{crc32c_after}
 use Rattle.parcel_streams.specs.crc32c.Changes.{AreBytes}
 use Rattle.parcel_streams.proofs.Bits.{next_bit-sum}

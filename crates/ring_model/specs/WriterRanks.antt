@@ -2,7 +2,8 @@
 -- and below which fill all are passed. Each of its steps before it has reserved, or after it has left,
 -- lowers this number, whatever a reader does in between.
 -- docs/formats/ring.md, "Writer frames".
-use Rattle.std.specs.Prelude.{◌≡◌, ◌≢◌, ℕ, ⊤, ◌+◌, ◌-◌, ◌*◌, ◌<◌, ◌≤◌, nat_lt, if◌then◌else◌, List, [], ◌∷◌, length, None}
+use Rattle.std.specs.Prelude.{◌≡◌, ◌≢◌, ℕ, ⊤, ◌+◌, ◌-◌, ◌*◌, ◌<◌, ◌≤◌, nat_lt, if◌then◌else◌, List, [], ◌∷◌, length}
+use Rattle.std.specs.Prelude.{None}
 use Rattle.trace_model.specs.History.{HistoryEvent, Reservation}
 use Rattle.trace_model.specs.Packing.{tail_of}
 use Rattle.trace_model.specs.Links.{header_link}

@@ -32,7 +32,8 @@ use Rattle.ring_shared.proofs.CallsAppend.{calls_append}
 use Rattle.ring_shared.proofs.FewSteps.{frames_make_few_steps}
 use Rattle.ring_shared.proofs.Finishes.{IsStillReserving, reserving_first, reserving_on, reserving_stands}
 use Rattle.ring_shared.proofs.Finishes.{IsStillLeaving, leaving_first, leaving_going}
-use Rattle.ring_shared.proofs.WholeWrites.{finishes_top, finished_reserving, finished_leaving, leaves_below, HasBegun, has_begun}
+use Rattle.ring_shared.proofs.WholeWrites.{finishes_top, finished_reserving, finished_leaving, leaves_below, HasBegun}
+use Rattle.ring_shared.proofs.WholeWrites.{has_begun}
 use Rattle.ring_shared.proofs.WholeWrites.{HasReservedTop, alone_leaves, top_kind}
 
 -- ---- the frames after the last of some steps

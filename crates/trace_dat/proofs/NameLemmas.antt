@@ -6,7 +6,8 @@ use Rattle.std.specs.Prelude.{Result, Ok, Err, OnErr}
 use Rattle.trace_dat.specs.declared.contents.Format.{Format}
 use Rattle.trace_dat.specs.Contents.{EventFormat, format_seen}
 use Rattle.trace_dat.specs.declared.kernel_texts.names.EventNames.{EventNames}
-use Rattle.trace_dat.specs.kernel_texts.Names.{Event, described_in, event_under, first_of, event_of, events_of, HasEvents}
+use Rattle.trace_dat.specs.kernel_texts.Names.{Event, described_in, event_under, first_of, event_of, events_of}
+use Rattle.trace_dat.specs.kernel_texts.Names.{HasEvents}
 use Rattle.trace_dat.specs.kernel_texts.Names.{HasEventsOfSome}
 
 regroup : (a b c : Option Event) → first_of (first_of a b) c ≡ first_of a (first_of b c)

@@ -11,7 +11,8 @@ use Rattle.line_model.proofs.CallParts.{call_moves}
 use Rattle.ring_steps.specs.declared.rule.Shape.{Shape}
 use Rattle.ring_shared.specs.Value.{WriterValue, SameWriter}
 use Rattle.trace_run.specs.declared.writers.writer.LineWriter.{LineWriter}
-use Rattle.trace_run.specs.writers.LineWriters.{writer_in, made_in, payloads_of, IsLineWriter, HasMade, Pushes, CallsTop}
+use Rattle.trace_run.specs.writers.LineWriters.{writer_in, made_in, payloads_of, IsLineWriter, HasMade, Pushes}
+use Rattle.trace_run.specs.writers.LineWriters.{CallsTop}
 use Rattle.trace_run.specs.writers.LineWriters.{MakesCalls, MakesLine}
 use Rattle.trace_run.specs.writers.Runs.{HasMadeCalls}
 use Rattle.trace_run.proofs.TopCalls.{moved_few}

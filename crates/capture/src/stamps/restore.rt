@@ -3,7 +3,8 @@ ghost use Rattle.std.specs.Prelude.{◌≡◌, ◌+◌, ◌<◌, ◌++◌, lengt
 ghost use Rattle.trace_model.specs.Words.{bytes_of_word, time_stamp, word_time_limit};
 ghost use Rattle.trace_model.specs.Reading.{word_at_front};
 ghost use Rattle.record_words.specs.Next.{StandsAt};
-ghost use Rattle.capture.specs.stamps.Restored.{time_until, restored_word, restored_time, restored_data, restored_image};
+ghost use Rattle.capture.specs.stamps.Restored.{time_until, restored_word, restored_time, restored_data};
+ghost use Rattle.capture.specs.stamps.Restored.{restored_image};
 ghost use Rattle.capture.specs.stamps.Walk.{RestoresWord};
 
 use page_image::number_at;

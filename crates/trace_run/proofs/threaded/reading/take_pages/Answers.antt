@@ -1,7 +1,8 @@
 use Rattle.std.proofs.Common.{rules}
 use Rattle.trace_run.proofs.ReaderSteps.{takes_more}
 use Rattle.trace_run.proofs.threaded.reading.take_pages.Goals as goal
-use Rattle.trace_run.proofs.threaded.reading.take_pages.Goals.{in-None, in-Some+in_ok-next+else-eq+then-eq-2+then-was_over}
+use Rattle.trace_run.proofs.threaded.reading.take_pages.Goals.{in-None}
+use Rattle.trace_run.proofs.threaded.reading.take_pages.Goals.{in-Some+in_ok-next+else-eq+then-eq-2+then-was_over}
 
 pub loop-preserved-then-eq : goal.loop-preserved-then-eq
 loop-preserved-then-eq g c = record {
