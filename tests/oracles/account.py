@@ -163,23 +163,55 @@ def is_due(s, event):
 # ---- Accounts.antt: one CPU between two lines
 
 
+class Search(NamedTuple):
+    name: str
+    left: int = 0
+
+
+TO_LOOK, TO_LOSE = Search("to_look"), Search("to_lose")
+
+
+def to_begin(left):
+    return Search("to_begin", left)
+
+
+class Stage(NamedTuple):
+    name: str
+    fill: int = 0
+    search: Optional[Search] = None
+    left: int = 0
+
+
+RESTING, CLOSING_FILLS, ASKING, OFF = map(Stage, ("resting", "closing_fills", "asking", "off"))
+
+
+def searching(fill, search):
+    return Stage("searching", fill, search=search)
+
+
+def moving(fill, left):
+    return Stage("moving", fill, left=left)
+
+
 class LineFrame(NamedTuple):
     payload: Optional[bytes]
-    stage: str
-    losing: bool
+    stage: Stage
+
+
+TO_FIND, TO_SEE, TO_PREPARE, TO_TAKE = "to_find", "to_see", "to_prepare", "to_take"
 
 
 class CpuState(NamedTuple):
     events: Ring
     frames: tuple
+    take: str
+    hint: int
     seen: int
-    in_take: bool
-    made: Optional[int]
     wish: int
 
 
 def new_cpu(start):
-    return CpuState(events=new_ring(start), frames=(), seen=start, in_take=False, made=0, wish=0)
+    return CpuState(events=new_ring(start), frames=(), take=TO_FIND, hint=start, seen=start, wish=0)
 
 
 # ---- what a frame does
@@ -213,8 +245,7 @@ def is_own(below, frame, event):
 
 
 def frame_after(frame, event):
-    left = event.name == "leave"
-    return frame._replace(payload=None if left else frame.payload, losing=event == LOSES)
+    return frame._replace(payload=None) if event.name == "leave" else frame
 
 
 def events_for(frame):
@@ -243,14 +274,8 @@ def has_gone(s, below, frame):
 # ---- what a line adds: its own events, with the state after it
 
 
-def made_after(made, own):
-    return made if clause("made after: no fill is lost", LOSES not in own) else None
-
-
 def with_own(before, own, frames):
-    return before._replace(
-        events=before.events.then_all(own), frames=frames, made=made_after(before.made, own)
-    )
+    return before._replace(events=before.events.then_all(own), frames=frames)
 
 
 def is_idle(before):
@@ -258,7 +283,7 @@ def is_idle(before):
 
 
 def new_frame(payload):
-    return LineFrame(payload, stage="resting", losing=False)
+    return LineFrame(payload, RESTING)
 
 
 def is_refused(size, moment, length, frames):
@@ -281,45 +306,77 @@ def begins(refused, event, payload, before):
 
 def at_rest(w, below, payload):
     if payload is not None:
-        return "resting"
+        return RESTING
     if below:
-        return "off"
-    return "asking" if clause("at rest: none is left to close", w.done + 1 == w.opened) else "closing_fills"
+        return OFF
+    return ASKING if clause("at rest: none is left to close", w.done + 1 == w.opened) else CLOSING_FILLS
 
 
 def stage_after(w, below, payload, event):
-    searches = choice("stage after: loses", event == LOSES) or choice("stage after: wished", event == WISHED)
-    return "searching" if searches else at_rest(w, below, payload)
+    if choice("stage after: loses", event == LOSES):
+        return moving(w.opened, 2)
+    return searching(w.opened, TO_LOOK) if event == WISHED else at_rest(w, below, payload)
+
+
+def is_moved(fill, frames):
+    return any(frame.stage.name == "moving" and frame.stage.fill == fill for frame in frames)
+
+
+def finds(s, below, fill, search):
+    """What a search for the fill to begin may find in one step: the stages to which it leads."""
+    full = s.window.opened == s.window.head + s.pages
+    if search == TO_LOOK:
+        if clause("finds: to look, the ring is full", full):
+            yield searching(fill, TO_LOSE)
+        moved = is_moved(fill, below)
+        if clause("finds: to look, the ring isn't full", not full) and clause("finds: to look, none moves", not moved):
+            yield searching(fill, to_begin(0))
+        if clause("finds: to look, a frame below moves", moved):
+            yield searching(fill, to_begin(2))
+    elif search == TO_LOSE:
+        if clause("finds: to lose, the ring isn't full", not full):
+            yield searching(fill, TO_LOOK)
+    elif search.left:
+        yield searching(fill, to_begin(search.left - 1))
+        if choice("finds: to begin, a frame helped", True):
+            yield searching(fill, to_begin(0))
 
 
 def may_do(s, stage, event):
-    if stage == "resting":
+    if stage == RESTING:
         return clause("may do: resting, if it needs no fill or has none", not is_fill_needed(s) or has_no_fill(s))
-    if stage == "searching":
-        return choice("may do: searching, begins a fill", event == OPEN_FILL) or choice(
-            "may do: searching, loses a fill", event == LOSES
+    if stage.name == "searching":
+        return clause("may do: searching, for this fill", stage.fill == s.window.opened) and (
+            event == {TO_LOSE: LOSES, to_begin(0): OPEN_FILL}.get(stage.search)
         )
-    if stage == "closing_fills":
+    if stage == CLOSING_FILLS:
         return clause("may do: closing, closes", event == CLOSES)
-    return clause("may do: asking, finds the wish", event == WISHED)
+    return stage == ASKING and clause("may do: asking, finds the wish", event == WISHED)
 
 
 def may_pass(s, below, payload, stage):
     """The stages to which a step without an event may lead."""
-    if stage == "resting":
+    if stage == RESTING:
         needs = clause("may pass: resting, needs a fill", is_fill_needed(s))
         if needs and clause("may pass: resting, can have one", not has_no_fill(s)):
-            yield "searching"
-    elif stage == "searching":
-        if choice("may pass: searching, goes on", True):
-            yield "searching"
-        if choice("may pass: searching, rests", True):
+            yield searching(s.window.opened, TO_LOOK)
+    elif stage.name == "searching":
+        if clause("may pass: searching, another frame began the fill", stage.fill != s.window.opened):
             yield at_rest(s.window, below, payload)
-    elif stage == "asking" and clause("may pass: asking, finds no wish", not is_wish_to_find(s)):
+        if clause("may pass: searching, for this fill", stage.fill == s.window.opened):
+            yield from finds(s, below, stage.fill, stage.search)
+    elif stage.name == "moving":
+        if stage.left:
+            yield moving(stage.fill, stage.left - 1)
+            if choice("may pass: moving, a frame helped", True):
+                yield moving(stage.fill, 0)
+        else:
+            yield searching(stage.fill, to_begin(0))
+    elif stage == ASKING and clause("may pass: asking, finds no wish", not is_wish_to_find(s)):
         if clause("may pass: asking, more are to close", s.window.done + 1 < s.window.opened):
-            yield "closing_fills"
+            yield CLOSING_FILLS
         if clause("may pass: asking, none is to close", s.window.done + 1 == s.window.opened):
-            yield "off"
+            yield OFF
 
 
 def stepped(w, below, frame, event):
@@ -348,7 +405,7 @@ def steps_top(script, count, before):
         found = {}
         for own, ring, frame in on_stack:
             for event, after, moved in one_step(script, before.wish, below, ring, frame):
-                if moved.stage == "off":
+                if moved.stage == OFF:
                     yield (*own, *event), with_own(before, (*own, *event), below)
                 elif not is_enough(found):
                     found[(*own, *event), after, moved] = None
@@ -381,65 +438,83 @@ def writes_whole(script, refused, event, payload, before):
                 yield own, with_own(before, own, before.frames)
 
 
-def is_moving(frames):
-    return any(clause("is moving: loses", frame.losing) for frame in frames)
+# ---- the reader
 
 
-def takes_page(before):
-    window, moving = before.events.window, is_moving(before.frames)
-    why_none = choice("takes page: none in a move", moving) or choice(
-        "takes page: none if all are read", window.head == window.done
-    )
-    for own in ((TAKES,), ()):
-        own_is = choice("takes page: one", own == (TAKES,)) or (
-            own == () and clause("takes page: none for a reason", why_none)
+def at_hint(pages, w, hint):
+    """The fill that is at the position of the hint."""
+    return w.head + (hint - w.head) % pages
+
+
+def is_moved_to(pages, w, frames):
+    return is_moved(w.head + pages - 1, frames)
+
+
+def goes_on(pages, before):
+    """What may be after a step of a take that isn't its last."""
+    w = before.events.window
+    if before.take == TO_FIND:
+        fill = at_hint(pages, w, before.hint)
+        if clause("goes on: at the oldest fill", fill == w.head):
+            yield before._replace(take=TO_SEE, hint=w.head)
+        later = choice("goes on: at a later fill", w.head < fill) or choice(
+            "goes on: at a fill that is moved to", is_moved_to(pages, w, before.frames)
         )
-        in_move = clause("takes page: sees none if it takes none", own == ()) and clause(
-            "takes page: sees none if a frame moves", moving
-        )
-        why_unseen = choice("takes page: had looked", before.in_take) or choice(
-            "takes page: sees none in a move", in_move
-        )
-        for seen in (window.done, before.seen):
-            seen_is = choice("takes page: sees", seen == window.done) or (
-                seen == before.seen and clause("takes page: sees none for a reason", why_unseen)
-            )
-            if own_is and seen_is:
-                after = before._replace(events=before.events.then_all(own), seen=seen, in_take=False, made=0)
-                yield own, after
-                if choice("takes page: finds no head in a move", own == () and moving):
-                    yield own, after._replace(made=None)
+        unmoved = clause("goes on: no frame moves the head from here", not is_moved(fill, before.frames))
+        if clause("goes on: the hint is below", before.hint < fill) and later and unmoved:
+            yield before._replace(hint=fill + 1 - pages)
+    elif before.take == TO_SEE:
+        if clause("goes on: the oldest is closed", before.hint < w.done):
+            yield before._replace(take=TO_PREPARE, seen=w.done)
+    elif before.take == TO_PREPARE:
+        yield before._replace(take=TO_TAKE)
+    elif clause("goes on: the oldest was lost", before.hint != w.head):
+        yield before._replace(take=TO_FIND, hint=before.hint + 1)
 
 
-def seen_by(made, before):
-    return before.events.window.done if clause("seen by: the second step sees", made < 2) else before.seen
+def ends_take(pages, before):
+    """What the last step of a take may add, and what is after it."""
+    w = before.events.window
+    if before.take == TO_FIND:
+        fill = at_hint(pages, w, before.hint)
+        if clause("ends take: a frame moves the head from here", is_moved(fill, before.frames)):
+            yield (), before._replace(hint=fill + 1 - pages)
+        if clause("ends take: the hint is the oldest", before.hint == w.head) and clause(
+            "ends take: a frame moves the head to it", is_moved_to(pages, w, before.frames)
+        ):
+            yield (), before
+    elif before.take == TO_SEE:
+        if clause("ends take: the oldest isn't closed", w.done <= before.hint):
+            yield (), before._replace(take=TO_FIND, seen=w.done)
+    elif before.take == TO_TAKE and clause("ends take: the oldest wasn't lost", before.hint == w.head):
+        yield (TAKES,), before._replace(events=before.events.then(TAKES), take=TO_FIND, hint=before.hint + 1)
 
 
-def take_steps(made, total, before):
-    head, done, _ = before.events.window
-    seen = seen_by(made, before)
-    if clause("take steps: finds the head", total < 2):
-        yield (), before._replace(in_take=True, made=total)
-    if clause("take steps: finds none, in two", 2 <= total) and clause("take steps: finds none", head == done):
-        yield (), before._replace(seen=seen, in_take=False, made=0)
-    is_found = clause("take steps: finds one, in two", 2 <= total) and clause("take steps: finds one", head < done)
-    if is_found and clause("take steps: finds one, before four", total < 4):
-        yield (), before._replace(seen=seen, in_take=True, made=total)
-    if clause("take steps: takes one, in four", 4 <= total):
-        after = before.events.then(TAKES)
-        yield (TAKES,), before._replace(events=after, seen=seen, in_take=False, made=0)
+def reads_on(pages, before):
+    """All that may be after each number of steps of a take, none of them its last."""
+    found = [[before]]
+    for states in found:
+        yield states
+        after = list(dict.fromkeys(after for state in states for after in goes_on(pages, state)))
+        if after and not is_enough(found):
+            found.append(after)
 
 
-def reads_on(count, before):
-    done, moving, made = before.events.window.done, is_moving(before.frames), before.made
-    if made is not None and clause("reads on: no frame moves", not moving):
-        yield from take_steps(made, made + count, before)
-    if choice("reads on: isn't known", made is None) or choice("reads on: a frame moves", moving):
-        for seen in (done, before.seen):
-            if choice("reads on: sees", seen == done) or choice("reads on: sees none", seen == before.seen):
-                after = before._replace(events=before.events.then(TAKES), seen=seen, in_take=False, made=0)
-                yield (TAKES,), after
-                yield (), before._replace(seen=seen, in_take=True, made=None)
+def takes_page(pages, before):
+    for states in reads_on(pages, before):
+        for state in states:
+            yield from ends_take(pages, state)
+
+
+def steps_reader(pages, count, before):
+    for made, states in enumerate(reads_on(pages, before)):
+        for state in states:
+            if made == count:
+                yield (), state
+            else:
+                yield from ends_take(pages, state)
+        if made == count:
+            return
 
 
 def asks(before):
@@ -469,9 +544,9 @@ def part_of(script, command, before):
         too_deep = choice("close is refused: too deep", MAX_FRAMES <= len(before.frames))
         return writes_whole(script, too_deep, PUSH_CLOSE, b"", before)
     if name == "step_reader":
-        return reads_on(command.count, before)
+        return steps_reader(script.pages, command.count, before)
     if name == "take_page":
-        return takes_page(before)
+        return takes_page(script.pages, before)
     return asks(before)
 
 

@@ -15,8 +15,9 @@ use Rattle.text_model.specs.Script.{take_page, wish, deliver, Script}
 use Rattle.line_model.specs.Due.{window_at, situation_after, IsDue}
 use Rattle.line_model.specs.Accounts.{CpuState, IsIdle, Begins, refuses_frame, pushes_frame}
 use Rattle.line_model.specs.Accounts.{StepsTop, lacks_to_step, steps_on, FinishesTop, lacks_to_finish, finishes_it}
-use Rattle.line_model.specs.Accounts.{WritesWhole, refuses_whole, writes_it, TakesPage, TakeSteps, finds_head, finds_none}
-use Rattle.line_model.specs.Accounts.{finds_one, takes_one, ReadsOn, goes_on, may_take, may_wait, Asks, Adds, IsAccount}
+use Rattle.line_model.specs.Accounts.{WritesWhole, refuses_whole, writes_it, Take, to_find, to_see, to_prepare, to_take}
+use Rattle.line_model.specs.Accounts.{GoesOn, EndsTake, ReadsOn, TakesPage, StepsReader, reads_on, ends_before, Asks}
+use Rattle.line_model.specs.Accounts.{Adds, IsAccount}
 use Rattle.line_model.proofs.Standing.{AreDue}
 
 act_moves : (w : Window) (a : HistoryEvent) → window_after w (acts a) ≡ window_after w (acts a)
@@ -193,27 +194,49 @@ adds_one : (before after : CpuState) (own : List RingEvent)
     → IsBehind before own after
 adds_one before after own one same = same ∙ ap (λ (l : List RingEvent). before.events ++ l) (sym one)
 
-take_adds : (start made total : ℕ) (before after : CpuState) (own : List RingEvent)
-    → TakeSteps start made total before own after
+goes_adds : (pages : ℕ) (w : Window) (take : Take) (before after : CpuState)
+    → GoesOn pages w take before after
+    → after.events ≡ before.events
+goes_adds pages w to_find before after (inl (at, is)) = ap (λ (s : CpuState). s.events) is
+goes_adds pages w to_find before after (inr (fill, at, more, later, apart, is)) = ap (λ (s : CpuState). s.events) is
+goes_adds pages w to_see before after (closed, is) = ap (λ (s : CpuState). s.events) is
+goes_adds pages w to_prepare before after is = ap (λ (s : CpuState). s.events) is
+goes_adds pages w to_take before after (away, is) = ap (λ (s : CpuState). s.events) is
+
+reads_on_adds : (script : Script) (count : ℕ) (before after : CpuState)
+    → ReadsOn script count before after
+    → after.events ≡ before.events
+reads_on_adds script zero before after same = ap (λ (s : CpuState). s.events) (sym same)
+reads_on_adds script (suc count) before after (between, going, rest) =
+    reads_on_adds script count between after rest
+    ∙ goes_adds script.pages (window_at script.start before.events) before.take before between going
+
+ends_adds : (pages : ℕ) (w : Window) (take : Take) (before after : CpuState) (own : List RingEvent)
+    → EndsTake pages w take before own after
     → IsBehind before own after
-take_adds start made total before after own (finds_head few none is) =
+ends_adds pages w to_find before after own (none, inl (fill, at, moved, is)) =
     adds_none before after own none (ap (λ (s : CpuState). s.events) is)
-take_adds start made total before after own (finds_none two up none is) =
+ends_adds pages w to_find before after own (none, inr (here, moved, is)) =
     adds_none before after own none (ap (λ (s : CpuState). s.events) is)
-take_adds start made total before after own (finds_one two few low none is) =
+ends_adds pages w to_see before after own (up, none, is) =
     adds_none before after own none (ap (λ (s : CpuState). s.events) is)
-take_adds start made total before after own (takes_one four one is) =
+ends_adds pages w to_prepare before after own none = absurd none
+ends_adds pages w to_take before after own (here, one, is) =
     adds_one before after own one (ap (λ (s : CpuState). s.events) is)
 
-reads_add : (start count : ℕ) (before after : CpuState) (own : List RingEvent)
-    → ReadsOn start count before own after
+take_adds : (script : Script) (before after : CpuState) (own : List RingEvent)
+    → TakesPage script before own after
     → IsBehind before own after
-reads_add start count before after own (goes_on made is apart part) =
-    take_adds start made (made + count) before after own part
-reads_add start count before after own (may_take why seen seen_is one is) =
-    adds_one before after own one (ap (λ (s : CpuState). s.events) is)
-reads_add start count before after own (may_wait why seen seen_is none is) =
-    adds_none before after own none (ap (λ (s : CpuState). s.events) is)
+take_adds script before after own t =
+    ends_adds script.pages (window_at script.start t.between.events) t.between.take t.between after own t.ends
+    ∙ ap (λ (l : List RingEvent). l ++ own) (reads_on_adds script t.count before t.between t.reads)
+
+reads_add : (script : Script) (count : ℕ) (before after : CpuState) (own : List RingEvent)
+    → StepsReader script count before own after
+    → IsBehind before own after
+reads_add script count before after own (reads_on none on) =
+    adds_none before after own none (reads_on_adds script count before after on)
+reads_add script count before after own (ends_before take few) = take_adds script before after own take
 
 pub line_adds : (script : Script) (cpu : ℕ) (command : Command) (before after : CpuState) (own : List RingEvent)
     → Adds script cpu command before own after
@@ -229,10 +252,9 @@ line_adds script cpu (write at moment payload) before after own adds =
 line_adds script cpu (close at) before after own adds =
     at_adds before after own (writes_add script _ _ _ before after own) adds
 line_adds script cpu (step_reader at count) before after own adds =
-    at_adds before after own (reads_add script.start count before after own) adds
+    at_adds before after own (reads_add script count before after own) adds
 line_adds script cpu (take_page at) before after own adds =
-    at_adds before after own
-    (λ (t : TakesPage script.start before own after). ap (λ (s : CpuState). s.events) t.after_is) adds
+    at_adds before after own (take_adds script before after own) adds
 line_adds script cpu (wish at) before after own adds =
     at_adds before after own (asks_adds before after own) adds
 line_adds script cpu (deliver collector at fill) before after own adds = idle_adds before after own adds

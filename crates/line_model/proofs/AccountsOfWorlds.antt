@@ -25,7 +25,7 @@ use Rattle.world_model.proofs.WorldsKept.{IsWorldKept, new_kept}
 use Rattle.world_model.proofs.WorldsAt.{other_lines, second_world, others_obeyed, world_at, kept_at, world_last}
 use Rattle.line_model.specs.LineParts.{AreForRecords}
 use Rattle.line_model.specs.Accounts.{CpuState, new_cpu, IsLine, IsAccount}
-use Rattle.line_model.proofs.Standing.{FramesStand, steps_of, Stands}
+use Rattle.line_model.proofs.Standing.{FramesStand, take_of, Stands}
 use Rattle.line_model.proofs.RecordsStand.{HasRecords, line_records}
 use Rattle.line_model.proofs.LinesStand.{IsOn, NotOn, no_line, line_stands}
 
@@ -198,11 +198,8 @@ new_stands script lane reached new =
           subst (λ (frames : List Frame). FramesStand frames lane.payloads []) (sym new.0.frames)
           (subst (λ (l : List (List ℕ)). FramesStand [] l []) (sym new.1) tt);
       seen = sym (ap (λ (r : Reader). r.seen) new.0.reader);
-      at_rest = λ e. ap (λ (r : Reader). r.phase) new.0.reader;
-      counted = λ made is. record {
-        steps = ap (λ (r : Reader). steps_of r.phase) new.0.reader ∙ some_is 0 made is;
-        hint = ap (λ (r : Reader). r.hint) new.0.reader ∙ sym new.0.head;
-      };
+      hint = sym (ap (λ (r : Reader). r.hint) new.0.reader);
+      take = sym (ap (λ (r : Reader). take_of r.phase) new.0.reader);
       wish = sym new.0.wish;
     }
 

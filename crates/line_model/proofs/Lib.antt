@@ -26,7 +26,6 @@ pub mod RunCalls
 pub mod ReplayedLines
 -- a ring beside an account
 pub mod Standing
-pub mod TakesCounted
 -- what the frame on top does
 pub mod WishesKept
 pub mod DueRuns
@@ -37,6 +36,7 @@ pub mod TopBegins
 pub mod TopSteps
 pub mod TopsDo
 -- whole scripts have one account
+pub mod OneDue
 pub mod OneAccount
 pub mod OneText
 -- what is printed of the log
@@ -47,7 +47,7 @@ pub mod NestedFrames
 -- worlds have accounts
 pub mod StandingKept
 pub mod ReaderLines
-pub mod CountedTakes
+pub mod ReaderGoes
 pub mod ReaderStands
 pub mod PushCases
 pub mod RecordsStand

@@ -1,368 +1,224 @@
--- A script whose lines ask for no single steps has one account of each CPU: of what a frame may do, at most one event
--- is due at a time.
-use Rattle.std.proofs.Common.{◌≡◌, ◌≢◌, ℕ, zero, suc, ◌+◌, ◌<◌, ◌≤◌, ◌⊎◌, IsTrue, Bool, true, false, List, [], ◌∷◌}
-use Rattle.std.proofs.Common.{◌++◌, length, Option, Some, None, get_or, refl, sym, ap, ◌∙◌, subst, inl, inr, append_assoc}
-use Rattle.std.proofs.Common.{append-nil, arith}
+-- A script whose lines ask for no single steps has one account of each CPU.
+use Rattle.std.proofs.Common.{◌≡◌, ◌≢◌, ℕ, zero, suc, ◌+◌, ◌-◌, ◌<◌, ◌≤◌, ◌⊎◌, true, false, List, [], ◌∷◌, ◌++◌, length}
+use Rattle.std.proofs.Common.{get_or, refl, sym, ap, ◌∙◌, subst, inl, inr, append_assoc, arith}
 use Rattle.std.specs.Prelude.{⊤}
-use Rattle.std.proofs.lemmas.List.Sums.{fold-append}
 use Rattle.std.proofs.lemmas.Option.{slice_get-get_or}
-use Rattle.trace_model.specs.Words.{padded}
-use Rattle.trace_model.specs.History.{HistoryEvent, push, push_close, open_fill, reserve, leave, wished, PushedFrame}
-use Rattle.trace_model.specs.History.{record_frame, close_frame}
-use Rattle.trace_model.specs.Packing.{is_wished}
-use Rattle.trace_model.specs.Window.{Window, first_window, RingEvent, acts, closes, takes, loses, history_events_of}
-use Rattle.trace_model.specs.Window.{window_after}
-use Rattle.trace_model.proofs.packing.PackedHistories.{is_wished-push, is_wished-push_close, is_wished-open_fill}
-use Rattle.trace_model.proofs.packing.PackedHistories.{is_wished-reserve, is_wished-leave, is_wished-wished}
-use Rattle.ring_model.proofs.histories.WindowRuns.{history_events-append}
+use Rattle.trace_model.specs.History.{HistoryEvent}
+use Rattle.trace_model.specs.Window.{Window, RingEvent, acts, takes}
+use Rattle.trace_model.proofs.Positions.{one_position}
 use Rattle.text_model.specs.Script.{Command, begin_frame, step_frame, finish_frame, write, close, step_reader}
 use Rattle.text_model.specs.Script.{take_page, wish, deliver, Script}
-use Rattle.line_model.specs.Due.{window_at, Situation, situation_after, pushed_in, IsFillNeededFor, IsFillNeeded}
-use Rattle.line_model.specs.Due.{HasNoFill, HasNoRecord, Leaves, IsDue}
-use Rattle.line_model.specs.Accounts.{LineFrame, CpuState, new_cpu, IsOwn, frame_after, Does, HasGone, with_own, IsIdle}
+use Rattle.line_model.specs.Due.{window_at, situation_after}
+use Rattle.line_model.specs.Accounts.{resting, moving, LineFrame, CpuState, new_cpu, Does, HasGone, with_own, IsIdle}
 use Rattle.line_model.specs.Accounts.{new_frame, Begins, refuses_frame, pushes_frame, FinishesTop, lacks_to_finish}
-use Rattle.line_model.specs.Accounts.{finishes_it, WritesWhole, refuses_whole, writes_it, IsMoving, TakesPage, Asks}
-use Rattle.line_model.specs.Accounts.{Adds, IsLine, IsAccount}
+use Rattle.line_model.specs.Accounts.{finishes_it, WritesWhole, refuses_whole, writes_it, Take, to_find, to_see}
+use Rattle.line_model.specs.Accounts.{to_prepare, to_take, IsMovedFor, IsAtHint, IsMovedTo, GoesOn, EndsTake, ReadsOn}
+use Rattle.line_model.specs.Accounts.{TakesPage, Asks, Adds, IsLine, IsAccount}
 use Rattle.line_model.specs.WholeScripts.{IsWholeLine, HasWholeLines, OneAccount}
-use Rattle.line_model.proofs.Standing.{AreDue}
-
--- ---- events that are due, one after the other
-
--- the first one is due, and each other one after those before it
-abbrev AllDue : Script → (asked : ℕ) → (before own : List RingEvent) → Type 0
-AllDue script asked before [] = ⊤
-AllDue script asked before (event ∷ own) =
-    IsDue (situation_after script asked before) event × AllDue script asked (before ++ event ∷ []) own
-
--- events that are due are so one after the other
-all_due : (script : Script) (asked : ℕ) (before own : List RingEvent)
-    → AreDue script asked before own
-    → AllDue script asked before own
-all_due script asked before [] due = tt
-all_due script asked before (event ∷ own) due = (
-  subst (λ (l : List RingEvent). IsDue (situation_after script asked l) event) (append-nil before)
-      (due [] own event refl),
-  all_due script asked (before ++ event ∷ []) own (λ front rest later is.
-      subst (λ (l : List RingEvent). IsDue (situation_after script asked l) later)
-      (sym (append_assoc before (event ∷ []) front))
-      (due (event ∷ front) rest later (ap (λ (l : List RingEvent). event ∷ l) is))),
-)
-
--- ---- what is kept from event to event
-
--- The reader knows no fill to be closed that isn't, and wishes for the next one at most; and since its wish was found
--- no fill is left to be closed but the tail.
-record Holds (asked seen : ℕ) (w : Window) (found : Bool) : Type 0 where
-  seen_le : seen ≤ w.done
-  wish_le : asked ≤ w.done + 1
-  tail_only : IsTrue found → w.opened ≤ w.done + 1
-
--- this holds after these events
-abbrev IsKept : (start asked seen : ℕ) → List RingEvent → Type 0
-IsKept start asked seen events = Holds asked seen (window_at start events) (is_wished (history_events_of events))
-
--- the window after one event more
-window_snoc : (start : ℕ) (events : List RingEvent) (event : RingEvent)
-    → window_at start (events ++ event ∷ []) ≡ window_after (window_at start events) event
-window_snoc start events event = fold-append window_after (first_window start) events (event ∷ [])
-
--- it holds after one event more, if it does of that window, and of whether the wish was found then
-kept_by : (start asked seen : ℕ) (events : List RingEvent) (event : RingEvent) (found : Bool)
-    → is_wished (history_events_of (events ++ event ∷ [])) ≡ found
-    → Holds asked seen (window_after (window_at start events) event) found
-    → IsKept start asked seen (events ++ event ∷ [])
-kept_by start asked seen events event found e h =
-    subst (λ (w : Window). Holds asked seen w (is_wished (history_events_of (events ++ event ∷ []))))
-    (sym (window_snoc start events event))
-    (subst (λ (b : Bool). Holds asked seen (window_after (window_at start events) event) b) (sym e) h)
-
--- whether the wish is found after one event more of the history, and after one of the window alone
-found_acts : (events : List RingEvent) (a : HistoryEvent)
-    → is_wished (history_events_of (events ++ acts a ∷ [])) ≡ is_wished (history_events_of events ++ a ∷ [])
-found_acts events a = ap is_wished (history_events-append events (acts a ∷ []))
-
-found_quiet : (events : List RingEvent) (event : RingEvent)
-    → history_events_of (event ∷ []) ≡ []
-    → is_wished (history_events_of (events ++ event ∷ [])) ≡ is_wished (history_events_of events)
-found_quiet events event quiet =
-    ap is_wished (history_events-append events (event ∷ [])
-    ∙ ap (λ (l : List HistoryEvent). history_events_of events ++ l) quiet
-    ∙ append-nil (history_events_of events))
-
--- an event that is due keeps it
-kept_on : (script : Script) (asked seen : ℕ) (events : List RingEvent) (event : RingEvent)
-    → IsDue (situation_after script asked events) event
-    → IsKept script.start asked seen events
-    → IsKept script.start asked seen (events ++ event ∷ [])
-kept_on script asked seen events (acts (push moment len)) due k =
-    kept_by script.start asked seen events (acts (push moment len)) _
-    (found_acts events (push moment len) ∙ is_wished-push (history_events_of events) moment len) k
-kept_on script asked seen events (acts push_close) due k =
-    kept_by script.start asked seen events (acts push_close) _
-    (found_acts events push_close ∙ is_wished-push_close (history_events_of events)) k
-kept_on script asked seen events (acts open_fill) due k =
-    kept_by script.start asked seen events (acts open_fill) false
-    (found_acts events open_fill ∙ is_wished-open_fill (history_events_of events))
-    record { seen_le = k.seen_le; wish_le = k.wish_le; tail_only = λ none. absurd (let f : false ≡ true = none in cc) }
-kept_on script asked seen events (acts reserve) due k =
-    kept_by script.start asked seen events (acts reserve) _
-    (found_acts events reserve ∙ is_wished-reserve (history_events_of events)) k
-kept_on script asked seen events (acts (leave payload)) due k =
-    kept_by script.start asked seen events (acts (leave payload)) _
-    (found_acts events (leave payload) ∙ is_wished-leave (history_events_of events) payload) k
-kept_on script asked seen events (acts wished) due k =
-    kept_by script.start asked seen events (acts wished) true
-    (found_acts events wished ∙ is_wished-wished (history_events_of events))
-    record {
-      seen_le = k.seen_le;
-      wish_le = k.wish_le;
-      tail_only = λ some. let wished_for : asked ≡ (window_at script.start events).opened = due.1.0 in
-          let low = k.wish_le in omega arith;
-    }
-kept_on script asked seen events closes due k =
-    kept_by script.start asked seen events closes _ (found_quiet events closes refl)
-    record {
-      seen_le = let low = k.seen_le in omega arith;
-      wish_le = let low = k.wish_le in omega arith;
-      tail_only = λ some. let low = k.tail_only some in omega arith;
-    }
-kept_on script asked seen events takes due k =
-    kept_by script.start asked seen events takes _ (found_quiet events takes refl)
-    record { seen_le = k.seen_le; wish_le = k.wish_le; tail_only = k.tail_only }
-kept_on script asked seen events loses due k =
-    kept_by script.start asked seen events loses _ (found_quiet events loses refl)
-    record { seen_le = k.seen_le; wish_le = k.wish_le; tail_only = k.tail_only }
-
--- events that are due keep it
-kept_all : (script : Script) (asked seen : ℕ) (before own : List RingEvent)
-    → AllDue script asked before own
-    → IsKept script.start asked seen before
-    → IsKept script.start asked seen (before ++ own)
-kept_all script asked seen before [] due k =
-    subst (IsKept script.start asked seen) (sym (append-nil before)) k
-kept_all script asked seen before (event ∷ own) due k =
-    subst (IsKept script.start asked seen) (append_assoc before (event ∷ []) own)
-    (kept_all script asked seen (before ++ event ∷ []) own due.1
-    (kept_on script asked seen before event due.0 k))
-
--- ---- at most one event is due
-
--- a frame that leaves without a record though it needs a page can have none
-leaves_short : (s : Situation) (stack : List PushedFrame) → Leaves s stack None → IsFillNeeded s → HasNoFill s
-leaves_short s [] leaving needs = absurd leaving
-leaves_short s (record_frame moment len None ∷ below) leaving needs = leaving.1
-leaves_short s (record_frame moment len (Some number) ∷ below) leaving needs = absurd leaving
-leaves_short s (close_frame ∷ below) leaving needs = leaving needs
-
--- a frame that leaves with its record needs no page
-leaves_served : (s : Situation) (stack : List PushedFrame) (bytes : List ℕ)
-    → Leaves s stack (Some bytes)
-    → IsFillNeededFor s stack
-    → ⊥
-leaves_served s [] bytes leaving needs = leaving
-leaves_served s (record_frame moment len None ∷ below) bytes leaving needs = leaving
-leaves_served s (record_frame moment len (Some number) ∷ below) bytes leaving needs = needs
-leaves_served s (close_frame ∷ below) bytes leaving needs = leaving
-
--- a record frame without a record leaves without one only if it needs a page
-waits_short : (s : Situation) (stack : List PushedFrame) → HasNoRecord stack → Leaves s stack None → IsFillNeeded s
-waits_short s [] waits leaving = absurd waits
-waits_short s (record_frame moment len None ∷ below) waits leaving = leaving.0
-waits_short s (record_frame moment len (Some number) ∷ below) waits leaving = absurd waits
-waits_short s (close_frame ∷ below) waits leaving = absurd waits
-
--- and doesn't leave with one
-waits_unserved : (s : Situation) (stack : List PushedFrame) (bytes : List ℕ)
-    → HasNoRecord stack
-    → Leaves s stack (Some bytes)
-    → ⊥
-waits_unserved s [] bytes waits leaving = waits
-waits_unserved s (record_frame moment len None ∷ below) bytes waits leaving = leaving
-waits_unserved s (record_frame moment len (Some number) ∷ below) bytes waits leaving = waits
-waits_unserved s (close_frame ∷ below) bytes waits leaving = waits
-
--- a frame leaves either with its record or without one
-leaves_once : (s : Situation) (stack : List PushedFrame) (bytes : List ℕ)
-    → Leaves s stack None
-    → Leaves s stack (Some bytes)
-    → ⊥
-leaves_once s [] bytes short served = short
-leaves_once s (record_frame moment len None ∷ below) bytes short served = served
-leaves_once s (record_frame moment len (Some number) ∷ below) bytes short served = short
-leaves_once s (close_frame ∷ below) bytes short served = served
-
--- Two different events of one frame are never due at a time. A fill is one that is begun or lost.
-module _ (s : Situation) (seen : ℕ) (holds : Holds s.wish seen s.window (is_wished s.history)) (below : List LineFrame)
-    (frame : LineFrame) where
-  written : (own : List ℕ) → frame.payload ≡ Some own → frame.payload ≡ None → ⊥
-  written own some none = let both : None ≡ Some own = sym none ∙ some in cc
-
-  fill-reserve : IsFillNeeded s → IsDue s (acts reserve) → ⊥
-  fill-reserve needs due = due.1 needs
-
-  fill-short : IsFillNeeded s → (HasNoFill s → ⊥) → IsDue s (acts (leave None)) → ⊥
-  fill-short needs can due = can (leaves_short s (pushed_in s) due needs)
-
-  fill-served : (bytes : List ℕ) → IsFillNeeded s → IsDue s (acts (leave (Some bytes))) → ⊥
-  fill-served bytes needs due = leaves_served s (pushed_in s) bytes due needs
-
-  fill-wished : IsFillNeeded s → IsDue s (acts wished) → ⊥
-  fill-wished needs due = due.1.3 needs
-
-  fill-closes : IsFillNeeded s → IsDue s closes → ⊥
-  fill-closes needs due =
-      let asked : IsFillNeededFor s [] = subst (IsFillNeededFor s) due.0 needs in
-      let low = holds.tail_only asked.0 in
-      let high = due.1 in omega arith
-
-  open-loses : IsDue s (acts open_fill) → IsDue s loses → ⊥
-  open-loses opening losing = let low = opening.2 in let full = losing.3 in omega arith
-
-  reserve-short : IsDue s (acts reserve) → IsDue s (acts (leave None)) → ⊥
-  reserve-short reserving leaving = reserving.1 (waits_short s (pushed_in s) reserving.0 leaving)
-
-  reserve-served : (bytes : List ℕ) → IsDue s (acts reserve) → IsDue s (acts (leave (Some bytes))) → ⊥
-  reserve-served bytes reserving leaving = waits_unserved s (pushed_in s) bytes reserving.0 leaving
-
-  short-served : (bytes : List ℕ) → IsDue s (acts (leave None)) → IsDue s (acts (leave (Some bytes))) → ⊥
-  short-served bytes short served = leaves_once s (pushed_in s) bytes short served
-
-  wished-closes : IsDue s (acts wished) → IsDue s closes → ⊥
-  wished-closes wishing closing =
-      let asked : s.wish ≡ s.window.opened = wishing.1.0 in
-      let low = holds.wish_le in
-      let high = closing.1 in omega arith
-
-  -- of what the frame may do, at most one event is due
-  one_event : (x y : RingEvent)
-      → IsOwn below frame x
-      → IsDue s x
-      → IsOwn below frame y
-      → IsDue s y
-      → x ≡ y
-  one_event (acts (push moment len)) y xo xd yo yd = absurd xo
-  one_event (acts push_close) y xo xd yo yd = absurd xo
-  one_event takes y xo xd yo yd = absurd xo
-  one_event x (acts (push moment len)) xo xd yo yd = absurd yo
-  one_event x (acts push_close) xo xd yo yd = absurd yo
-  one_event x takes xo xd yo yd = absurd yo
-  one_event (acts open_fill) (acts open_fill) xo xd yo yd = refl
-  one_event (acts open_fill) (acts reserve) xo xd yo yd = absurd (fill-reserve xd.0 yd)
-  one_event (acts open_fill) (acts (leave None)) xo xd yo yd = absurd (fill-short xd.0 xd.1 yd)
-  one_event (acts open_fill) (acts (leave (Some bytes))) xo xd yo yd = absurd (fill-served bytes xd.0 yd)
-  one_event (acts open_fill) (acts wished) xo xd yo yd = absurd (fill-wished xd.0 yd)
-  one_event (acts open_fill) closes xo xd yo yd = absurd (fill-closes xd.0 yd)
-  one_event (acts open_fill) loses xo xd yo yd = absurd (open-loses xd yd)
-  one_event loses (acts open_fill) xo xd yo yd = absurd (open-loses yd xd)
-  one_event loses (acts reserve) xo xd yo yd = absurd (fill-reserve xd.0 yd)
-  one_event loses (acts (leave None)) xo xd yo yd = absurd (fill-short xd.0 xd.1 yd)
-  one_event loses (acts (leave (Some bytes))) xo xd yo yd = absurd (fill-served bytes xd.0 yd)
-  one_event loses (acts wished) xo xd yo yd = absurd (fill-wished xd.0 yd)
-  one_event loses closes xo xd yo yd = absurd (fill-closes xd.0 yd)
-  one_event loses loses xo xd yo yd = refl
-  one_event (acts reserve) (acts open_fill) xo xd yo yd = absurd (fill-reserve yd.0 xd)
-  one_event (acts reserve) (acts reserve) xo xd yo yd = refl
-  one_event (acts reserve) (acts (leave None)) xo xd yo yd = absurd (reserve-short xd yd)
-  one_event (acts reserve) (acts (leave (Some bytes))) xo xd yo yd = absurd (reserve-served bytes xd yd)
-  one_event (acts reserve) (acts wished) xo xd yo yd = absurd (xo yo.0)
-  one_event (acts reserve) closes xo xd yo yd = absurd (xo yo.0)
-  one_event (acts reserve) loses xo xd yo yd = absurd (fill-reserve yd.0 xd)
-  one_event (acts (leave None)) (acts open_fill) xo xd yo yd = absurd (fill-short yd.0 yd.1 xd)
-  one_event (acts (leave None)) (acts reserve) xo xd yo yd = absurd (reserve-short yd xd)
-  one_event (acts (leave None)) (acts (leave None)) xo xd yo yd = refl
-  one_event (acts (leave None)) (acts (leave (Some bytes))) xo xd yo yd = absurd (short-served bytes xd yd)
-  one_event (acts (leave None)) (acts wished) xo xd yo yd = absurd (xo yo.0)
-  one_event (acts (leave None)) closes xo xd yo yd = absurd (xo yo.0)
-  one_event (acts (leave None)) loses xo xd yo yd = absurd (fill-short yd.0 yd.1 xd)
-  one_event (acts (leave (Some bytes))) (acts open_fill) xo xd yo yd = absurd (fill-served bytes yd.0 xd)
-  one_event (acts (leave (Some bytes))) (acts reserve) xo xd yo yd = absurd (reserve-served bytes yd xd)
-  one_event (acts (leave (Some bytes))) (acts (leave None)) xo xd yo yd = absurd (short-served bytes yd xd)
-  one_event (acts (leave (Some bytes))) (acts (leave (Some others))) (own, is, filled) xd (same, be, fill) yd =
-      let both : Some own ≡ Some same = sym is ∙ be in
-      let one : own ≡ same = cc in
-      ap (λ (l : List ℕ). acts (leave (Some l))) (filled ∙ ap padded one ∙ sym fill)
-  one_event (acts (leave (Some bytes))) (acts wished) xo xd yo yd = absurd (written xo.0 xo.1 yo.0)
-  one_event (acts (leave (Some bytes))) closes xo xd yo yd = absurd (written xo.0 xo.1 yo.0)
-  one_event (acts (leave (Some bytes))) loses xo xd yo yd = absurd (fill-served bytes yd.0 xd)
-  one_event (acts wished) (acts open_fill) xo xd yo yd = absurd (fill-wished yd.0 xd)
-  one_event (acts wished) (acts reserve) xo xd yo yd = absurd (yo xo.0)
-  one_event (acts wished) (acts (leave None)) xo xd yo yd = absurd (yo xo.0)
-  one_event (acts wished) (acts (leave (Some bytes))) xo xd yo yd = absurd (written yo.0 yo.1 xo.0)
-  one_event (acts wished) (acts wished) xo xd yo yd = refl
-  one_event (acts wished) closes xo xd yo yd = absurd (wished-closes xd yd)
-  one_event (acts wished) loses xo xd yo yd = absurd (fill-wished yd.0 xd)
-  one_event closes (acts open_fill) xo xd yo yd = absurd (fill-closes yd.0 xd)
-  one_event closes (acts reserve) xo xd yo yd = absurd (yo xo.0)
-  one_event closes (acts (leave None)) xo xd yo yd = absurd (yo xo.0)
-  one_event closes (acts (leave (Some bytes))) xo xd yo yd = absurd (written yo.0 yo.1 xo.0)
-  one_event closes (acts wished) xo xd yo yd = absurd (wished-closes yd xd)
-  one_event closes closes xo xd yo yd = refl
-  one_event closes loses xo xd yo yd = absurd (fill-closes yd.0 xd)
-
--- ---- what a frame does until it has gone
-
--- a frame that has gone does nothing more that is due
-does_no_more : (script : Script) (asked : ℕ) (events : List RingEvent) (below : List LineFrame) (frame next : LineFrame)
-    (event : RingEvent)
-    → next ≡ frame
-    → HasGone (situation_after script asked (events ++ [])) below next
-    → IsOwn below frame event
-    → IsDue (situation_after script asked events) event
-    → ⊥
-does_no_more script asked events below frame next event stands gone owned due =
-    gone.1 event (subst (λ (f : LineFrame). IsOwn below f event) (sym stands) owned)
-    (subst (λ (l : List RingEvent). IsDue (situation_after script asked l) event) (sym (append-nil events)) due)
-
--- There is one thing that it does until it has gone.
-module _ (script : Script) (asked seen : ℕ) (below : List LineFrame) where
-  same_own : (events : List RingEvent) (frame : LineFrame) (own other : List RingEvent) (next last : LineFrame)
-      → IsKept script.start asked seen events
-      → Does below frame own next
-      → Does below frame other last
-      → AllDue script asked events own
-      → AllDue script asked events other
-      → HasGone (situation_after script asked (events ++ own)) below next
-      → HasGone (situation_after script asked (events ++ other)) below last
-      → own ≡ other
-  same_own events frame [] [] next last kept does did due dues gone went = refl
-  same_own events frame [] (y ∷ other) next last kept does did due dues gone went =
-      absurd (does_no_more script asked events below frame next y does gone did.0 dues.0)
-  same_own events frame (x ∷ own) [] next last kept does did due dues gone went =
-      absurd (does_no_more script asked events below frame last x did went does.0 due.0)
-  same_own events frame (x ∷ own) (y ∷ other) next last kept does did due dues gone went =
-      let same : y ≡ x =
-      one_event (situation_after script asked events) seen kept below frame y x did.0 dues.0 does.0 due.0 in
-      let rest : own ≡ other = same_own (events ++ x ∷ []) (frame_after frame x) own other next last
-      (kept_on script asked seen events x due.0 kept)
-      does.1
-      (subst (λ (e : RingEvent). Does below (frame_after frame e) other last) same did.1)
-      due.1
-      (subst (λ (e : RingEvent). AllDue script asked (events ++ e ∷ []) other) same dues.1)
-      (subst (λ (l : List RingEvent). HasGone (situation_after script asked l) below next)
-      (sym (append_assoc events (x ∷ []) own)) gone)
-      (subst (λ (l : List RingEvent). HasGone (situation_after script asked l) below last)
-      (ap (λ (e : RingEvent). events ++ e ∷ other) same ∙ sym (append_assoc events (x ∷ []) other)) went) in
-      cc
+use Rattle.line_model.proofs.OneDue.{AllDue, all_due, IsKept, kept_on, kept_all, same_own}
 
 -- ---- a line
 
--- no frame on the stack may be moving the head
+-- no frame on the stack has made a step
 abbrev AreStill : List LineFrame → Type 0
 AreStill [] = ⊤
-AreStill (frame ∷ frames) = (frame.losing ≡ false) × AreStill frames
+AreStill (frame ∷ frames) = (frame.stage ≡ resting) × AreStill frames
 
--- so none is
-still_not_moving : (frames : List LineFrame) → AreStill frames → IsMoving frames → ⊥
-still_not_moving [] still (frame, (k, within, at), moving) = omega arith
-still_not_moving (top ∷ frames) still (frame, (zero, within, at), moving) =
-    let both : true ≡ false = sym moving ∙ ap (λ (f : LineFrame). f.losing) (sym at) ∙ still.0 in cc
-still_not_moving (top ∷ frames) still (frame, (suc k, within, at), moving) =
-    still_not_moving frames still.1 (frame, (k, omega arith, at), moving)
+-- so none is moving the head
+still_not_moving : (frames : List LineFrame) → AreStill frames → (fill : ℕ) × IsMovedFor fill frames → ⊥
+still_not_moving [] still (fill, (frame, (k, within, at), more, moves)) = omega arith
+still_not_moving (top ∷ frames) still (fill, (frame, (zero, within, at), more, moves)) =
+    let both : moving fill more ≡ resting = sym moves ∙ ap (λ (f : LineFrame). f.stage) (sym at) ∙ still.0 in cc
+still_not_moving (top ∷ frames) still (fill, (frame, (suc k, within, at), more, moves)) =
+    still_not_moving frames still.1 (fill, (frame, (k, omega arith, at), more, moves))
+
+-- ---- the steps of a take, while no frame moves the head
+
+-- what a step that isn't the last leaves as it was
+record IsSame (before after : CpuState) : Type 0 where
+  events : after.events ≡ before.events
+  frames : after.frames ≡ before.frames
+  wish : after.wish ≡ before.wish
+
+module _ (pages : ℕ) (w : Window) (before : CpuState) where
+  same_by : (after next : CpuState)
+      → after ≡ next
+      → next.events ≡ before.events
+      → next.frames ≡ before.frames
+      → next.wish ≡ before.wish
+      → IsSame before after
+  same_by after next is events frames asks = record {
+    events = ap (λ (s : CpuState). s.events) is ∙ events;
+    frames = ap (λ (s : CpuState). s.frames) is ∙ frames;
+    wish = ap (λ (s : CpuState). s.wish) is ∙ asks;
+  }
+
+  goes_same : (take : Take) (after : CpuState) → GoesOn pages w take before after → IsSame before after
+  goes_same to_find after (inl (at, is)) = same_by after _ is refl refl refl
+  goes_same to_find after (inr (fill, at, more, later, apart, is)) = same_by after _ is refl refl refl
+  goes_same to_see after (closed, is) = same_by after _ is refl refl refl
+  goes_same to_prepare after is = same_by after _ is refl refl refl
+  goes_same to_take after (away, is) = same_by after _ is refl refl refl
+
+  module _ (still : AreStill before.frames) where
+    none_for : (fill : ℕ) → IsMovedFor fill before.frames → ⊥
+    none_for fill moved = still_not_moving before.frames still (fill, moved)
+
+    none_to : IsMovedTo pages w before.frames → ⊥
+    none_to (fill, sum, moved) = none_for fill moved
+
+    one_fill : (fill other : ℕ)
+        → IsAtHint pages w before.hint fill
+        → IsAtHint pages w before.hint other
+        → fill ≡ other
+    one_fill fill other (low, high, at) (least, most, here) =
+        one_position w.head pages fill other low high least most (at ∙ sym here)
+
+    no_later : (fill : ℕ)
+        → IsAtHint pages w before.hint w.head
+        → IsAtHint pages w before.hint fill
+        → (w.head < fill) ⊎ IsMovedTo pages w before.frames
+        → ⊥
+    no_later fill at here (inl later) =
+        let same : w.head ≡ fill = one_fill w.head fill at here in omega (arith, same, later)
+    no_later fill at here (inr moved) = none_to moved
+
+    one_goes : (take : Take) (one two : CpuState)
+        → GoesOn pages w take before one
+        → GoesOn pages w take before two
+        → one ≡ two
+    one_goes to_find one two (inl (at, is)) (inl (here, be)) = is ∙ sym be
+    one_goes to_find one two (inl (at, is)) (inr (fill, here, more, later, apart, be)) =
+        absurd (no_later fill at here later)
+    one_goes to_find one two (inr (fill, at, more, later, apart, is)) (inl (here, be)) =
+        absurd (no_later fill here at later)
+    one_goes to_find one two (inr (fill, at, more, later, apart, is)) (inr (other, here, less, past, off, be)) =
+        is
+        ∙ ap (λ (f : ℕ). let s : CpuState = record before { hint = f + 1 - pages } in s)
+        (one_fill fill other at here)
+        ∙ sym be
+    one_goes to_see one two (closed, is) (known, be) = is ∙ sym be
+    one_goes to_prepare one two is be = is ∙ sym be
+    one_goes to_take one two (away, is) (gone, be) = is ∙ sym be
+
+    goes_or_ends : (take : Take) (one two : CpuState) (own : List RingEvent)
+        → GoesOn pages w take before one
+        → EndsTake pages w take before own two
+        → ⊥
+    goes_or_ends to_find one two own going (none, inl (fill, at, moved, is)) = none_for fill moved
+    goes_or_ends to_find one two own going (none, inr (here, moved, is)) = none_to moved
+    goes_or_ends to_see one two own (closed, is) (up, none, be) = omega (arith, closed, up)
+    goes_or_ends to_prepare one two own going none = none
+    goes_or_ends to_take one two own (away, is) (here, took, be) = away here
+
+    one_ends : (take : Take) (own other : List RingEvent) (one two : CpuState)
+        → EndsTake pages w take before own one
+        → EndsTake pages w take before other two
+        → one ≡ two
+    one_ends to_find own other one two (none, inl (fill, at, moved, is)) end = absurd (none_for fill moved)
+    one_ends to_find own other one two (none, inr (here, moved, is)) end = absurd (none_to moved)
+    one_ends to_see own other one two (up, none, is) (low, nothing, be) = is ∙ sym be
+    one_ends to_prepare own other one two none end = absurd none
+    one_ends to_take own other one two (here, took, is) (there, taken, be) = is ∙ sym be
+
+module _ (script : Script) where
+  abbrev now : CpuState → Window
+  now state = window_at script.start state.events
+
+  still_on : (before between : CpuState)
+      → GoesOn script.pages (now before) before.take before between
+      → AreStill before.frames
+      → AreStill between.frames
+  still_on before between going still =
+      subst AreStill (sym (goes_same script.pages (now before) before before.take between going).frames) still
+
+  -- takes end alike
+  one_reads : (count more : ℕ) (before between last : CpuState) (own other : List RingEvent) (one two : CpuState)
+      → AreStill before.frames
+      → ReadsOn script count before between
+      → EndsTake script.pages (now between) between.take between own one
+      → ReadsOn script more before last
+      → EndsTake script.pages (now last) last.take last other two
+      → one ≡ two
+  one_reads zero zero before between last own other one two still same ends here end =
+      one_ends script.pages (now before) before still before.take own other one two
+      (subst (λ (s : CpuState). EndsTake script.pages (now s) s.take s own one) (sym same) ends)
+      (subst (λ (s : CpuState). EndsTake script.pages (now s) s.take s other two) (sym here) end)
+  one_reads zero (suc more) before between last own other one two still same ends (next, going, rest) end =
+      absurd (goes_or_ends script.pages (now before) before still before.take next one own going
+      (subst (λ (s : CpuState). EndsTake script.pages (now s) s.take s own one) (sym same) ends))
+  one_reads (suc count) zero before between last own other one two still (next, going, rest) ends here end =
+      absurd (goes_or_ends script.pages (now before) before still before.take next two other going
+      (subst (λ (s : CpuState). EndsTake script.pages (now s) s.take s other two) (sym here) end))
+  one_reads (suc count) (suc more) before between last own other one two still (next, going, rest) ends
+      (then, goes, others) end =
+      let same = one_goes script.pages (now before) before still before.take next then going goes in
+      one_reads count more next between last own other one two (still_on before next going still) rest ends
+      (subst (λ (s : CpuState). ReadsOn script more s last) (sym same) others) end
+
+  -- what is kept by the steps of a take
+  abbrev IsKeptIn : CpuState → Type 0
+  IsKeptIn state = IsKept script.start state.wish state.seen state.events
+
+  saw_all : (state : CpuState) → IsKeptIn state → IsKept script.start state.wish (now state).done state.events
+  saw_all state kept = record { seen_le = omega arith; wish_le = kept.wish_le; tail_only = kept.tail_only }
+
+  goes_kept : (take : Take) (before after : CpuState)
+      → GoesOn script.pages (now before) take before after
+      → IsKeptIn before
+      → IsKeptIn after
+  goes_kept to_find before after (inl (at, is)) kept = subst IsKeptIn (sym is) kept
+  goes_kept to_find before after (inr (fill, at, more, later, apart, is)) kept = subst IsKeptIn (sym is) kept
+  goes_kept to_see before after (closed, is) kept = subst IsKeptIn (sym is) (saw_all before kept)
+  goes_kept to_prepare before after is kept = subst IsKeptIn (sym is) kept
+  goes_kept to_take before after (away, is) kept = subst IsKeptIn (sym is) kept
+
+  abbrev IsWholeIn : CpuState → Type 0
+  IsWholeIn state = IsKeptIn state × (state.take ≡ to_find) × AreStill state.frames
+
+  ends_kept : (take : Take) (before after : CpuState) (own : List RingEvent)
+      → before.take ≡ take
+      → EndsTake script.pages (now before) take before own after
+      → AllDue script before.wish before.events own
+      → IsKeptIn before
+      → AreStill before.frames
+      → IsWholeIn after
+  ends_kept to_find before after own at (none, inl (fill, here, moved, is)) due kept still =
+      subst IsWholeIn (sym is) (kept, at, still)
+  ends_kept to_find before after own at (none, inr (here, moved, is)) due kept still =
+      subst IsWholeIn (sym is) (kept, at, still)
+  ends_kept to_see before after own at (up, none, is) due kept still =
+      subst IsWholeIn (sym is) (saw_all before kept, refl, still)
+  ends_kept to_prepare before after own at none due kept still = absurd none
+  ends_kept to_take before after own at (here, took, is) due kept still =
+      subst IsWholeIn (sym is) (
+        kept_on script before.wish before.seen before.events takes
+            (subst (AllDue script before.wish before.events) took due).0 kept,
+        refl,
+        still,
+      )
+
+  takes_kept : (count : ℕ) (before between after : CpuState) (own : List RingEvent)
+      → ReadsOn script count before between
+      → EndsTake script.pages (now between) between.take between own after
+      → AllDue script before.wish before.events own
+      → IsKeptIn before
+      → AreStill before.frames
+      → IsWholeIn after
+  takes_kept zero before between after own same ends due kept still =
+      ends_kept before.take before after own refl
+      (subst (λ (s : CpuState). EndsTake script.pages (now s) s.take s own after) (sym same) ends) due kept still
+  takes_kept (suc count) before between after own (next, going, rest) ends due kept still =
+      let same = goes_same script.pages (now before) before before.take next going in
+      takes_kept count next between after own rest ends
+      (subst (λ (asked : ℕ). AllDue script asked next.events own) (sym same.wish)
+      (subst (λ (l : List RingEvent). AllDue script before.wish l own) (sym same.events) due))
+      (goes_kept before.take before next going kept) (still_on before next going still)
 
 -- A CPU between two lines that aren't of single steps.
 record IsWhole (start : ℕ) (state : CpuState) : Type 0 where
   kept : IsKept start state.wish state.seen state.events
-  at_rest : state.in_take ≡ false
+  at_rest : state.take ≡ to_find
   still : AreStill state.frames
 
 module _ (script : Script) (before : CpuState) (whole : IsWhole script.start before) where
@@ -495,85 +351,23 @@ module _ (script : Script) (before : CpuState) (whole : IsWhole script.start bef
         still = whole.still;
       }
 
-  -- `t`: a fill is taken exactly if one is closed and unread
-  moves_nothing : IsMoving before.frames → ⊥
-  moves_nothing = still_not_moving before.frames whole.still
-
-  takes_closed : (own other : List RingEvent)
-      → own ≡ takes ∷ []
-      → AllDue script before.wish before.events own
-      → (other ≡ []) × (IsMoving before.frames
-      ⊎ ((window_at script.start before.events).head ≡ (window_at script.start before.events).done))
-      → ⊥
-  takes_closed own other is due (none, inl moving) = moves_nothing moving
-  takes_closed own other is due (none, inr all) =
-      let least = (subst (AllDue script before.wish before.events) is due).0 in omega arith
-
-  one_taken : (own other : List RingEvent)
-      → AllDue script before.wish before.events own
-      → AllDue script before.wish before.events other
-      → (own ≡ takes ∷ []) ⊎ ((own ≡ []) × (IsMoving before.frames
-      ⊎ ((window_at script.start before.events).head ≡ (window_at script.start before.events).done)))
-      → (other ≡ takes ∷ []) ⊎ ((other ≡ []) × (IsMoving before.frames
-      ⊎ ((window_at script.start before.events).head ≡ (window_at script.start before.events).done)))
-      → own ≡ other
-  one_taken own other due dues (inl is) (inl be) = is ∙ sym be
-  one_taken own other due dues (inl is) (inr none) = absurd (takes_closed own other is due none)
-  one_taken own other due dues (inr none) (inl be) = absurd (takes_closed other own be dues none)
-  one_taken own other due dues (inr none) (inr nothing) = none.0 ∙ sym nothing.0
-
-  -- the reader then knows which fills are closed
-  seen_now : (own : List RingEvent) (seen : ℕ)
-      → (seen ≡ (window_at script.start before.events).done)
-      ⊎ ((seen ≡ before.seen) × ((before.in_take ≡ true) ⊎ ((own ≡ []) × IsMoving before.frames)))
-      → seen ≡ (window_at script.start before.events).done
-  seen_now own seen (inl is) = is
-  seen_now own seen (inr (is, inl amid)) = absurd (let both : true ≡ false = sym amid ∙ whole.at_rest in cc)
-  seen_now own seen (inr (is, inr (none, moving))) = absurd (moves_nothing moving)
-
-  made_now : (own : List RingEvent) (made : Option ℕ)
-      → (made ≡ Some 0) ⊎ ((made ≡ None) × (own ≡ []) × IsMoving before.frames)
-      → made ≡ Some 0
-  made_now own made (inl is) = is
-  made_now own made (inr (is, none, moving)) = absurd (moves_nothing moving)
-
-  abbrev after_take : List RingEvent → ℕ → Option ℕ → CpuState
-  after_take own seen made =
-      record before { events = before.events ++ own; seen = seen; in_take = false; made = made }
-
+  -- `t`
   one_take : (own other : List RingEvent) (one two : CpuState)
-      → AllDue script before.wish before.events own
-      → AllDue script before.wish before.events other
-      → TakesPage script.start before own one
-      → TakesPage script.start before other two
+      → TakesPage script before own one
+      → TakesPage script before other two
       → one ≡ two
-  one_take own other one two due dues first second =
-      first.after_is
-      ∙ ap (λ (l : List RingEvent). after_take l first.seen first.made)
-      (one_taken own other due dues first.own_is second.own_is)
-      ∙ ap (λ (n : ℕ). after_take other n first.made)
-      (seen_now own first.seen first.seen_is ∙ sym (seen_now other second.seen second.seen_is))
-      ∙ ap (after_take other second.seen)
-      (made_now own first.made first.made_is ∙ sym (made_now other second.made second.made_is))
-      ∙ sym second.after_is
+  one_take own other one two first second =
+      one_reads script first.count second.count before first.between second.between own other one two whole.still
+      first.reads first.ends second.reads second.ends
 
   whole_take : (own : List RingEvent) (after : CpuState)
       → AllDue script before.wish before.events own
-      → TakesPage script.start before own after
+      → TakesPage script before own after
       → IsWhole script.start after
-  whole_take own after due part = subst (IsWhole script.start) (sym part.after_is)
-      record {
-        kept = kept_all script before.wish part.seen before.events own due
-            (subst (λ (n : ℕ). IsKept script.start before.wish n before.events)
-            (sym (seen_now own part.seen part.seen_is))
-            record {
-              seen_le = omega arith;
-              wish_le = whole.kept.wish_le;
-              tail_only = whole.kept.tail_only;
-            });
-        at_rest = refl;
-        still = whole.still;
-      }
+  whole_take own after due part =
+      let (kept, none, still) =
+      takes_kept script part.count before part.between after own part.reads part.ends due whole.kept whole.still in
+      record { kept = kept; at_rest = none; still = still }
 
   -- `a`
   whole_ask : (own : List RingEvent) (after : CpuState) → Asks before own after → IsWhole script.start after
@@ -626,7 +420,7 @@ module _ (script : Script) (before : CpuState) (whole : IsWhole script.start bef
       one_at cpu at own other one two (one_write _ _ _ own other one two due dues) first second
   one_adds cpu (step_reader at count) own other one two line due dues first second = absurd line
   one_adds cpu (take_page at) own other one two line due dues first second =
-      one_at cpu at own other one two (one_take own other one two due dues) first second
+      one_at cpu at own other one two (one_take own other one two) first second
   one_adds cpu (wish at) own other one two line due dues first second =
       one_at cpu at own other one two (λ part parts. part.1 ∙ sym parts.1) first second
   one_adds cpu (deliver collector at fill) own other one two line due dues first second =

@@ -1,10 +1,13 @@
 -- The ring of a CPU in a replay, beside that CPU in an account: when the one is as the other says; and what is to be
 -- shown of the frame on top.
-use Rattle.std.proofs.Common.{◌≡◌, ◌≢◌, ℕ, ◌<◌, ◌⊎◌, true, false, List, [], ◌∷◌, ◌++◌, length, Some, None}
+use Rattle.std.proofs.Common.{◌≡◌, ◌≢◌, ℕ, ◌<◌, ◌⊎◌, List, [], ◌∷◌, ◌++◌, length, Some, None}
+use Rattle.std.proofs.Common.{ap}
 use Rattle.std.specs.Prelude.{⊤}
+use Rattle.trace_model.proofs.collections.Elements.{some_is}
 use Rattle.trace_model.specs.Window.{RingEvent}
 use Rattle.trace_model.specs.Frames.{for_close, waiting, left, Phase, idle, looking, claiming, looking_next, marking}
-use Rattle.trace_model.specs.Frames.{clearing, opening, releasing, wishing, noted_fill, owned_update, Frame}
+use Rattle.trace_model.specs.Frames.{clearing, opening, releasing, wishing, noted_fill, owned_update}
+use Rattle.trace_model.specs.Frames.{owner, helper, Frame}
 use Rattle.trace_model.specs.Ring.{ReaderPhase, loading_head, loading_done, storing_spare_link, swapping, Core}
 use Rattle.trace_model.specs.Steps.{Exchange}
 use Rattle.text_model.specs.Script.{Script}
@@ -12,28 +15,62 @@ use Rattle.ring_model.specs.RunsAsEvents.{AreEventsOfRun}
 use Rattle.ring_model.specs.Reached.{IsReached}
 use Rattle.world_model.specs.Lanes.{Lane, HasPayloads, FrameRun}
 use Rattle.line_model.specs.Due.{situation_after, window_at, IsDue}
-use Rattle.line_model.specs.Accounts.{Stage, resting, searching, closing_fills, asking, off, LineFrame, CpuState, IsThere}
-use Rattle.line_model.specs.Accounts.{IsOwn, Does, HasGone, with_own, MayDo, MayPass, stepped, Steps}
+use Rattle.line_model.specs.Accounts.{to_look, to_lose, to_begin, Stage, resting, searching, moving, closing_fills}
+use Rattle.line_model.specs.Accounts.{asking, off, LineFrame, Take, to_find, to_see, to_prepare, to_take, CpuState}
+use Rattle.line_model.specs.Accounts.{IsThere, IsOwn, Does, HasGone, with_own, MayDo, MayPass, stepped, Steps}
 use Rattle.line_model.specs.CallEvents.{IsRecordOnTop}
 
 -- the stage of a frame in this phase
 abbrev pub stage_of : Phase → Stage
 stage_of idle = resting
-stage_of (looking o) = searching
-stage_of (claiming o page) = searching
-stage_of (looking_next role o page) = searching
-stage_of (marking role o page next) = searching
-stage_of (clearing o page) = searching
-stage_of (opening o page) = searching
+stage_of (looking o) = searching o to_look
+stage_of (claiming o page) = searching o to_lose
+stage_of (looking_next owner o page) = moving o 2
+stage_of (looking_next helper o page) = searching o (to_begin 2)
+stage_of (marking owner o page next) = moving o 1
+stage_of (marking helper o page next) = searching o (to_begin 1)
+stage_of (clearing o page) = moving o 0
+stage_of (opening o page) = searching o (to_begin 0)
 stage_of releasing = closing_fills
 stage_of wishing = asking
+
+-- the frame that owns an UPDATE is moving the head, for the fill whose position that is, and no other frame is
+pub owner_is_moving : (phase : Phase) (o : ℕ)
+    → owned_update phase ≡ Some o
+    → (more : ℕ) × (stage_of phase ≡ moving o more)
+owner_is_moving idle o e = absurd (cc)
+owner_is_moving (looking x) o e = absurd (cc)
+owner_is_moving (claiming x page) o e = absurd (cc)
+owner_is_moving (looking_next owner x page) o e = (2, ap (λ (k : ℕ). moving k 2) (some_is x o e))
+owner_is_moving (looking_next helper x page) o e = absurd (cc)
+owner_is_moving (marking owner x page next) o e = (1, ap (λ (k : ℕ). moving k 1) (some_is x o e))
+owner_is_moving (marking helper x page next) o e = absurd (cc)
+owner_is_moving (clearing x page) o e = (0, ap (λ (k : ℕ). moving k 0) (some_is x o e))
+owner_is_moving (opening x page) o e = absurd (cc)
+owner_is_moving releasing o e = absurd (cc)
+owner_is_moving wishing o e = absurd (cc)
+
+moved_fill : (x y more other : ℕ) → moving x more ≡ moving y other → Some x ≡ Some y
+moved_fill x y more other e = cc
+
+pub moving_is_owner : (phase : Phase) (o more : ℕ) → stage_of phase ≡ moving o more → owned_update phase ≡ Some o
+moving_is_owner idle o more e = absurd (cc)
+moving_is_owner (looking x) o more e = absurd (cc)
+moving_is_owner (claiming x page) o more e = absurd (cc)
+moving_is_owner (looking_next owner x page) o more e = moved_fill x o 2 more e
+moving_is_owner (looking_next helper x page) o more e = absurd (cc)
+moving_is_owner (marking owner x page next) o more e = moved_fill x o 1 more e
+moving_is_owner (marking helper x page next) o more e = absurd (cc)
+moving_is_owner (clearing x page) o more e = moved_fill x o 0 more e
+moving_is_owner (opening x page) o more e = absurd (cc)
+moving_is_owner releasing o more e = absurd (cc)
+moving_is_owner wishing o more e = absurd (cc)
 
 -- A frame of the ring, with its payload, beside that of an account, with these below it.
 pub record FrameStands (frame : Frame) (payload : List ℕ) (below : List LineFrame) (line : LineFrame) : Type 0 where
   pub unwritten : frame.state ≢ left → line.payload ≡ Some payload
   pub has_left : frame.state ≡ left → (line.payload ≡ None) × (below ≡ [])
   pub stage : line.stage ≡ stage_of frame.phase
-  pub moving : (o : ℕ) → owned_update frame.phase ≡ Some o → line.losing ≡ true
 
 -- the stacks, frame by frame
 abbrev pub FramesStand : List Frame → List (List ℕ) → List LineFrame → Type 0
@@ -45,17 +82,12 @@ FramesStand (frame ∷ below) (payload ∷ payloads) [] = ⊥
 FramesStand (frame ∷ below) (payload ∷ payloads) (line ∷ lines) =
     FrameStands frame payload lines line × FramesStand below payloads lines
 
--- how many steps a take in this phase has made
-abbrev pub steps_of : ReaderPhase → ℕ
-steps_of loading_head = 0
-steps_of (loading_done page fill) = 1
-steps_of (storing_spare_link page fill) = 2
-steps_of (swapping page fill) = 3
-
--- the reader knows where the head is, and its take has made this many steps
-pub record IsAtHead (c : Core) (made : ℕ) : Type 0 where
-  pub steps : steps_of c.reader.phase ≡ made
-  pub hint : c.reader.hint ≡ c.head
+-- the next step of a take in this phase
+abbrev pub take_of : ReaderPhase → Take
+take_of loading_head = to_find
+take_of (loading_done page fill) = to_see
+take_of (storing_spare_link page fill) = to_prepare
+take_of (swapping page fill) = to_take
 
 -- the ring, its payloads and what its reader knows, beside the state
 pub record Stands (script : Script) (lane : Lane) (state : CpuState) : Type 0 where
@@ -64,8 +96,8 @@ pub record Stands (script : Script) (lane : Lane) (state : CpuState) : Type 0 wh
   pub run : AreEventsOfRun script.pages script.start lane.core state.events
   pub frames : FramesStand lane.core.frames lane.payloads state.frames
   pub seen : state.seen ≡ lane.core.reader.seen
-  pub at_rest : state.in_take ≡ false → lane.core.reader.phase ≡ loading_head
-  pub counted : (made : ℕ) → state.made ≡ Some made → IsAtHead lane.core made
+  pub hint : state.hint ≡ lane.core.reader.hint
+  pub take : state.take ≡ take_of lane.core.reader.phase
   pub wish : state.wish ≡ lane.core.wish
 
 -- The frame on top, if it is a close frame that waits and has noted a fill to begin: it is the next one. No other frame

@@ -1,21 +1,19 @@
 -- A ring beside an account: how many frames there are, which window its events lead to, and that its events go on.
 use Rattle.std.proofs.Common.{◌≡◌, ◌≢◌, ℕ, zero, suc, ◌+◌, ◌-◌, ◌<◌, List, [], ◌∷◌, ◌++◌, length, drop, Some, refl, sym}
-use Rattle.std.proofs.Common.{ap, ◌∙◌, subst, arith, append-nil}
-use Rattle.std.specs.List.{slice_get}
-use Rattle.std.proofs.lemmas.Option.{none-some}
+use Rattle.std.proofs.Common.{ap, ◌∙◌, subst, arith, append-nil, inl, inr}
 use Rattle.trace_model.specs.History.{HistoryEvent}
 use Rattle.trace_model.specs.Window.{Window, first_window, RingEvent, acts, takes, history_events_of, window_after}
 use Rattle.trace_model.specs.Window.{MayMove, WindowRunFrom}
 use Rattle.trace_model.specs.Frames.{owned_update, Frame}
-use Rattle.trace_model.specs.Ring.{TakenFill, Core, IsMoved, window_of}
-use Rattle.trace_model.proofs.collections.Elements.{some_is}
+use Rattle.trace_model.specs.Ring.{TakenFill, Core, window_of}
+use Rattle.ring_model.specs.KeptLinks.{HasMover}
 use Rattle.ring_model.specs.RunsAsEvents.{fills_taken, numbers_of, AreEventsOfRun}
 use Rattle.ring_model.proofs.histories.WindowRuns.{history_events-append, run-append, taken-append, numbers-push}
 use Rattle.text_model.specs.Script.{Script}
 use Rattle.world_model.specs.Lanes.{Lane, payloads_left}
 use Rattle.line_model.specs.Due.{window_at}
-use Rattle.line_model.specs.Accounts.{LineFrame, CpuState, IsMoving}
-use Rattle.line_model.proofs.Standing.{FramesStand, Stands}
+use Rattle.line_model.specs.Accounts.{moving, LineFrame, CpuState, IsMovedFor}
+use Rattle.line_model.proofs.Standing.{owner_is_moving, moving_is_owner, FrameStands, FramesStand, Stands}
 use Rattle.line_model.proofs.AccountWindows.{run_leads}
 
 -- ---- frames
@@ -69,30 +67,42 @@ BeginsNone a = (n : ℕ) (history : List HistoryEvent) (w : Window)
     → MayMove n history w (acts a) × (window_after w (acts a) ≡ w)
 
 module _ (f : ℕ) where
-  -- a frame that owns the UPDATE is moving the head
-  owner_moves : (frames : List Frame) (payloads : List (List ℕ)) (lines : List LineFrame) (k : ℕ) (frame : Frame)
-      → FramesStand frames payloads lines
-      → slice_get frames k ≡ Some frame
+  -- a frame that owns the UPDATE is moving the head, for the fill that it noted
+  told_by : (line : LineFrame) (frame : Frame) (payload : List ℕ) (below : List LineFrame)
+      → FrameStands frame payload below line
       → owned_update frame.phase ≡ Some f
-      → IsMoving lines
-  owner_moves [] payloads lines k frame stand at owns = absurd (none-some frame at)
-  owner_moves (top ∷ frames) [] lines k frame stand at owns = absurd stand
-  owner_moves (top ∷ frames) (payload ∷ payloads) [] k frame stand at owns = absurd stand
-  owner_moves (top ∷ frames) (payload ∷ payloads) (line ∷ lines) zero frame stand at owns = (
-    line,
-    (0, omega arith, refl),
-    stand.0.moving f (subst (λ (g : Frame). owned_update g.phase ≡ Some f) (sym (some_is top frame at)) owns),
-  )
-  owner_moves (top ∷ frames) (payload ∷ payloads) (line ∷ lines) (suc k) frame stand at owns =
-      let (mover, (j, low, is), moves) = owner_moves frames payloads lines k frame stand.1 at owns in
-      (mover, (suc j, omega (arith, low), is), moves)
+      → (more : ℕ) × (line.stage ≡ moving f more)
+  told_by line frame payload below stand owns =
+      let (more, is) = owner_is_moving frame.phase f owns in (more, stand.stage ∙ is)
 
-pub way_moves : (frames : List Frame) (payloads : List (List ℕ)) (lines : List LineFrame) (f : ℕ)
-    → FramesStand frames payloads lines
-    → IsMoved frames f
-    → IsMoving lines
-way_moves frames payloads lines f stand moved =
-    let (frame, at, owns) = moved.moves in owner_moves f frames payloads lines moved.by frame stand at owns
+  -- some frame owns it exactly if one is moving the head
+  pub mover_told : (frames : List Frame) (payloads : List (List ℕ)) (lines : List LineFrame)
+      → FramesStand frames payloads lines
+      → HasMover frames f
+      → IsMovedFor f lines
+  mover_told [] payloads lines stand moved = absurd moved
+  mover_told (top ∷ frames) [] lines stand moved = absurd stand
+  mover_told (top ∷ frames) (payload ∷ payloads) [] stand moved = absurd stand
+  mover_told (top ∷ frames) (payload ∷ payloads) (line ∷ lines) stand (inl owns) =
+      let (more, is) = told_by line top payload lines stand.0 owns in (line, (0, omega arith, refl), more, is)
+  mover_told (top ∷ frames) (payload ∷ payloads) (line ∷ lines) stand (inr moved) =
+      let (mover, (j, low, is), more, moves) = mover_told frames payloads lines stand.1 moved in
+      (mover, (suc j, omega (arith, low), is), more, moves)
+
+  pub told_mover : (frames : List Frame) (payloads : List (List ℕ)) (lines : List LineFrame)
+      → FramesStand frames payloads lines
+      → IsMovedFor f lines
+      → HasMover frames f
+  told_mover [] [] [] stand (mover, (k, low, is), more, moves) = absurd (let no : ⊥ = omega (arith, low) in no)
+  told_mover [] [] (line ∷ lines) stand moved = absurd stand
+  told_mover [] (payload ∷ payloads) lines stand moved = absurd stand
+  told_mover (top ∷ frames) [] lines stand moved = absurd stand
+  told_mover (top ∷ frames) (payload ∷ payloads) [] stand moved = absurd stand
+  told_mover (top ∷ frames) (payload ∷ payloads) (line ∷ lines) stand (mover, (zero, low, is), more, moves) =
+      inl (moving_is_owner top.phase f more
+      (sym stand.0.stage ∙ ap (λ (x : LineFrame). x.stage) is ∙ moves))
+  told_mover (top ∷ frames) (payload ∷ payloads) (line ∷ lines) stand (mover, (suc k, low, is), more, moves) =
+      inr (told_mover frames payloads lines stand.1 (mover, (k, omega (arith, low), is), more, moves))
 
 -- all payloads are left if there are as many as frames
 pub all_left : (frames : List Frame) (payloads : List (List ℕ))

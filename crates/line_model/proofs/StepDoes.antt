@@ -1,11 +1,12 @@
 -- What the frame on top does in one step, beside an account: what is to be shown, and of which steps.
-use Rattle.std.proofs.Common.{◌≡◌, ◌≢◌, ℕ, suc, ◌+◌, ◌-◌, Bool, true, false, List, [], ◌∷◌, length, drop, sym, ◌∙◌, subst}
+use Rattle.std.proofs.Common.{◌≡◌, ◌≢◌, ℕ, suc, ◌+◌, ◌-◌, Bool, true, false, List, [], ◌∷◌, length, drop, sym, ◌∙◌}
+use Rattle.std.proofs.Common.{subst}
 use Rattle.std.proofs.Common.{Option, Some, None, refl, ap, ⊎_elim, arith}
 use Rattle.std.specs.Prelude.{if◌then◌else◌, ◌==◌}
 use Rattle.trace_model.specs.History.{push, push_close, open_fill, reserve, leave, wished}
 use Rattle.trace_model.specs.Window.{Window, RingEvent, acts, closes, takes, loses}
 use Rattle.trace_model.specs.Frames.{Phase, idle, looking, claiming, looking_next, marking, clearing, opening}
-use Rattle.trace_model.specs.Frames.{releasing, wishing, noted_fill, owned_update, Frame}
+use Rattle.trace_model.specs.Frames.{owner, helper, releasing, wishing, noted_fill, Frame}
 use Rattle.trace_model.specs.Ring.{Core, window_of}
 use Rattle.trace_model.specs.Steps.{Event, Answer, Step, closing_phase}
 use Rattle.text_model.specs.Script.{Script}
@@ -20,8 +21,8 @@ use Rattle.line_model.proofs.Standing.{FrameStands, FramesStand, stage_of, Stand
 use Rattle.line_model.proofs.DueRuns.{DueFrom}
 
 -- a frame of an account
-abbrev pub line : Option (List ℕ) → Bool → Stage → LineFrame
-line payload losing stage = record { payload = payload; stage = stage; losing = losing }
+abbrev pub line : Option (List ℕ) → Stage → LineFrame
+line payload stage = record { payload = payload; stage = stage }
 
 -- ---- what a frame does, in whatever stage
 
@@ -75,23 +76,22 @@ module _ (below : List LineFrame) where
 -- ---- one step
 
 -- What the frame on top does in one step.
-pub record StepDoes (script : Script) (before : Lane) (state : CpuState) (payload : Option (List ℕ)) (losing : Bool)
+pub record StepDoes (script : Script) (before : Lane) (state : CpuState) (payload : Option (List ℕ))
     (stage : Stage) (below : List LineFrame) (after : Lane)
     : Type 0 where
   pub own : List RingEvent
   pub payload_after : Option (List ℕ)
-  pub losing_after : Bool
   pub stage_after : Stage
-  pub does : Does below (line payload losing stage) own (line payload_after losing_after stage)
+  pub does : Does below (line payload stage) own (line payload_after stage)
   pub due : DueFrom script state.wish state.events own
   pub step : IsRecordOnTop before.core.frames
-      → OneStep script state.wish below state.events (line payload losing stage) own
-      (line payload_after losing_after stage_after)
+      → OneStep script state.wish below state.events (line payload stage) own
+      (line payload_after stage_after)
   pub fresh : length after.core.frames ≡ length before.core.frames → IsFresh after.core
   pub record_kept : length after.core.frames ≡ length before.core.frames
       → IsRecordOnTop before.core.frames
       → IsRecordOnTop after.core.frames
-  pub ends : StaysOrGoes script before state own (line payload_after losing_after stage_after) below after
+  pub ends : StaysOrGoes script before state own (line payload_after stage_after) below after
 
 -- One step of the frame on top: the ring before it and after it, beside the account before it.
 pub record TopStep : Type 0 where
@@ -100,7 +100,6 @@ pub record TopStep : Type 0 where
   pub state : CpuState
   -- what the account has of the frame and of those below it
   pub told : Option (List ℕ)
-  pub losing : Bool
   pub stage : Stage
   pub below : List LineFrame
   -- what the ring has of them
@@ -111,10 +110,10 @@ pub record TopStep : Type 0 where
   pub event : Event
   pub answer : Answer
   pub after : Core
-  pub stands : Stands script before (record state { frames = line told losing stage ∷ below })
+  pub stands : Stands script before (record state { frames = line told stage ∷ below })
   pub top : before.core.frames ≡ frame ∷ under
   pub paid : before.payloads ≡ payload ∷ payloads
-  pub one : FrameStands frame payload below (line told losing stage)
+  pub one : FrameStands frame payload below (line told stage)
   pub others : FramesStand under payloads below
   pub fresh : IsFresh before.core
   pub none : PushesNone event
@@ -123,7 +122,7 @@ pub record TopStep : Type 0 where
 
 -- what it does
 abbrev pub Made : TopStep → Type 0
-Made t = StepDoes t.script t.before t.state t.told t.losing t.stage t.below (lane_behind t.before t.after)
+Made t = StepDoes t.script t.before t.state t.told t.stage t.below (lane_behind t.before t.after)
 
 -- ---- the stacks
 
@@ -168,33 +167,26 @@ first_frame other [] = other
 first_frame other (frame ∷ frames) = frame
 
 -- a nested frame that has left does nothing more
-pub none_own : (below : List LineFrame) (losing : Bool) (stage : Stage) (event : RingEvent)
+pub none_own : (below : List LineFrame) (stage : Stage) (event : RingEvent)
     → below ≢ []
-    → IsOwn below (line None losing stage) event
+    → IsOwn below (line None stage) event
     → ⊥
-none_own below losing stage (acts (push moment len)) some own = own
-none_own below losing stage (acts push_close) some own = own
-none_own below losing stage (acts open_fill) some own = ⊎_elim (λ not. not refl) some own
-none_own below losing stage (acts reserve) some own = own refl
-none_own below losing stage (acts (leave None)) some own = own refl
-none_own below losing stage (acts (leave (Some bytes))) some (other, is, more) = let both : None ≡ Some other = is in cc
-none_own below losing stage (acts wished) some own = some own.1
-none_own below losing stage closes some own = some own.1
-none_own below losing stage takes some own = own
-none_own below losing stage loses some own = ⊎_elim (λ not. not refl) some own
+none_own below stage (acts (push moment len)) some own = own
+none_own below stage (acts push_close) some own = own
+none_own below stage (acts open_fill) some own = ⊎_elim (λ not. not refl) some own
+none_own below stage (acts reserve) some own = own refl
+none_own below stage (acts (leave None)) some own = own refl
+none_own below stage (acts (leave (Some bytes))) some (other, is, more) = let both : None ≡ Some other = is in cc
+none_own below stage (acts wished) some own = some own.1
+none_own below stage closes some own = some own.1
+none_own below stage takes some own = own
+none_own below stage loses some own = ⊎_elim (λ not. not refl) some own
 
 -- a closing frame has noted no fill
 pub closing_notes : (c : Core) (o : ℕ) → noted_fill (closing_phase c) ≡ Some o → ⊥
 closing_notes c o = by_test ((c.done + 1) == c.opened)
   where
     by_test : (b : Bool) → noted_fill (if b then wishing else releasing) ≡ Some o → ⊥
-    by_test true e = cc
-    by_test false e = cc
-
-pub closing_owns : (c : Core) (o : ℕ) → owned_update (closing_phase c) ≡ Some o → ⊥
-closing_owns c o = by_test ((c.done + 1) == c.opened)
-  where
-    by_test : (b : Bool) → owned_update (if b then wishing else releasing) ≡ Some o → ⊥
     by_test true e = cc
     by_test false e = cc
 
@@ -217,8 +209,10 @@ pub never_off : (phase : Phase) → stage_of phase ≢ off
 never_off idle e = cc
 never_off (looking o) e = cc
 never_off (claiming o page) e = cc
-never_off (looking_next role o page) e = cc
-never_off (marking role o page next) e = cc
+never_off (looking_next owner o page) e = cc
+never_off (looking_next helper o page) e = cc
+never_off (marking owner o page next) e = cc
+never_off (marking helper o page next) e = cc
 never_off (clearing o page) e = cc
 never_off (opening o page) e = cc
 never_off releasing e = cc
@@ -229,8 +223,10 @@ pub idle_of : (phase : Phase) → stage_of phase ≡ resting → phase ≡ idle
 idle_of idle e = refl
 idle_of (looking o) e = absurd (cc)
 idle_of (claiming o page) e = absurd (cc)
-idle_of (looking_next role o page) e = absurd (cc)
-idle_of (marking role o page next) e = absurd (cc)
+idle_of (looking_next owner o page) e = absurd (cc)
+idle_of (looking_next helper o page) e = absurd (cc)
+idle_of (marking owner o page next) e = absurd (cc)
+idle_of (marking helper o page next) e = absurd (cc)
 idle_of (clearing o page) e = absurd (cc)
 idle_of (opening o page) e = absurd (cc)
 idle_of releasing e = absurd (cc)

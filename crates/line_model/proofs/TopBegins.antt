@@ -1,5 +1,5 @@
 -- One step of the frame on top, beside an account, if it begins a fill, or if it is at its first step.
-use Rattle.std.proofs.Common.{◌≡◌, ℕ, ◌+◌, ◌<◌, ◌≤◌, ◌⊎◌, false, List, [], ◌∷◌, ◌++◌, length, Some, None}
+use Rattle.std.proofs.Common.{◌≡◌, ℕ, ◌+◌, ◌<◌, ◌≤◌, ◌⊎◌, List, [], ◌∷◌, ◌++◌, length, Some, None}
 use Rattle.std.proofs.Common.{refl, sym, ap, ◌∙◌, subst, inl, inr, ⊎_elim, arith, append_assoc}
 use Rattle.trace_model.specs.declared.limits.TheConstants.{LINK_FILLS}
 use Rattle.trace_model.specs.History.{open_fill, reserve, leave, Reservation, PushedFrame, close_frame}
@@ -8,7 +8,7 @@ use Rattle.trace_model.proofs.histories.NextEvent.{opened_stack}
 use Rattle.trace_model.specs.Packing.{tail_of, fill_len}
 use Rattle.trace_model.specs.Window.{acts, window_after}
 use Rattle.trace_model.specs.Frames.{Purpose, for_record, for_close, Progress, waiting, reserved, left, Phase, idle}
-use Rattle.trace_model.specs.Frames.{looking, opening, noted_fill, owned_update, pushed_frames}
+use Rattle.trace_model.specs.Frames.{looking, opening, noted_fill, pushed_frames}
 use Rattle.trace_model.specs.Ring.{Core, window_of}
 use Rattle.trace_model.specs.Steps.{closing_phase, with_new_tail, after_begin}
 use Rattle.trace_model.proofs.steps.StepCases.{IdleStep, reserves, finds_nothing, is_crowded, is_worn, notes}
@@ -17,10 +17,10 @@ use Rattle.ring_model.proofs.links.FrameChanges.{top_kept}
 use Rattle.ring_model.proofs.seats.FrameEnds.{opened_tail}
 use Rattle.line_model.specs.Due.{Situation, situation_after, pushed_in, IsFillNeededFor, IsFillNeeded, HasNoRecord}
 use Rattle.line_model.specs.Due.{Leaves, IsDue}
-use Rattle.line_model.specs.Accounts.{resting, searching, LineFrame, at_rest}
+use Rattle.line_model.specs.Accounts.{to_look, resting, searching, LineFrame, at_rest}
 use Rattle.line_model.proofs.Standing.{stage_of}
 use Rattle.line_model.proofs.DueRuns.{situation_of, situation_moved, situation_next}
-use Rattle.line_model.proofs.StepDoes.{TopStep, Made, closing_notes, closing_owns, closing_is}
+use Rattle.line_model.proofs.StepDoes.{TopStep, Made, closing_notes, closing_is}
 use Rattle.line_model.proofs.TopStays.{kept, sit, needed, can_have, stack_of_kind, needs_there, leave_due, due_one}
 use Rattle.line_model.proofs.TopStays.{events_are, passes, makes, stays_with}
 use Rattle.line_model.proofs.TopMoves.{held, not_left, there, stand_in, goes, leaves_with, leaves_none}
@@ -59,17 +59,16 @@ module _ (t : TopStep) where
           → next.history ≡ c.history ++ open_fill ∷ []
           → window_of next ≡ window_after (window_of c) (acts open_fill)
           → ((o : ℕ) → noted_fill to ≡ Some o → ⊥)
-          → ((o : ℕ) → owned_update to ≡ Some o → ⊥)
           → stage_of to ≡ at_rest (window_of t.after) t.below t.told
           → Made t
-      goes_to to next is frames h w unnoted unowned rests =
-          stays_with t (acts open_fill ∷ []) t.told false (record t.frame { phase = to })
+      goes_to to next is frames h w unnoted rests =
+          stays_with t (acts open_fill ∷ []) t.told (record t.frame { phase = to })
           (events_are t (acts open_fill ∷ []) refl (ap (λ (d : Core). d.history) is ∙ h)
           (room, sym (ap window_of is ∙ w)))
           (there t, refl) (due_one t (acts open_fill) due)
-          (makes t (opening noted page) (acts open_fill) t.told (stage_of to) at (inl refl) rests)
+          (makes t (opening noted page) (acts open_fill) t.told (stage_of to) at (now, refl) rests)
           (ap (λ (d : Core). d.frames) is ∙ frames) refl
-          (stand_in t to false (λ o e. absurd (unowned o e))) (there t) (λ closing waits o e. absurd (unnoted o e))
+          (stand_in t to) (there t) (λ closing waits o e. absurd (unnoted o e))
 
       by_kind : (kind : Purpose) (st : Progress)
           → t.frame.kind ≡ kind
@@ -78,7 +77,7 @@ module _ (t : TopStep) where
           → t.after ≡ after_begin kind st (with_new_tail c page) t.frame t.under
           → Made t
       by_kind (for_record moment len) waiting k w which is =
-          goes_to idle _ is refl refl refl (λ o e. cc) (λ o e. cc)
+          goes_to idle _ is refl refl refl (λ o e. cc)
           (sym (ap (at_rest (window_of t.after) t.below) (t.one.unwritten (not_left t waiting (λ e. cc) w))))
       by_kind for_close waiting k w which is =
           leaves_with t (acts open_fill ∷ acts (leave None) ∷ []) (with_new_tail c page)
@@ -107,7 +106,6 @@ module _ (t : TopStep) where
       by_kind kind (reserved number) k w (inr e) is = absurd (let no : ⊥ = cc in no)
       by_kind kind left k w which is =
           goes_to (closing_phase (with_new_tail c page)) _ is refl refl refl (closing_notes (with_new_tail c page))
-          (closing_owns (with_new_tail c page))
           (let (told, bottom) = t.one.has_left w in
           closing_is (with_new_tail c page) (window_of t.after) (ap window_of is)
           ∙ sym (ap (λ (lines : List LineFrame). at_rest (window_of t.after) lines None) bottom)
@@ -127,7 +125,7 @@ module _ (t : TopStep) where
       → window_of next ≡ window_of c
       → Made t
   reserves_one moment len r next number k w at r_is fits is frames h win =
-      stays_with t (acts reserve ∷ []) t.told false (record t.frame { state = reserved number; phase = idle })
+      stays_with t (acts reserve ∷ []) t.told (record t.frame { state = reserved number; phase = idle })
       (events_are t (acts reserve ∷ []) refl (ap (λ (d : Core). d.history) is ∙ h) (tt, sym (ap window_of is ∙ win)))
       (held t (not_left t waiting (λ e. cc) w), refl)
       (due_one t (acts reserve) due)
@@ -138,7 +136,6 @@ module _ (t : TopStep) where
         unwritten = λ not. t.one.unwritten (not_left t waiting (λ e. cc) w);
         has_left = λ e. absurd (let no : ⊥ = cc in no);
         stage = refl;
-        moving = λ o e. absurd (let no : ⊥ = cc in no);
       } (inl (held t (not_left t waiting (λ e. cc) w))) (λ closing waits o e. absurd (let no : ⊥ = cc in no))
     where
       due : HasNoRecord (pushed_in s) × (IsFillNeeded s → ⊥)
@@ -174,12 +171,12 @@ module _ (t : TopStep) where
       (leave_due t t.frame.kind refl w here (inr last)) is refl refl refl
   idle_does waiting w active at (notes needs room small a is) =
       goes t (looking c.opened) _
-      (passes t idle searching at (
+      (passes t idle (searching c.opened to_look) at (
         refl,
         needs_there t t.frame.kind refl w needs,
         λ none. ⊎_elim (λ full. absurd (room full)) (λ last. (let no : ⊥ = omega (arith, small, last) in no)) none,
       )) is
-      refl refl refl (λ closing waits o e. cc) (λ o e. absurd (let no : ⊥ = cc in no))
+      refl refl refl (λ closing waits o e. cc)
   idle_does (reserved number) w (inl e) at it = absurd (let no : ⊥ = cc in no)
   idle_does (reserved number) w (inr e) at it = absurd (let no : ⊥ = cc in no)
   idle_does left w active at it = absurd it

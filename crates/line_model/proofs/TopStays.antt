@@ -1,8 +1,7 @@
 -- One step of the frame on top, beside an account: what is needed and due, and what holds after the step, if the frame
 -- is still there or has gone.
-use Rattle.std.proofs.Common.{◌≡◌, ◌≢◌, ℕ, suc, ◌+◌, ◌<◌, ◌≤◌, ◌⊎◌, Bool, List, [], ◌∷◌, ◌++◌, length, Option, Some}
+use Rattle.std.proofs.Common.{◌≡◌, ◌≢◌, ℕ, suc, ◌+◌, ◌<◌, ◌≤◌, ◌⊎◌, List, [], ◌∷◌, ◌++◌, length, Option, Some}
 use Rattle.std.proofs.Common.{None, refl, sym, ap, ◌∙◌, subst, inl, inr, arith, append-nil}
-use Rattle.std.specs.List.{fold}
 use mathlib.Core.Logic.{dite}
 use native.Mathlib.Decide.{dec_le}
 use Rattle.trace_model.specs.declared.limits.TheConstants.{LINK_FILLS}
@@ -10,7 +9,7 @@ use Rattle.trace_model.specs.History.{leave, Reservation, PushedFrame, writer_af
 use Rattle.trace_model.specs.History.{reservation_for}
 use Rattle.trace_model.specs.Packing.{opens_of, tail_of, fill_len, is_wished}
 use Rattle.trace_model.specs.Fitting.{NeedsFill}
-use Rattle.trace_model.specs.Window.{Window, first_window, RingEvent, acts, history_events_of, window_after}
+use Rattle.trace_model.specs.Window.{Window, first_window, RingEvent, acts, history_events_of}
 use Rattle.trace_model.specs.Window.{WindowRunFrom}
 use Rattle.trace_model.specs.Frames.{Purpose, for_record, for_close, Progress, waiting, reserved, left, Phase}
 use Rattle.trace_model.specs.Frames.{noted_fill, pushed_frame, pushed_onto, Frame, pushed_frames}
@@ -36,8 +35,7 @@ use Rattle.line_model.specs.Due.{Leaves, IsDue}
 use Rattle.line_model.specs.Accounts.{Stage, off, LineFrame, IsThere, IsOwn, Does, with_own, stage_after, MayDo}
 use Rattle.line_model.specs.Accounts.{MayPass, stepped}
 use Rattle.line_model.proofs.AccountWindows.{run_leads}
-use Rattle.line_model.proofs.Standing.{FrameStands, FramesStand, steps_of, stage_of, IsAtHead, Stands, OneStep}
-use Rattle.line_model.proofs.TakesCounted.{made_before, none_added}
+use Rattle.line_model.proofs.Standing.{FrameStands, FramesStand, take_of, stage_of, Stands, OneStep}
 use Rattle.line_model.proofs.DueRuns.{situation_of, situation_is, run_on, DueFrom}
 use Rattle.line_model.proofs.StepDoes.{line, never_off, TopStep, Made, stand_counted, kept_payloads, popped_payloads}
 use Rattle.line_model.proofs.StepDoes.{first_frame}
@@ -158,25 +156,10 @@ module _ (t : TopStep) where
     run = run_on t.script.pages t.script.start c t.after t.state.events own t.stands.run are;
     frames = stack;
     seen = t.stands.seen ∙ sym (ap (λ (r : Reader). r.seen) stays.reader);
-    at_rest = λ e. ap (λ (r : Reader). r.phase) stays.reader ∙ t.stands.at_rest e;
-    counted = λ made is. counted_after made (made_before c.head (window_of c) own t.state.made made none_taken is);
+    hint = t.stands.hint ∙ sym (ap (λ (r : Reader). r.hint) stays.reader);
+    take = t.stands.take ∙ sym (ap (λ (r : Reader). take_of r.phase) stays.reader);
     wish = t.stands.wish ∙ sym stays.wish;
   }
-    where
-      none_taken : fills_taken c.head own ≡ []
-      none_taken = none_added (numbers_of c.reader.taken) (fills_taken c.head own)
-          (sym (ap (λ (r : Reader). numbers_of r.taken) stays.reader) ∙ are.took)
-
-      counted_after : (made : ℕ)
-          → (t.state.made ≡ Some made) × ((fold window_after (window_of c) own).head ≡ c.head)
-          → IsAtHead t.after made
-      counted_after made (known, same) =
-          let at = t.stands.counted made known in
-          let window = run_leads t.script.pages c.history (window_of c) (window_of t.after) own are.window in record {
-            steps = ap (λ (r : Reader). steps_of r.phase) stays.reader ∙ at.steps;
-            hint = ap (λ (r : Reader). r.hint) stays.reader ∙ at.hint ∙ sym same
-                ∙ ap (λ (w : Window). w.head) window;
-          }
 
   -- the stage of a frame in this phase
   pub at_stage : (phase : Phase) → t.frame.phase ≡ phase → t.stage ≡ stage_of phase
@@ -224,19 +207,19 @@ module _ (t : TopStep) where
       run_leads t.script.pages [] (first_window t.script.start) (window_of t.after) (t.state.events ++ own)
       (run_on t.script.pages t.script.start c t.after t.state.events own t.stands.run are).window
 
-  one_step : (own : List RingEvent) (q : Option (List ℕ)) (m : Bool) (to : Stage)
+  one_step : (own : List RingEvent) (q : Option (List ℕ)) (to : Stage)
       → AreEventsOf t.script.pages c own t.after
-      → Does t.below (line t.told t.losing t.stage) own (line q m t.stage)
+      → Does t.below (line t.told t.stage) own (line q t.stage)
       → Brief own q to
       → IsRecordOnTop c.frames
-      → OneStep t.script t.state.wish t.below t.state.events (line t.told t.losing t.stage) own (line q m to)
-  one_step own q m to are does brief on_top = by_turn (brief (subst IsRecordOnTop t.top on_top))
+      → OneStep t.script t.state.wish t.below t.state.events (line t.told t.stage) own (line q to)
+  one_step own q to are does brief on_top = by_turn (brief (subst IsRecordOnTop t.top on_top))
     where
       by_turn : Turns own q to
-          → OneStep t.script t.state.wish t.below t.state.events (line t.told t.losing t.stage) own (line q m to)
+          → OneStep t.script t.state.wish t.below t.state.events (line t.told t.stage) own (line q to)
       by_turn (inl (none, may)) =
-          let same : line q m t.stage ≡ line t.told t.losing t.stage =
-          subst (λ (xs : List RingEvent). Does t.below (line t.told t.losing t.stage) xs (line q m t.stage)) none
+          let same : line q t.stage ≡ line t.told t.stage =
+          subst (λ (xs : List RingEvent). Does t.below (line t.told t.stage) xs (line q t.stage)) none
           does in
           inl (
             none,
@@ -246,7 +229,7 @@ module _ (t : TopStep) where
           )
       by_turn (inr (event, is, may, to_is)) =
           let (own_one, same) =
-          subst (λ (xs : List RingEvent). Does t.below (line t.told t.losing t.stage) xs (line q m t.stage)) is does in
+          subst (λ (xs : List RingEvent). Does t.below (line t.told t.stage) xs (line q t.stage)) is does in
           let window : window_at t.script.start (t.state.events ++ event ∷ []) ≡ window_of t.after =
           ap (λ (xs : List RingEvent). window_at t.script.start (t.state.events ++ xs)) (sym is)
           ∙ window_then own are in
@@ -255,38 +238,37 @@ module _ (t : TopStep) where
             is,
             own_one,
             subst (λ (x : Situation). MayDo x t.stage event) (sym (sit)) may,
-            ap (λ (w : Window). stepped w t.below (line t.told t.losing t.stage) event) window
+            ap (λ (w : Window). stepped w t.below (line t.told t.stage) event) window
                 ∙ ap
                 (λ (f : LineFrame).
                 let g : LineFrame = record f { stage = stage_after (window_of t.after) t.below f.payload event } in g)
                 (sym same)
-                ∙ ap (line q m) (sym to_is),
+                ∙ ap (line q) (sym to_is),
           )
 
   -- it is still there
-  pub stays_with : (own : List RingEvent) (q : Option (List ℕ)) (m : Bool) (next : Frame)
+  pub stays_with : (own : List RingEvent) (q : Option (List ℕ)) (next : Frame)
       → AreEventsOf t.script.pages c own t.after
-      → Does t.below (line t.told t.losing t.stage) own (line q m t.stage)
+      → Does t.below (line t.told t.stage) own (line q t.stage)
       → DueFrom t.script t.state.wish t.state.events own
       → Brief own q (stage_of next.phase)
       → t.after.frames ≡ next ∷ t.under
       → next.kind ≡ t.frame.kind
-      → FrameStands next t.payload t.below (line q m (stage_of next.phase))
-      → IsThere t.below (line q m (stage_of next.phase))
+      → FrameStands next t.payload t.below (line q (stage_of next.phase))
+      → IsThere t.below (line q (stage_of next.phase))
       → (next.kind ≡ for_close
       → next.state ≡ waiting
       → (o : ℕ)
       → noted_fill next.phase ≡ Some o
       → o ≡ t.after.opened)
       → Made t
-  stays_with own q m next are does due brief is kind stand there up = record {
+  stays_with own q next are does due brief is kind stand there up = record {
     own = own;
     payload_after = q;
-    losing_after = m;
     stage_after = stage_of next.phase;
     does = does;
     due = due;
-    step = one_step own q m (stage_of next.phase) are does brief;
+    step = one_step own q (stage_of next.phase) are does brief;
     fresh = λ same other under o at closing waits noted.
         let it : other ≡ next = ap (first_frame next) (sym at ∙ is) in
         up (ap (λ (f : Frame). f.kind) (sym it) ∙ closing) (ap (λ (f : Frame). f.state) (sym it) ∙ waits) o
@@ -296,12 +278,12 @@ module _ (t : TopStep) where
       there,
       never_off next.phase,
       ap (λ (xs : List Frame). length xs) is ∙ sym (ap (λ (xs : List Frame). length xs) t.top),
-      stands_after own (line q m (stage_of next.phase) ∷ t.below) are
+      stands_after own (line q (stage_of next.phase) ∷ t.below) are
           (subst
           (λ (xs : List Frame).
-          FramesStand xs (payloads_left xs t.before.payloads) (line q m (stage_of next.phase) ∷ t.below))
+          FramesStand xs (payloads_left xs t.before.payloads) (line q (stage_of next.phase) ∷ t.below))
           (sym is)
-          (subst (λ (xs : List (List ℕ)). FramesStand (next ∷ t.under) xs (line q m (stage_of next.phase) ∷ t.below))
+          (subst (λ (xs : List (List ℕ)). FramesStand (next ∷ t.under) xs (line q (stage_of next.phase) ∷ t.below))
           (sym (ap (payloads_left (next ∷ t.under)) t.paid
           ∙ kept_payloads (next ∷ t.under) (t.payload ∷ t.payloads)
           (ap suc (stand_counted t.under t.payloads t.below t.others)))) (stand, t.others))),
@@ -309,25 +291,24 @@ module _ (t : TopStep) where
   }
 
   -- it has gone
-  pub goes_with : (own : List RingEvent) (m : Bool)
+  pub goes_with : (own : List RingEvent)
       → AreEventsOf t.script.pages c own t.after
-      → Does t.below (line t.told t.losing t.stage) own (line None m t.stage)
+      → Does t.below (line t.told t.stage) own (line None t.stage)
       → DueFrom t.script t.state.wish t.state.events own
       → Brief own None off
       → t.after.frames ≡ t.under
       → ((what : RingEvent)
-      → IsOwn t.below (line None m off) what
+      → IsOwn t.below (line None off) what
       → IsDue (situation_after t.script t.state.wish (t.state.events ++ own)) what
       → ⊥)
       → Made t
-  goes_with own m are does due brief is rests = record {
+  goes_with own are does due brief is rests = record {
     own = own;
     payload_after = None;
-    losing_after = m;
     stage_after = off;
     does = does;
     due = due;
-    step = one_step own None m off are does brief;
+    step = one_step own None off are does brief;
     fresh = λ same. absurd (fewer same);
     record_kept = λ same. absurd (fewer same);
     ends = inr (

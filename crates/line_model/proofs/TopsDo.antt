@@ -1,8 +1,6 @@
 -- What the frame on top does in a run, beside an account: what it does in its steps, one after the other.
-use Rattle.std.proofs.Common.{◌≡◌, ◌≢◌, ℕ, suc, ◌<◌, Bool, List, [], ◌∷◌, ◌++◌, length, Option, Some, None}
+use Rattle.std.proofs.Common.{◌≡◌, ◌≢◌, ℕ, suc, ◌<◌, List, [], ◌∷◌, ◌++◌, length, Option, Some, None}
 use Rattle.std.proofs.Common.{refl, sym, ap, ◌∙◌, subst, inl, inr, ⊎_elim, arith, append_assoc, append-nil}
-use Rattle.std.specs.List.{fold}
-use Rattle.std.proofs.lemmas.List.Sums.{fold-append}
 use Rattle.trace_model.specs.Window.{RingEvent}
 use Rattle.trace_model.specs.Frames.{Progress, waiting, reserved, left, Frame}
 use Rattle.trace_model.specs.Ring.{Core}
@@ -14,7 +12,7 @@ use Rattle.world_model.proofs.FramesMove.{PushesNone}
 use Rattle.world_model.proofs.LanePayloads.{pushes_none}
 use Rattle.line_model.specs.CallEvents.{IsRecordOnTop}
 use Rattle.line_model.specs.Due.{situation_after}
-use Rattle.line_model.specs.Accounts.{Stage, LineFrame, CpuState, IsThere, frame_after, Does, HasGone, made_after}
+use Rattle.line_model.specs.Accounts.{Stage, LineFrame, CpuState, IsThere, frame_after, Does, HasGone}
 use Rattle.line_model.specs.Accounts.{with_own, Steps}
 use Rattle.line_model.proofs.Standing.{FrameStands, FramesStand, Stands, IsFresh, OneStep, StaysOrGoes, TopsDo}
 use Rattle.line_model.proofs.DueRuns.{DueFrom, due_append, are_due}
@@ -22,19 +20,18 @@ use Rattle.line_model.proofs.StepDoes.{line, does_with, never_off, StepDoes}
 use Rattle.line_model.proofs.TopSteps.{step_does}
 
 -- What the frame on top does in these exchanges.
-record RunDoes (script : Script) (before : Lane) (state : CpuState) (payload : Option (List ℕ)) (losing : Bool)
+record RunDoes (script : Script) (before : Lane) (state : CpuState) (payload : Option (List ℕ))
     (stage : Stage) (below : List LineFrame) (exchanges : List Exchange) (after : Lane)
     : Type 0 where
   own : List RingEvent
   payload_after : Option (List ℕ)
-  losing_after : Bool
   stage_after : Stage
-  does : Does below (line payload losing stage) own (line payload_after losing_after stage)
+  does : Does below (line payload stage) own (line payload_after stage)
   due : DueFrom script state.wish state.events own
   steps : IsRecordOnTop before.core.frames
-      → Steps script state.wish below (length exchanges) state.events (line payload losing stage) own
-      (line payload_after losing_after stage_after)
-  ends : StaysOrGoes script before state own (line payload_after losing_after stage_after) below after
+      → Steps script state.wish below (length exchanges) state.events (line payload stage) own
+      (line payload_after stage_after)
+  ends : StaysOrGoes script before state own (line payload_after stage_after) below after
 
 -- ---- the stack
 
@@ -134,37 +131,36 @@ of_writer (frame ∷ below) payloads of = in_state frame.state payloads of
 
 module _ (script : Script) (below : List LineFrame) (depth : ℕ) where
   -- no step is made
-  no_run : (before : Lane) (state : CpuState) (payload : Option (List ℕ)) (losing : Bool) (stage : Stage)
+  no_run : (before : Lane) (state : CpuState) (payload : Option (List ℕ)) (stage : Stage)
       (after : Lane)
-      → Stands script before (record state { frames = line payload losing stage ∷ below })
+      → Stands script before (record state { frames = line payload stage ∷ below })
       → before ≡ after
-      → RunDoes script before state payload losing stage below [] after
-  no_run before state payload losing stage after stands same =
-      let t = has_top before.core.frames before.payloads (line payload losing stage) below stands.frames in
+      → RunDoes script before state payload stage below [] after
+  no_run before state payload stage after stands same =
+      let t = has_top before.core.frames before.payloads (line payload stage) below stands.frames in
       record {
         own = [];
         payload_after = payload;
-        losing_after = losing;
         stage_after = stage;
         does = refl;
         due = tt;
         steps = λ on_top. (refl, refl);
-        ends = subst (StaysOrGoes script before state [] (line payload losing stage) below) same
+        ends = subst (StaysOrGoes script before state [] (line payload stage) below) same
             (inl (
-              there_of t.frame t.payload below (line payload losing stage) t.one,
+              there_of t.frame t.payload below (line payload stage) t.one,
               (λ is. never_off t.frame.phase (sym t.one.stage ∙ is)),
               refl,
               subst (λ (xs : List RingEvent). Stands script before
-                  (record state { events = xs; frames = line payload losing stage ∷ below }))
+                  (record state { events = xs; frames = line payload stage ∷ below }))
                   (sym (append-nil state.events)) stands,
             ));
       }
 
-  module _ (before : Lane) (state : CpuState) (payload : Option (List ℕ)) (losing : Bool) (stage : Stage)
+  module _ (before : Lane) (state : CpuState) (payload : Option (List ℕ)) (stage : Stage)
       (x : Exchange) (core : Core)
-      (d : StepDoes script before state payload losing stage below (lane_behind before core)) where
+      (d : StepDoes script before state payload stage below (lane_behind before core)) where
     abbrev later : CpuState
-    later = record state { events = state.events ++ d.own; made = fold made_after state.made d.own }
+    later = record state { events = state.events ++ d.own }
 
     -- the state after these events and those
     after_both : (more : List RingEvent) (frames : List LineFrame)
@@ -172,28 +168,26 @@ module _ (script : Script) (below : List LineFrame) (depth : ℕ) where
     after_both more frames = λ i. record state {
       events = append_assoc state.events d.own more i;
       frames = frames;
-      made = sym (fold-append made_after state.made d.own more) i;
     }
 
     -- it is still there after the step
     goes_on : (exchanges : List Exchange) (after : Lane)
         → length core.frames ≡ length before.core.frames
-        → RunDoes script (lane_behind before core) later d.payload_after d.losing_after d.stage_after below exchanges
+        → RunDoes script (lane_behind before core) later d.payload_after d.stage_after below exchanges
         after
-        → RunDoes script before state payload losing stage below (x ∷ exchanges) after
+        → RunDoes script before state payload stage below (x ∷ exchanges) after
     goes_on exchanges after long r = record {
       own = d.own ++ r.own;
       payload_after = r.payload_after;
-      losing_after = r.losing_after;
       stage_after = r.stage_after;
-      does = does_append below (line payload losing stage) (line d.payload_after d.losing_after stage)
-          (line r.payload_after r.losing_after stage) d.own r.own d.does
-          (does_with below d.stage_after stage r.own (line d.payload_after d.losing_after stage)
-          (line r.payload_after r.losing_after d.stage_after) r.does);
+      does = does_append below (line payload stage) (line d.payload_after stage)
+          (line r.payload_after stage) d.own r.own d.does
+          (does_with below d.stage_after stage r.own (line d.payload_after stage)
+          (line r.payload_after d.stage_after) r.does);
       due = due_append script state.wish state.events d.own r.own d.due r.due;
       steps = λ on_top.
-          step_on script state.wish below state.events (line payload losing stage) (length exchanges) d.own r.own
-          (line d.payload_after d.losing_after d.stage_after) (line r.payload_after r.losing_after r.stage_after)
+          step_on script state.wish below state.events (line payload stage) (length exchanges) d.own r.own
+          (line d.payload_after d.stage_after) (line r.payload_after r.stage_after)
           (d.step on_top) (r.steps (d.record_kept long on_top));
       ends = ⊎_elim
           (λ (there, on, same, stands). inl (
@@ -201,11 +195,11 @@ module _ (script : Script) (below : List LineFrame) (depth : ℕ) where
             on,
             same ∙ long,
             subst (Stands script after)
-                (after_both r.own (line r.payload_after r.losing_after r.stage_after ∷ below)) stands,
+                (after_both r.own (line r.payload_after r.stage_after ∷ below)) stands,
           ))
           (λ (gone, is_off, fewer, stands). inr (
             subst (λ (xs : List RingEvent). HasGone (situation_after script state.wish xs) below
-                (line r.payload_after r.losing_after r.stage_after))
+                (line r.payload_after r.stage_after))
                 (append_assoc state.events d.own r.own) gone,
             is_off,
             omega (arith, fewer, long),
@@ -219,42 +213,40 @@ module _ (script : Script) (below : List LineFrame) (depth : ℕ) where
         → length core.frames < length before.core.frames
         → length before.core.frames ≡ depth
         → FrameRun script.pages script.size depth (lane_behind before core) exchanges after
-        → RunDoes script before state payload losing stage below (x ∷ exchanges) after
+        → RunDoes script before state payload stage below (x ∷ exchanges) after
     has_gone [] after fewer count same = record {
       own = d.own;
       payload_after = d.payload_after;
-      losing_after = d.losing_after;
       stage_after = d.stage_after;
       does = d.does;
       due = d.due;
-      steps = λ on_top. last_step script state.wish below state.events (line payload losing stage) d.own
-          (line d.payload_after d.losing_after d.stage_after) (d.step on_top);
+      steps = λ on_top. last_step script state.wish below state.events (line payload stage) d.own
+          (line d.payload_after d.stage_after) (d.step on_top);
       ends =
-          subst (StaysOrGoes script before state d.own (line d.payload_after d.losing_after d.stage_after) below) same
+          subst (StaysOrGoes script before state d.own (line d.payload_after d.stage_after) below) same
           d.ends;
     }
     has_gone (y ∷ exchanges) after fewer count (again, asked, next, step, more) =
         absurd (let no : ⊥ = omega (arith, fewer, count, again) in no)
 
-  run_does : (exchanges : List Exchange) (before : Lane) (state : CpuState) (payload : Option (List ℕ)) (losing : Bool)
+  run_does : (exchanges : List Exchange) (before : Lane) (state : CpuState) (payload : Option (List ℕ))
       (stage : Stage) (after : Lane)
-      → Stands script before (record state { frames = line payload losing stage ∷ below })
+      → Stands script before (record state { frames = line payload stage ∷ below })
       → IsFresh before.core
       → length before.core.frames ≡ depth
       → FrameRun script.pages script.size depth before exchanges after
-      → RunDoes script before state payload losing stage below exchanges after
-  run_does [] before state payload losing stage after stands fresh count same =
-      no_run before state payload losing stage after stands same
-  run_does (x ∷ exchanges) before state payload losing stage after stands fresh count
+      → RunDoes script before state payload stage below exchanges after
+  run_does [] before state payload stage after stands fresh count same =
+      no_run before state payload stage after stands same
+  run_does (x ∷ exchanges) before state payload stage after stands fresh count
       (here, event, core, step, run) =
-      let t = has_top before.core.frames before.payloads (line payload losing stage) below stands.frames in
+      let t = has_top before.core.frames before.payloads (line payload stage) below stands.frames in
       let d = step_does
       (record {
         script = script;
         before = before;
         state = state;
         told = payload;
-        losing = losing;
         stage = stage;
         below = below;
         frame = t.frame;
@@ -275,17 +267,17 @@ module _ (script : Script) (below : List LineFrame) (depth : ℕ) where
         step = step;
       }) event in
       ⊎_elim
-      (λ (there, on_it, long, on). goes_on before state payload losing stage x core d exchanges after long
+      (λ (there, on_it, long, on). goes_on before state payload stage x core d exchanges after long
       (run_does exchanges (lane_behind before core)
-      (record state { events = state.events ++ d.own; made = fold made_after state.made d.own }) d.payload_after
-      d.losing_after d.stage_after after on (d.fresh long) (long ∙ count) run))
-      (λ (gone, is_off, fewer, on). has_gone before state payload losing stage x core d exchanges after fewer count run)
+      (record state { events = state.events ++ d.own }) d.payload_after
+      d.stage_after after on (d.fresh long) (long ∙ count) run))
+      (λ (gone, is_off, fewer, on). has_gone before state payload stage x core d exchanges after fewer count run)
       d.ends
 
 -- The frame on top does what an account says.
 pub tops_do : TopsDo
 tops_do script before state top below exchanges after stands is fresh run =
-    let r = run_does script below (length before.core.frames) exchanges before state top.payload top.losing top.stage
+    let r = run_does script below (length before.core.frames) exchanges before state top.payload top.stage
     after
     record {
       reached = stands.reached;
@@ -293,13 +285,13 @@ tops_do script before state top below exchanges after stands is fresh run =
       run = stands.run;
       frames = subst (FramesStand before.core.frames before.payloads) is stands.frames;
       seen = stands.seen;
-      at_rest = stands.at_rest;
-      counted = stands.counted;
+      hint = stands.hint;
+      take = stands.take;
       wish = stands.wish;
     } fresh refl run in
     record {
       own = r.own;
-      next = line r.payload_after r.losing_after r.stage_after;
+      next = line r.payload_after r.stage_after;
       does = r.does;
       due = are_due script state.wish state.events r.own r.due;
       steps = r.steps;

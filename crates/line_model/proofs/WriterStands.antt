@@ -1,7 +1,6 @@
 -- The lines of a writer, from a ring that matches an account: they are lines of the account, and it matches again.
 use Rattle.std.proofs.Common.{◌≡◌, ◌≢◌, ℕ, ◌≤◌, List, [], ◌∷◌, ◌++◌, length, Some, None, refl, sym}
 use Rattle.std.proofs.Common.{ap, ◌∙◌, subst, inl, inr, ⊎_elim, arith, append_assoc}
-use Rattle.std.specs.List.{fold}
 use Rattle.trace_model.specs.declared.limits.TheConstants.{MAX_FRAMES}
 use Rattle.trace_model.specs.History.{HistoryEvent, push, push_close}
 use Rattle.trace_model.specs.Frames.{Purpose, for_record, for_close, idle, noted_fill, Frame, WriteFault}
@@ -16,9 +15,11 @@ use Rattle.text_model.specs.Script.{Script}
 use Rattle.world_model.specs.Lanes.{Lane, FitsKind, lane_with, FrameRun, IsGone, StepsFrame, lacks_to_step, steps_on}
 use Rattle.world_model.specs.Lanes.{FinishesFrame, lacks_to_finish, finishes, PushesFrame, FinishesPushed, WritesFrame}
 use Rattle.line_model.specs.Due.{Situation, situation_after, IsDue}
-use Rattle.line_model.specs.Accounts.{Stage, resting, searching, closing_fills, asking, off, LineFrame, CpuState, Does}
-use Rattle.line_model.specs.Accounts.{HasGone, made_after, with_own, IsIdle, new_frame, IsRefused, Begins}
-use Rattle.line_model.specs.Accounts.{refuses_frame, pushes_frame, Steps, with_top, StepsTop, FinishesTop, finishes_it, WritesWhole, refuses_whole}
+use Rattle.line_model.specs.Accounts.{Stage, resting, searching, moving, closing_fills, asking, off, LineFrame}
+use Rattle.line_model.specs.Accounts.{CpuState, Does}
+use Rattle.line_model.specs.Accounts.{HasGone, with_own, IsIdle, new_frame, IsRefused, Begins}
+use Rattle.line_model.specs.Accounts.{refuses_frame, pushes_frame, Steps, with_top, StepsTop, FinishesTop, finishes_it}
+use Rattle.line_model.specs.Accounts.{WritesWhole, refuses_whole}
 use Rattle.line_model.specs.Accounts.{writes_it}
 use Rattle.line_model.specs.CallEvents.{IsRecordOnTop}
 use Rattle.line_model.specs.LineParts.{AreForRecords}
@@ -57,14 +58,12 @@ module _ (script : Script) (lane : Lane) (state : CpuState) (stands : Stands scr
         unwritten = λ not. refl;
         has_left = λ e. cc;
         stage = refl;
-        moving = λ o e. cc;
       },
       stands.frames,
     );
     seen = stands.seen;
-    at_rest = stands.at_rest;
-    counted = λ made is.
-        let at = stands.counted made is in record { steps = at.steps; hint = at.hint };
+    hint = stands.hint;
+    take = stands.take;
     wish = stands.wish;
   }
 
@@ -222,7 +221,8 @@ module _ (script : Script) (lane : Lane) (state : CpuState) (stands : Stands scr
           → stage ≢ off
           → frame ∷ below ≡ with_top stage frame below
       on_stack resting frame below on = refl
-      on_stack searching frame below on = refl
+      on_stack (searching fill search) frame below on = refl
+      on_stack (moving fill left) frame below on = refl
       on_stack closing_fills frame below on = refl
       on_stack asking frame below on = refl
       on_stack off frame below on = absurd (on refl)
@@ -333,7 +333,7 @@ module _ (script : Script) (lane : Lane) (state : CpuState) (stands : Stands scr
               (any (situation_after script state.wish state.events)) g.due;
           stands = subst
               (λ (l : List RingEvent). Stands script next
-              (record state { events = l; frames = state.frames; made = fold made_after state.made g.own })) same
+              (record state { events = l; frames = state.frames })) same
               g.again;
         }
 

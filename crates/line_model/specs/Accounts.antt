@@ -1,8 +1,7 @@
 -- What the lines of a script do to one CPU, by events of its ring alone: each line adds events of its own, of its frame
 -- or of the reader, and each of them is due. docs/MODEL.md, "What is printed, by histories alone"; tools/account
 -- computes it.
-use Rattle.std.specs.Prelude.{◌≡◌, ◌≢◌, ℕ, zero, suc, ◌+◌, ◌<◌, ◌≤◌, ◌⊎◌, nat_lt, ◌==◌, Bool, true, false}
-use Rattle.std.specs.Prelude.{if◌then◌else◌, fold}
+use Rattle.std.specs.Prelude.{◌≡◌, ◌≢◌, ℕ, zero, suc, ◌+◌, ◌-◌, ◌%◌, ◌<◌, ◌≤◌, ◌⊎◌, ◌==◌, true, if◌then◌else◌}
 use Rattle.std.specs.Prelude.{List, [], ◌∷◌, ◌++◌, length, Option, Some, None, Contains}
 use Rattle.std.specs.List.{slice_get}
 use Rattle.trace_model.specs.declared.limits.TheConstants.{MAX_FRAMES, MOMENT_LIMIT}
@@ -15,37 +14,48 @@ use Rattle.line_model.specs.Due.{Situation, situation_after, window_at, IsFillNe
 
 -- ---- one CPU between two lines
 
+-- How far a frame has come in its search for a fill to begin. to_look: it looks at the position of that fill next: is
+-- the oldest fill still there? to_lose: it loses the oldest fill next. to_begin: it begins its fill next, after `left`
+-- steps more at most, in which it helps a frame below that is moving the head.
+pub data Search : Type 0 where
+  to_look to_lose : Search
+  to_begin : (left : ℕ) → Search
+
 -- What the next step of a frame may be. resting: it reserves its record or leaves, if it needs no fill or can have
--- none. searching: it has found that it needs one, and is to move the head or to begin the fill, in a number of steps
--- that isn't said here. closing_fills: it closes one. asking: none was left to close, and it looks for the reader's
--- wish. off: it makes no step, and is off the stack.
+-- none. searching: it is to begin the fill of this number. moving: it has lost the oldest fill for that, and moves the
+-- head to the next one, in `left` more steps at most before the last, and only then goes on. closing_fills: it closes
+-- one. asking: none was left to close, and it looks for the reader's wish. off: it makes no step, and is off the stack.
 pub data Stage : Type 0 where
-  resting searching closing_fills asking off : Stage
+  resting closing_fills asking off : Stage
+  searching : (fill : ℕ) → Search → Stage
+  moving : (fill left : ℕ) → Stage
 
 -- A frame on the stack. payload: what its line writes, until it has left (of a close frame an empty one, which isn't
--- written). Only a bottom frame is still there then, to close fills, and for the reader's wish. losing: the last thing
--- that it did was to lose a fill, so its move of the head may not be over.
+-- written). Only a bottom frame is still there then, to close fills, and for the reader's wish.
 pub record LineFrame : Type 0 where
   pub payload : Option (List ℕ)
   pub stage : Stage
-  pub losing : Bool
 
--- events: what was done to the ring so far, in one order. frames: the stack, the top first. seen: the reader knows the
--- fills below this one to be closed. in_take: an `r` line may have left a take under way. made: how many steps that
--- take has made, 0 if none is under way; not known if the reader may have to look for the head: a fill was lost since
--- it found that, or a frame was moving it. wish: one more than the number of the fill that the reader asks for, 0
--- before its first wish.
+-- What the next step of a take is. to_find: the reader looks for the oldest fill. to_see: it has found it, and sees
+-- which fills are closed. to_prepare: it was closed, and is to be taken. to_take: it is taken, unless it was lost.
+pub data Take : Type 0 where
+  to_find to_see to_prepare to_take : Take
+
+-- events: what was done to the ring so far, in one order. frames: the stack, the top first. take: the next step of the
+-- reader. hint: it looks for the oldest fill at the position of this one, or has found that it is this one. seen: it
+-- knows the fills below this one to be closed. wish: one more than the number of the fill that it asks for, 0 before
+-- its first wish.
 pub record CpuState : Type 0 where
   pub events : List RingEvent
   pub frames : List LineFrame
+  pub take : Take
+  pub hint : ℕ
   pub seen : ℕ
-  pub in_take : Bool
-  pub made : Option ℕ
   pub wish : ℕ
 
 -- before the first line
 abbrev pub new_cpu : (start : ℕ) → CpuState
-new_cpu start = record { events = []; frames = []; seen = start; in_take = false; made = Some 0; wish = 0 }
+new_cpu start = record { events = []; frames = []; take = to_find; hint = start; seen = start; wish = 0 }
 
 -- ---- what a frame does
 
@@ -70,15 +80,8 @@ IsOwn below frame loses = IsThere below frame
 
 -- the frame after that
 abbrev pub frame_after : LineFrame → RingEvent → LineFrame
-frame_after frame (acts (push moment len)) = record frame { losing = false }
-frame_after frame (acts push_close) = record frame { losing = false }
-frame_after frame (acts open_fill) = record frame { losing = false }
-frame_after frame (acts reserve) = record frame { losing = false }
-frame_after frame (acts (leave payload)) = record frame { payload = None; losing = false }
-frame_after frame (acts wished) = record frame { losing = false }
-frame_after frame closes = record frame { losing = false }
-frame_after frame takes = record frame { losing = false }
-frame_after frame loses = record frame { losing = true }
+frame_after frame (acts (leave payload)) = record frame { payload = None }
+frame_after frame _ = frame
 
 -- it does these, one after the other
 abbrev pub Does : (below : List LineFrame) → LineFrame → List RingEvent → LineFrame → Type 0
@@ -91,15 +94,9 @@ HasGone s below frame = (frame.payload ≡ None) × ((event : RingEvent) → IsO
 
 -- ---- what a line adds
 
--- what is known of the steps of a take, after an event of a frame
-abbrev pub made_after : Option ℕ → RingEvent → Option ℕ
-made_after made loses = None
-made_after made _ = made
-
 -- these events of a frame are added, and then these frames are on the stack
 abbrev pub with_own : CpuState → List RingEvent → List LineFrame → CpuState
-with_own before own frames =
-    record before { events = before.events ++ own; frames = frames; made = fold made_after before.made own }
+with_own before own frames = record before { events = before.events ++ own; frames = frames }
 
 -- nothing is done
 abbrev pub IsIdle : CpuState → List RingEvent → CpuState → Type 0
@@ -107,7 +104,7 @@ IsIdle before own after = (own ≡ []) × (after ≡ before)
 
 -- a frame as it is pushed, for this payload
 abbrev pub new_frame : List ℕ → LineFrame
-new_frame payload = record { payload = Some payload; stage = resting; losing = false }
+new_frame payload = record { payload = Some payload; stage = resting }
 
 -- A record frame is refused: the stack is full, its record is too long, or its moment is too late.
 abbrev pub IsRefused : (size moment len : ℕ) → List LineFrame → Type 0
@@ -134,25 +131,49 @@ at_rest w (frame ∷ below) None = off
 
 -- its stage after an event, if the window is this one then, and this is its payload
 abbrev pub stage_after : Window → (below : List LineFrame) → Option (List ℕ) → RingEvent → Stage
-stage_after w below payload loses = searching
-stage_after w below payload (acts wished) = searching
+stage_after w below payload loses = moving w.opened 2
+stage_after w below payload (acts wished) = searching w.opened to_look
 stage_after w below payload _ = at_rest w below payload
 
+-- one of these frames is moving the head, to begin this fill
+abbrev pub IsMovedFor : (fill : ℕ) → List LineFrame → Type 0
+IsMovedFor fill frames =
+    (frame : LineFrame) × Contains frames frame × (left : ℕ) × (frame.stage ≡ moving fill left)
+
 -- A step in this stage makes this event, if that is due and the frame's own: a resting frame that needs a fill, and can
--- have one, makes none.
+-- have one, makes none, and who searches begins no fill but the next one, and loses none for another.
 abbrev pub MayDo : Situation → Stage → RingEvent → Type 0
 MayDo s resting event = IsFillNeeded s → HasNoFill s
-MayDo s searching event = (event ≡ acts open_fill) ⊎ (event ≡ loses)
+MayDo s (searching fill to_lose) event = (fill ≡ s.window.opened) × (event ≡ loses)
+MayDo s (searching fill (to_begin zero)) event = (fill ≡ s.window.opened) × (event ≡ acts open_fill)
 MayDo s closing_fills event = event ≡ closes
 MayDo s asking event = event ≡ acts wished
-MayDo s off event = ⊥
+MayDo s _ event = ⊥
 
--- Or it makes none, and leads to the stage `next`. A search may go on, or be over at any step, as it is if another
--- frame began the fill; how many steps it takes to its event isn't said. Who asks, and finds no wish, closes fills that were begun meanwhile,
--- or is off.
+-- What a step of a search finds, and to which stage that leads: if the ring is full, the oldest fill is to be lost,
+-- unless it was taken meanwhile; if it isn't, the fill can be begun, at once or after a frame below was helped.
+abbrev pub Finds : Situation → (below : List LineFrame) → (fill : ℕ) → Search → Stage → Type 0
+Finds s below fill to_look next =
+    ((next ≡ searching fill to_lose) × (s.window.opened ≡ s.window.head + s.pages))
+    ⊎ ((s.window.opened < s.window.head + s.pages)
+    × (((next ≡ searching fill (to_begin 0)) × (IsMovedFor fill below → ⊥))
+    ⊎ ((next ≡ searching fill (to_begin 2)) × IsMovedFor fill below)))
+Finds s below fill to_lose next = (next ≡ searching fill to_look) × (s.window.opened < s.window.head + s.pages)
+Finds s below fill (to_begin zero) next = ⊥
+Finds s below fill (to_begin (suc left)) next =
+    (next ≡ searching fill (to_begin left)) ⊎ (next ≡ searching fill (to_begin 0))
+
+-- Or it makes none, and leads to the stage `next`. A search is over if another frame began the fill. A move of the head
+-- goes on all the same; one of its steps is left out if another frame has made it. Who asks, and finds no wish, closes
+-- fills that were begun meanwhile, or is off.
 abbrev pub MayPass : Situation → (below : List LineFrame) → Option (List ℕ) → Stage → Stage → Type 0
-MayPass s below payload resting next = (next ≡ searching) × IsFillNeeded s × (HasNoFill s → ⊥)
-MayPass s below payload searching next = (next ≡ searching) ⊎ (next ≡ at_rest s.window below payload)
+MayPass s below payload resting next =
+    (next ≡ searching s.window.opened to_look) × IsFillNeeded s × (HasNoFill s → ⊥)
+MayPass s below payload (searching fill search) next =
+    ((fill ≢ s.window.opened) × (next ≡ at_rest s.window below payload))
+    ⊎ ((fill ≡ s.window.opened) × Finds s below fill search next)
+MayPass s below payload (moving fill zero) next = next ≡ searching fill (to_begin 0)
+MayPass s below payload (moving fill (suc left)) next = (next ≡ moving fill left) ⊎ (next ≡ moving fill 0)
 MayPass s below payload closing_fills next = ⊥
 MayPass s below payload asking next = (IsWishToFind s → ⊥)
     × (((next ≡ closing_fills) × (s.window.done + 1 < s.window.opened))
@@ -222,87 +243,71 @@ pub data WritesWhole (script : Script) (Refused : Type 0) (event : HistoryEvent)
       → after ≡ with_own before own before.frames
       → WritesWhole script Refused event payload before own after
 
--- a frame on the stack may be moving the head
-abbrev pub IsMoving : List LineFrame → Type 0
-IsMoving frames = (frame : LineFrame) × Contains frames frame × (frame.losing ≡ true)
+-- ---- the reader
 
--- `t`: the oldest fill is taken; nothing only if no closed fill is unread, or a frame may be moving the head, when a
--- fill may be taken or not. The reader then knows which fills are closed; or only what it knew before, if nothing was
--- taken during such a move, or an `r` line came before. It has found the head, if there was no such move.
-pub record TakesPage (start : ℕ) (before : CpuState) (own : List RingEvent) (after : CpuState) : Type 0 where
-  pub own_is : (own ≡ takes ∷ [])
-      ⊎ ((own ≡ []) × (IsMoving before.frames
-      ⊎ ((window_at start before.events).head ≡ (window_at start before.events).done)))
-  pub seen : ℕ
-  pub seen_is : (seen ≡ (window_at start before.events).done)
-      ⊎ ((seen ≡ before.seen) × ((before.in_take ≡ true) ⊎ ((own ≡ []) × IsMoving before.frames)))
-  pub made : Option ℕ
-  pub made_is : (made ≡ Some 0) ⊎ ((made ≡ None) × (own ≡ []) × IsMoving before.frames)
-  pub after_is : after ≡ record before {
-    events = before.events ++ own;
-    seen = seen;
-    in_take = false;
-    made = made;
-  }
+-- Of the fills from the oldest one on, as many as there are positions, each has one. This one has that of the hint.
+abbrev pub IsAtHint : (pages : ℕ) → Window → (hint fill : ℕ) → Type 0
+IsAtHint pages w hint fill = (w.head ≤ fill) × (fill < w.head + pages) × (fill % pages ≡ hint % pages)
 
--- what the reader knows to be closed after the second step of a take that had made `made` before this line
-abbrev pub seen_by : (start made : ℕ) → CpuState → ℕ
-seen_by start made before = if nat_lt made 2 then (window_at start before.events).done else before.seen
+-- the move of the head to the oldest fill isn't over
+abbrev pub IsMovedTo : (pages : ℕ) → Window → List LineFrame → Type 0
+IsMovedTo pages w frames = (fill : ℕ) × (fill + 1 ≡ w.head + pages) × IsMovedFor fill frames
 
--- A take with nothing in its way had made `made` steps before this line, and has made `total` in all: the first finds
--- the head, the second which fills are closed, and the fourth takes the oldest. It ends after the second if that isn't
--- closed.
-pub data TakeSteps (start made total : ℕ) (before : CpuState) (own : List RingEvent) (after : CpuState) : Type 0 where
-  finds_head : total < 2
-      → own ≡ []
-      → after ≡ record before { in_take = true; made = Some total }
-      → TakeSteps start made total before own after
-  finds_none : 2 ≤ total
-      → (window_at start before.events).head ≡ (window_at start before.events).done
-      → own ≡ []
-      → after ≡ record before { seen = seen_by start made before; in_take = false; made = Some 0 }
-      → TakeSteps start made total before own after
-  finds_one : 2 ≤ total
-      → total < 4
-      → (window_at start before.events).head < (window_at start before.events).done
-      → own ≡ []
-      → after ≡ record before { seen = seen_by start made before; in_take = true; made = Some total }
-      → TakeSteps start made total before own after
-  takes_one : 4 ≤ total
-      → own ≡ takes ∷ []
-      → after ≡ record before {
-        events = before.events ++ takes ∷ [];
-        seen = seen_by start made before;
-        in_take = false;
-        made = Some 0;
-      }
-      → TakeSteps start made total before own after
+-- A step of a take that isn't its last. The reader finds the oldest fill where it looks, or that a later one is there,
+-- and looks at the next position; it finds that the oldest one is closed; it prepares; or it looks further, since that
+-- one was lost meanwhile. If the move of the head to it isn't over, the oldest fill may look like a later one.
+abbrev pub GoesOn : (pages : ℕ) → Window → Take → (before after : CpuState) → Type 0
+GoesOn pages w to_find before after =
+    (IsAtHint pages w before.hint w.head × (after ≡ record before { take = to_see; hint = w.head }))
+    ⊎ ((fill : ℕ)
+    × IsAtHint pages w before.hint fill
+    × (before.hint < fill)
+    × ((w.head < fill) ⊎ IsMovedTo pages w before.frames)
+    × (IsMovedFor fill before.frames → ⊥)
+    × (after ≡ record before { hint = fill + 1 - pages }))
+GoesOn pages w to_see before after =
+    (before.hint < w.done) × (after ≡ record before { take = to_prepare; seen = w.done })
+GoesOn pages w to_prepare before after = after ≡ record before { take = to_take }
+GoesOn pages w to_take before after =
+    (before.hint ≢ w.head) × (after ≡ record before { take = to_find; hint = before.hint + 1 })
 
--- `r`: the take makes this many steps. If the reader may have to look for the head, a fill may be taken or not, and
--- the reader may see which fills are closed or not.
-pub data ReadsOn (start count : ℕ) (before : CpuState) (own : List RingEvent) (after : CpuState) : Type 0 where
-  goes_on : (made : ℕ)
-      → before.made ≡ Some made
-      → (IsMoving before.frames → ⊥)
-      → TakeSteps start made (made + count) before own after
-      → ReadsOn start count before own after
-  may_take : (before.made ≡ None) ⊎ IsMoving before.frames
-      → (seen : ℕ)
-      → (seen ≡ (window_at start before.events).done) ⊎ (seen ≡ before.seen)
-      → own ≡ takes ∷ []
-      → after ≡ record before {
-        events = before.events ++ takes ∷ [];
-        seen = seen;
-        in_take = false;
-        made = Some 0;
-      }
-      → ReadsOn start count before own after
-  may_wait : (before.made ≡ None) ⊎ IsMoving before.frames
-      → (seen : ℕ)
-      → (seen ≡ (window_at start before.events).done) ⊎ (seen ≡ before.seen)
-      → own ≡ []
-      → after ≡ record before { seen = seen; in_take = true; made = None }
-      → ReadsOn start count before own after
+-- The last step of a take. A frame is moving the head, from the position where the reader looks, or to it; or the
+-- oldest fill isn't closed; or it is taken.
+abbrev pub EndsTake : (pages : ℕ) → Window → Take → CpuState → (own : List RingEvent) → CpuState → Type 0
+EndsTake pages w to_find before own after = (own ≡ [])
+    × (((fill : ℕ)
+    × IsAtHint pages w before.hint fill
+    × IsMovedFor fill before.frames
+    × (after ≡ record before { hint = fill + 1 - pages }))
+    ⊎ ((before.hint ≡ w.head) × IsMovedTo pages w before.frames × (after ≡ before)))
+EndsTake pages w to_see before own after =
+    (w.done ≤ before.hint) × (own ≡ []) × (after ≡ record before { take = to_find; seen = w.done })
+EndsTake pages w to_prepare before own after = ⊥
+EndsTake pages w to_take before own after = (before.hint ≡ w.head)
+    × (own ≡ takes ∷ [])
+    × (after ≡ record before { events = before.events ++ takes ∷ []; take = to_find; hint = before.hint + 1 })
+
+-- this many steps of a take, none of them its last
+abbrev pub ReadsOn : Script → (count : ℕ) → CpuState → CpuState → Type 0
+ReadsOn script zero before after = before ≡ after
+ReadsOn script (suc count) before after = (between : CpuState)
+    × GoesOn script.pages (window_at script.start before.events) before.take before between
+    × ReadsOn script count between after
+
+-- `t`: a number of such steps, and the last
+pub record TakesPage (script : Script) (before : CpuState) (own : List RingEvent) (after : CpuState) : Type 0 where
+  pub count : ℕ
+  pub between : CpuState
+  pub reads : ReadsOn script count before between
+  pub ends : EndsTake script.pages (window_at script.start between.events) between.take between own after
+
+-- `r`: this many steps, or as for `t`, if that takes no more
+pub data StepsReader (script : Script) (count : ℕ) (before : CpuState) (own : List RingEvent) (after : CpuState)
+    : Type 0 where
+  reads_on : own ≡ [] → ReadsOn script count before after → StepsReader script count before own after
+  ends_before : (take : TakesPage script before own after)
+      → take.count < count
+      → StepsReader script count before own after
 
 -- `a`: the reader asks for the first fill that it doesn't know to be closed; its wish is one more than that one's
 -- number
@@ -329,8 +334,8 @@ Adds script cpu (write at moment payload) before own after =
     before own after
 Adds script cpu (close at) before own after =
     At cpu at (WritesWhole script (MAX_FRAMES ≤ length before.frames) push_close []) before own after
-Adds script cpu (step_reader at count) before own after = At cpu at (ReadsOn script.start count) before own after
-Adds script cpu (take_page at) before own after = At cpu at (TakesPage script.start) before own after
+Adds script cpu (step_reader at count) before own after = At cpu at (StepsReader script count) before own after
+Adds script cpu (take_page at) before own after = At cpu at (TakesPage script) before own after
 Adds script cpu (wish at) before own after = At cpu at Asks before own after
 Adds script cpu (deliver collector at fill) before own after = IsIdle before own after
 
