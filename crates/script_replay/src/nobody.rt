@@ -10,14 +10,15 @@ use trace_model::NoMemory;
 pub(crate) struct Nobody;
 
 impl Teller for Nobody {
-    ghost use Rattle.std.specs.Prelude.{None};
+    ghost use Rattle.std.specs.Prelude.{None, false, refl};
+
+    const TELLS: bool = false;
+
+    ghost TELLS = { false };
 
     ghost told = { λ _. None };
 
-    #[inline(always)]
-    fn tells(&self) -> bool {
-        false
-    }
+    ghost untold = { λ _ _. refl };
 
     #[inline(always)]
     fn tell(

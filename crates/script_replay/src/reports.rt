@@ -1,9 +1,7 @@
 //! What a replay reports as it goes: its log, and its steps if somebody is told of them.
 ghost use Rattle.std.specs.Prelude.{◌≡◌, None, IsFalse, OnOk};
 ghost use Rattle.page_numbers.specs.Parcels.{as_parcel};
-ghost use Rattle.ring_core.specs.Value.{CoreValue};
 ghost use Rattle.script_replay.specs.Tells.{IsStepTold};
-ghost use Rattle.script_replay.specs.declared.asked.Asked.{Asked as AskedSeen};
 ghost use Rattle.script_replay.specs.Reports.{GainsAreReported, IsReported, LineIsReported, MayReport};
 
 use crate::log::{At, LogLine, report, report_any};
@@ -57,44 +55,17 @@ impl<T: Teller> Reports<T> {
         report_any(at, answer, &mut self.log)
     }
 
-    /// Reports a step of a ring by an answer that isn't needed any more, whether or not steps are told.
-    #[cold]
-    #[inline(never)]
-    fn report_told(
-        &mut self,
-        at: At,
-        asked: Asked,
-        answer: Answer,
-        ring: &Core,
-    ) -> Result<(), NoMemory>
-        requires { MayReport at.cpu.0 asked answer ring.now self.old }
-        ensures { OnOk result (IsReported at.line at.cpu.0 asked.entry answer ring.now self.old self.new) }
-    {
-        self.tell(at, asked, &answer, ring)?;
-        report(at, answer, &mut self.log)
-    }
-
     /// Whether steps are told.
     #[inline(always)]
     pub(crate) fn tells(&self) -> bool
         ensures { IsFalse result → self.now.steps ≡ None }
     {
-        self.steps.tells()
+        let _told = &self.steps;
+        T::TELLS
     }
 
-    /// Reports an answer where no step is told: nothing is reported of most answers to a writer. The answer is moved,
-    /// so that it needs no place in memory.
-    #[inline(always)]
-    pub(crate) fn log(&mut self, at: At, answer: Answer) -> Result<(), NoMemory>
-        requires { self.old.steps ≡ None }
-        ensures reported { OnOk result ((asked : AskedSeen) (ring : CoreValue)
-            → IsReported at.line at.cpu.0 asked answer ring self.old self.new) }
-        ensures none { self.new.steps ≡ None }
-    {
-        report(at, answer, &mut self.log)
-    }
-
-    /// Reports an answer, if most steps aren't told.
+    /// Reports a step of a ring by an answer that isn't needed any more. If nobody is told, the answer needs no place
+    /// in memory.
     #[inline(always)]
     pub(crate) fn report(
         &mut self,
@@ -106,9 +77,7 @@ impl<T: Teller> Reports<T> {
         requires { MayReport at.cpu.0 asked answer ring.now self.old }
         ensures { OnOk result (IsReported at.line at.cpu.0 asked.entry answer ring.now self.old self.new) }
     {
-        if self.tells() {
-            return self.report_told(at, asked, answer, ring);
-        }
+        self.tell(at, asked, &answer, ring)?;
         report(at, answer, &mut self.log)
     }
 

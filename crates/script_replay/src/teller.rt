@@ -1,5 +1,5 @@
 //! Tellers of a replay's steps.
-ghost use Rattle.std.specs.Prelude.{◌≡◌, Option, None, flat_map, IfSome, IsFalse, OnOk};
+ghost use Rattle.std.specs.Prelude.{◌≡◌, Bool, Option, None, flat_map, IfSome, IsFalse, OnOk};
 ghost use Rattle.text_model.specs.Printing.{printed_log_line};
 ghost use Rattle.script_replay.specs.log.LogTypes.{shown_log_line};
 ghost use Rattle.page_numbers.specs.Parcels.{as_parcel};
@@ -16,12 +16,13 @@ use trace_model::NoMemory;
 /// Who is told of a replay's steps, and makes their text, or doesn't: a step's text is what isn't known of its ring
 /// yet. What a call leaves if memory is refused is not used.
 pub trait Teller: Drop {
+    /// Whether it makes a text: otherwise it needn't be told.
+    const TELLS: bool;
+
+    ghost TELLS: { Bool };
+
     /// What it has told so far, and knows of the ring of each CPU, if it makes a text.
     ghost told: { Self → Option StepTextValue };
-
-    /// Whether it makes a text: otherwise it needn't be told.
-    fn tells(&self) -> bool
-        ensures { IsFalse result → told self.now ≡ None };
 
     /// Tells a step of the ring of a CPU: what was asked, what it answered, and the ring after it.
     fn tell(&mut self, at: At, asked: Asked, answer: &Answer, ring: &Core) -> Result<(), NoMemory>
@@ -38,4 +39,7 @@ pub trait Teller: Drop {
     fn tell_gains(&mut self, parcel: &Parcel) -> Result<(), NoMemory>
         ensures { OnOk result (IsTextTold (flat_map gain_text (gains_of (as_parcel parcel.now)))
             (told self.old) (told self.new)) };
+
+    /// Who needn't be told makes no text.
+    ghost untold: { IsFalse TELLS → (teller : Self) → told teller ≡ None };
 }

@@ -107,13 +107,16 @@ impl StepText {
 }
 
 impl Teller for StepText {
-    ghost use Rattle.std.specs.Prelude.{Some};
+    ghost use Rattle.std.specs.Prelude.{Some, true};
+    ghost use Rattle.std.proofs.lemmas.Bool.{true≢false};
+
+    const TELLS: bool = true;
+
+    ghost TELLS = { true };
 
     ghost told = { λ text. Some text };
 
-    fn tells(&self) -> bool {
-        true
-    }
+    ghost untold = { λ untold _. absurd (true≢false untold) };
 
     fn tell(&mut self, at: At, asked: Asked, answer: &Answer, ring: &Core) -> Result<(), NoMemory> {
         self.rings[at.cpu.0 as usize].tell(&mut self.text, at, asked, answer, ring)

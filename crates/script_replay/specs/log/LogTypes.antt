@@ -3,7 +3,8 @@ use Rattle.std.specs.Prelude.{List, Option, Some, None, map}
 use Rattle.text_model.specs.Log as model
 use Rattle.ring_frames.specs.Answers.{refusal_of}
 use Rattle.script_replay.specs.declared.log.line.LogLine.{LogLine}
-use Rattle.script_replay.specs.declared.log.line.LogLine.TheVariants.{Refused, Taken, Empty, Moving, Asks, New, Known, NotTaken}
+use Rattle.script_replay.specs.declared.log.line.LogLine.TheVariants.{Refused, Taken, Empty, Moving, Asks, New, Known}
+use Rattle.script_replay.specs.declared.log.line.LogLine.TheVariants.{NotTaken}
 
 -- a line of the log
 abbrev pub shown_log_line : LogLine → model.LogLine

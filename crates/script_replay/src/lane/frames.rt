@@ -8,18 +8,11 @@ use ring_core::{Answer, Event};
 use ring_frames::write_padded;
 use trace_model::NoMemory;
 
-/// For what is called where steps are told, with the type of who is told. What is called elsewhere is a copy of its
-/// own, since so large a function is inlined only if it has one call.
-pub(crate) enum Told {}
-
-/// For what is called where they aren't.
-pub(crate) enum Untold {}
-
 /// More steps than a frame or a take makes in a ring of the most pages.
 pub(crate) const MOST_STEPS: u64 = 8192;
 
 impl<'a> Lane<'a> {
-    ghost use Rattle.std.specs.Prelude.{◌≡◌, ◌≢◌, ℕ, ◌-◌, [], drop, length, None, OnOk};
+    ghost use Rattle.std.specs.Prelude.{◌≡◌, ◌≢◌, ℕ, ◌-◌, [], drop, length, OnOk};
     ghost use Rattle.text_model.specs.Script.{step_frame, finish_frame};
     ghost use Rattle.script_replay.specs.Lanes.{IsLaneOf, IsReportedLane, MakesExchanges, HasLine};
     ghost use Rattle.script_replay.specs.Frames.{AsksTop, StepsOnce, FollowsFrame};
@@ -57,55 +50,9 @@ impl<'a> Lane<'a> {
         self.step(at, MOST_STEPS, reports)
     }
 
-    /// Has the frame on top make `count` steps, or fewer if it is gone before. Whether they are told is asked once, so
-    /// that steps which aren't told take no more for it.
+    /// Has the frame on top make `count` steps, or fewer if it is gone before: then fewer payloads are kept.
     #[inline(always)]
     fn follow<T: Teller>(
-        &mut self,
-        at: At,
-        count: u64,
-        reports: &mut Reports<T>,
-    ) -> Result<(), NoMemory>
-        requires lane { IsReportedLane at.cpu.0 self.old reports.old }
-        requires stands { self.old.core.stack.frames ≢ [] }
-        ensures { OnOk result (MakesExchanges (FollowsFrame count) at.line at.cpu.0
-            self.old reports.old self.new reports.new) }
-    {
-        if reports.tells() {
-            return self.follow_told(at, count, reports);
-        }
-        self.follow_untold(at, count, reports)
-    }
-
-    /// `follow`, if steps aren't told. If the frame is gone, fewer payloads are kept.
-    #[inline(always)]
-    fn follow_untold<T: Teller>(
-        &mut self,
-        at: At,
-        count: u64,
-        reports: &mut Reports<T>,
-    ) -> Result<(), NoMemory>
-        requires lane { IsReportedLane at.cpu.0 self.old reports.old }
-        requires stands { self.old.core.stack.frames ≢ [] }
-        requires untold { reports.old.steps ≡ None }
-        ensures { OnOk result (MakesExchanges (FollowsFrame count) at.line at.cpu.0
-            self.old reports.old self.new reports.new) }
-    {
-        let depth = self.payloads.len();
-        let _payload = self.payloads[depth - 1];
-        let mut steps = 0;
-        while steps < count && self.payloads.len() == depth {
-            let answer = self.step_once::<(Untold, T)>();
-            reports.log(at, answer)?;
-            steps += 1;
-        }
-        Ok(())
-    }
-
-    /// `follow`, whether or not steps are told.
-    #[cold]
-    #[inline(never)]
-    fn follow_told<T: Teller>(
         &mut self,
         at: At,
         count: u64,
@@ -120,7 +67,7 @@ impl<'a> Lane<'a> {
         let payload = self.payloads[depth - 1];
         let mut steps = 0;
         while steps < count && self.payloads.len() == depth {
-            let answer = self.step_once::<(Told, T)>();
+            let answer = self.step_once::<T>();
             reports.report(at, Asked::Top(payload), answer, &self.core)?;
             steps += 1;
         }
@@ -128,19 +75,22 @@ impl<'a> Lane<'a> {
     }
 
     /// One step of the frame on top (`ask_top`). The payload of a frame that is gone is dropped.
+    ///
+    /// This and `ask_top` name who is told, so that each replay has a copy: so large a function is inlined only if it
+    /// has one call.
     #[inline(always)]
-    fn step_once<Steps>(&mut self) -> Answer
+    fn step_once<T: Teller>(&mut self) -> Answer
         requires { (cpu : ℕ) × IsLaneOf cpu self.old }
         ensures { StepsOnce self.old result self.new }
     {
-        let answer = self.ask_top::<Steps>();
+        let answer = self.ask_top::<T>();
         self.forget_gone();
         answer
     }
 
     /// One step of the ring's frame on top: if its record is reserved, its payload is written, and it ends.
     #[inline(always)]
-    fn ask_top<Steps>(&mut self) -> Answer
+    fn ask_top<T: Teller>(&mut self) -> Answer
         requires { (cpu : ℕ) × IsLaneOf cpu self.old }
         ensures ring { self.new ≡ record self.old { core = self.new.core } }
         ensures step { AsksTop self.old result self.new.core }

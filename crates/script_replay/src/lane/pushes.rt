@@ -1,6 +1,5 @@
 //! Frames that are pushed.
 use crate::lane::Lane;
-use crate::lane::frames::{Told, Untold};
 use crate::log::At;
 use crate::reports::Reports;
 use crate::{Asked, Teller};
@@ -30,7 +29,7 @@ impl<'a> Lane<'a> {
             self.old reports.old self.new reports.new) }
     {
         let len = payload.len();
-        let answer = self.push::<(Told, T)>(Event::Push { moment, len }, payload)?;
+        let answer = self.push(Event::Push { moment, len }, payload)?;
         reports.report(at, Asked::Push, answer, &self.core)
     }
 
@@ -113,8 +112,7 @@ impl<'a> Lane<'a> {
         self.push_and_finish(at, Asked::PushClose, Event::PushClose, &[], reports)
     }
 
-    /// Pushes a frame with this payload, and lets it make steps until it is gone. Whether that is told is asked once,
-    /// as in `follow`.
+    /// Pushes a frame with this payload, and lets it make steps until it is gone.
     #[inline(always)]
     fn push_and_finish<T: Teller>(
         &mut self,
@@ -130,37 +128,7 @@ impl<'a> Lane<'a> {
         ensures { OnOk result (HasWritten (push_event event) payload.now at.line at.cpu.0
             self.old reports.old self.new reports.new) }
     {
-        if reports.tells() {
-            return self.write_told(at, asked, event, payload, reports);
-        }
-        let answer = self.push::<(Untold, T)>(event, payload)?;
-        match answer {
-            Answer::Pushed => {
-                reports.log(at, Answer::Pushed)?;
-                self.finish(at, reports)
-            }
-            refused => reports.log(at, refused),
-        }
-    }
-
-    /// `push_and_finish`, whether or not steps are told.
-    #[cold]
-    #[inline(never)]
-    fn write_told<T: Teller>(
-        &mut self,
-        at: At,
-        asked: Asked,
-        event: Event,
-        payload: &'a [u8],
-        reports: &mut Reports<T>,
-    ) -> Result<(), NoMemory>
-        requires lane { IsReportedLane at.cpu.0 self.old reports.old }
-        requires push { IsPushOf event payload.now }
-        requires asked { (core : model.Core) → IsAsked asked core (push_event event) }
-        ensures { OnOk result (HasWritten (push_event event) payload.now at.line at.cpu.0
-            self.old reports.old self.new reports.new) }
-    {
-        let answer = self.push::<(Told, T)>(event, payload)?;
+        let answer = self.push(event, payload)?;
         match answer {
             Answer::Pushed => {
                 reports.report(at, asked, Answer::Pushed, &self.core)?;
@@ -172,7 +140,7 @@ impl<'a> Lane<'a> {
 
     /// Pushes a frame, and keeps its payload if it isn't refused.
     #[inline(always)]
-    fn push<Frames>(&mut self, event: Event, payload: &'a [u8]) -> Result<Answer, NoMemory>
+    fn push(&mut self, event: Event, payload: &'a [u8]) -> Result<Answer, NoMemory>
         requires lane { (cpu : ℕ) × IsLaneOf cpu self.old }
         requires push { IsPushOf event payload.now }
         ensures { IfOk result (λ answer. Pushes (push_event event) payload.now self.old answer self.new) }

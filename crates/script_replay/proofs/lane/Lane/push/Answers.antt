@@ -7,7 +7,7 @@ use Rattle.script_replay.proofs.lane.Lane.push.Goals as goal
 use Rattle.script_replay.proofs.lane.Lane.push.Goals.{in-Pushed+in_ok-push, in_default}
 
 pub returns : goal.returns
-returns g c = subst (λ (v : LaneValue).
+returns c = subst (λ (v : LaneValue).
     Pushes (push_event c.args.event) c.args.payload.now v c.step-answer.result c.match-answer.self) c.self.view_is
     (elim c.match-answer.branch [
       | in-Pushed+in_ok-push w

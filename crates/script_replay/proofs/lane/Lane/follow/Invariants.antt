@@ -1,7 +1,7 @@
 use Rattle.std.proofs.Common.{◌≤◌, ◌-◌}
 use Rattle.script_replay.specs.Lanes.{MakesExchanges}
 use Rattle.script_replay.specs.Frames.{HasMadeSteps}
-use Rattle.script_replay.proofs.lane.Lane.follow_told.Given as goal
+use Rattle.script_replay.proofs.lane.Lane.follow.Given as goal
 
 abbrev pub invariant-loop-steps : goal.invariant-loop-steps
 invariant-loop-steps g l = record {

@@ -6,7 +6,7 @@ use Rattle.script_replay.specs.log.LogTypes.{shown_log}
 use Rattle.script_replay.specs.Tells.{IsStepTold}
 use Rattle.script_replay.specs.Reports.{ReportsValue}
 use Rattle.script_replay.proofs.Reporting.{step_reported}
-use Rattle.script_replay.proofs.reports.Reports.report_told.Goals as goal
+use Rattle.script_replay.proofs.reports.Reports.report.Goals as goal
 
 pub returns : goal.returns
 returns g c =

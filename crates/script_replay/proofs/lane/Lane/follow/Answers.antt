@@ -5,7 +5,7 @@ use Rattle.script_replay.specs.Reports.{MayReport, IsReported}
 use Rattle.script_replay.proofs.LaneValues.{depth_is, kept_many}
 use Rattle.script_replay.proofs.Reporting.{may_report, knows_after}
 use Rattle.script_replay.proofs.FrameRuns.{part_way_none, part_way_turn, top_step, first_payload, asks_top, followed}
-use Rattle.script_replay.proofs.lane.Lane.follow_told.Goals as goal
+use Rattle.script_replay.proofs.lane.Lane.follow.Goals as goal
 
 pub loop-steps-init : goal.loop-steps-init
 loop-steps-init g c = record {
