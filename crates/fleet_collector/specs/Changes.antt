@@ -1,18 +1,29 @@
--- What a mark makes of a stream, and what is made of it when a bound is raised: what `StreamCollector` promises, in one
--- relation for each of its calls.
-use Rattle.std.specs.Prelude.{◌≡◌, ◌↔◌, ℕ, ◌<◌, ◌≤◌, Result, Some, None, Ok, IfErr, OnOk, OnErr}
+-- What a mark makes of a fleet and of its stream, and what is made of them when a bound is raised. Of the stream it is
+-- what `StreamCollector` promises, in one relation for each of its calls.
+use Rattle.std.specs.Prelude.{◌≡◌, ◌↔◌, ℕ, ◌<◌, List, IsSome, Result, Some, None, Ok, IfErr, OnOk, OnErr}
 use Rattle.parcel_streams.specs.declared.piece.Mark.{Mark}
 use Rattle.parcel_streams.specs.declared.piece.Mark.TheVariants.{End as EndMark, Forgotten as ForgottenMark}
 use Rattle.parcel_streams.specs.declared.piece.Mark.TheVariants.{Undelivered as UndeliveredMark}
-use Rattle.stream_collector.specs.Stream.{Stream, bound_of, end_of, IsUpToEnd}
+use Rattle.stream_collector.specs.Stream.{Stream, end_of, IsUpToEnd}
 use Rattle.stream_collector.specs.GivenUp.{GivesUp, AllGivenUp, IsUndeliveredFault}
 use Rattle.stream_collector.specs.Marking.{IsNotOpen, HasEnd, IsEndFault}
-use Rattle.stream_collector.specs.Forgetting.{HasBound, GivesUpBelow, AllAccounted, IsBoundFault, IsForgetFault}
+use Rattle.stream_collector.specs.Forgetting.{RaisesBound, GivesUpBelow, AllAccounted, IsBoundFault, IsForgetFault}
 use Rattle.stream_collector.specs.declared.added.Marked.{Marked}
 use Rattle.stream_collector.specs.declared.added.Marked.TheVariants.{New, Known}
 use Rattle.stream_collector.specs.declared.fault.MarkFault.{MarkFault}
+use Rattle.fleet_collector.specs.Fleet.{known_of, KeepsOthers}
 use Rattle.fleet_collector.specs.declared.change.Change.{Change}
 use Rattle.fleet_collector.specs.declared.change.Change.TheVariants.{End, Forgotten, Forget, GiveUp, Undelivered}
+
+-- What is said of a stream changes no other one, and the stream is there if that is new. Nothing changes if it was
+-- known, nor on a fault.
+pub record MarksStream (old new : List (ℕ × Stream)) (stream : ℕ) (result : Result Marked MarkFault) : Type 0 where
+  pub unchanged : result ≡ Ok Known → new ≡ old
+  pub there : result ≡ Ok New → IsSome (known_of new stream)
+  pub others : KeepsOthers old new stream
+  pub refused : OnErr result (new ≡ old)
+
+-- ---- the stream
 
 -- the CPU's end is set
 pub record SetsEnd (old new : Stream) (cpu count : ℕ) (result : Result Marked MarkFault) : Type 0 where
@@ -24,29 +35,20 @@ pub record SetsEnd (old new : Stream) (cpu count : ℕ) (result : Result Marked 
   pub fault : IfErr result (λ fault. IsEndFault old cpu count fault)
   pub refused : OnErr result (new ≡ old)
 
--- the CPU's bound is raised, if this one is higher
-pub record RaisesBound (old new : Stream) (cpu bound : ℕ) (result : Result Marked MarkFault) : Type 0 where
-  pub known : (result ≡ Ok Known) ↔ (bound ≤ bound_of old cpu)
-  pub unchanged : result ≡ Ok Known → new ≡ old
-  pub higher : result ≡ Ok New → bound_of old cpu < bound
-  pub raised : result ≡ Ok New → HasBound old new cpu bound
-  pub within : OnOk result (IsUpToEnd old cpu bound)
-  pub refused : OnErr result (new ≡ old)
-
--- so it is, and nothing is given up
+-- the CPU's bound is raised, and nothing is given up
 pub record TakesBound (old new : Stream) (cpu bound : ℕ) (result : Result Marked MarkFault) : Type 0 where
   pub raises : RaisesBound old new cpu bound result
   pub given_up : result ≡ Ok New → new.given_up ≡ old.given_up
   pub fault : IfErr result (λ fault. IsBoundFault old cpu bound fault)
 
--- so it is, and all below the bound was accounted for
+-- the CPU's bound is raised, and all below it was accounted for
 pub record ForgetsBelow (old new : Stream) (cpu bound : ℕ) (result : Result Marked MarkFault) : Type 0 where
   pub raises : RaisesBound old new cpu bound result
   pub given_up : result ≡ Ok New → new.given_up ≡ old.given_up
   pub accounted : OnOk result (AllAccounted old cpu bound)
   pub fault : IfErr result (λ fault. IsForgetFault old cpu bound fault)
 
--- so it is, and what was unknown below the bound is given up
+-- the CPU's bound is raised, and what was unknown below it is given up
 pub record LosesBelow (old new : Stream) (cpu bound : ℕ) (result : Result Marked MarkFault) : Type 0 where
   pub raises : RaisesBound old new cpu bound result
   pub given_up : result ≡ Ok New → GivesUpBelow old new.given_up cpu bound

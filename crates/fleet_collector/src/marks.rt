@@ -6,16 +6,16 @@ use stream_collector::{MarkFault, Marked, StreamCollector};
 use trace_model::{CpuId, RecordNo};
 
 impl Fleet {
-    ghost use Rattle.std.specs.Prelude.{◌≡◌, ℕ, ◌<◌, ◌≤◌, ◌↔◌, Some, None, IsSome, Ok, IfErr, OnOk, OnErr};
+    ghost use Rattle.std.specs.Prelude.{◌≡◌, ℕ, ◌<◌, ◌↔◌, Some, None, IsSome, Ok, IfErr, OnOk, OnErr};
     ghost use Rattle.trace_model.specs.declared.limits.TheConstants.{MAX_CPUS};
-    ghost use Rattle.stream_collector.specs.Stream.{bound_of, end_of, IsUpToEnd};
+    ghost use Rattle.stream_collector.specs.Stream.{end_of, IsUpToEnd};
     ghost use Rattle.stream_collector.specs.Marking.{IsNotOpen, HasEnd, IsEndFault};
     ghost use Rattle.stream_collector.specs.GivenUp.{GivesUp, AllGivenUp, IsUndeliveredFault};
-    ghost use Rattle.stream_collector.specs.Forgetting.{HasBound, GivesUpBelow, AllAccounted};
+    ghost use Rattle.stream_collector.specs.Forgetting.{RaisesBound, GivesUpBelow, AllAccounted};
     ghost use Rattle.stream_collector.specs.Forgetting.{IsBoundFault, IsForgetFault};
     ghost use Rattle.stream_collector.specs.declared.added.Marked.TheVariants.{New as NewMark, Known as KnownMark};
     ghost use Rattle.fleet_collector.specs.Fleet.{known_of, stream_at, KeepsOthers};
-    ghost use Rattle.fleet_collector.specs.Changes.{IsChangedBy};
+    ghost use Rattle.fleet_collector.specs.Changes.{MarksStream, IsChangedBy};
 
     /// A CPU of a stream has `count` records, and no more, as with `StreamCollector::set_end`. A stream that isn't
     /// there is made. On a fault nothing has changed.
@@ -26,17 +26,14 @@ impl Fleet {
         count: RecordNo,
     ) -> Result<Marked, MarkFault>
         requires { cpu.0 < MAX_CPUS }
+        ensures marked { MarksStream self.old self.new stream.0 result }
         ensures known { (result ≡ Ok KnownMark) ↔ (end_of (stream_at self.old stream.0) cpu.0 ≡ Some count.0) }
-        ensures unchanged { result ≡ Ok KnownMark → self.new ≡ self.old }
         ensures first { result ≡ Ok NewMark → end_of (stream_at self.old stream.0) cpu.0 ≡ None }
         ensures ended { result ≡ Ok NewMark
             → HasEnd (stream_at self.old stream.0) (stream_at self.new stream.0) cpu.0 count.0 }
-        ensures there { result ≡ Ok NewMark → IsSome (known_of self.new stream.0) }
-        ensures others { KeepsOthers self.old self.new stream.0 }
         ensures nothing_beyond { result ≡ Ok NewMark → (n : ℕ)
             → IsNotOpen (stream_at self.old stream.0) cpu.0 n → n < count.0 }
         ensures fault { IfErr result (λ fault. IsEndFault (stream_at self.old stream.0) cpu.0 count.0 fault) }
-        ensures refused { OnErr result (self.new ≡ self.old) }
     {
         self.change(stream, cpu, Change::End(count))
     }
@@ -50,18 +47,12 @@ impl Fleet {
         bound: RecordNo,
     ) -> Result<Marked, MarkFault>
         requires { cpu.0 < MAX_CPUS }
-        ensures known { (result ≡ Ok KnownMark) ↔ (bound.0 ≤ bound_of (stream_at self.old stream.0) cpu.0) }
-        ensures unchanged { result ≡ Ok KnownMark → self.new ≡ self.old }
-        ensures higher { result ≡ Ok NewMark → bound_of (stream_at self.old stream.0) cpu.0 < bound.0 }
-        ensures raised { result ≡ Ok NewMark
-            → HasBound (stream_at self.old stream.0) (stream_at self.new stream.0) cpu.0 bound.0 }
+        ensures marked { MarksStream self.old self.new stream.0 result }
+        ensures raises { RaisesBound (stream_at self.old stream.0) (stream_at self.new stream.0)
+            cpu.0 bound.0 result }
         ensures given_up { result ≡ Ok NewMark
             → (stream_at self.new stream.0).given_up ≡ (stream_at self.old stream.0).given_up }
-        ensures there { result ≡ Ok NewMark → IsSome (known_of self.new stream.0) }
-        ensures others { KeepsOthers self.old self.new stream.0 }
-        ensures within { OnOk result (IsUpToEnd (stream_at self.old stream.0) cpu.0 bound.0) }
         ensures fault { IfErr result (λ fault. IsBoundFault (stream_at self.old stream.0) cpu.0 bound.0 fault) }
-        ensures refused { OnErr result (self.new ≡ self.old) }
     {
         self.change(stream, cpu, Change::Forgotten(bound))
     }
@@ -75,19 +66,13 @@ impl Fleet {
         bound: RecordNo,
     ) -> Result<Marked, MarkFault>
         requires { cpu.0 < MAX_CPUS }
-        ensures known { (result ≡ Ok KnownMark) ↔ (bound.0 ≤ bound_of (stream_at self.old stream.0) cpu.0) }
-        ensures unchanged { result ≡ Ok KnownMark → self.new ≡ self.old }
-        ensures higher { result ≡ Ok NewMark → bound_of (stream_at self.old stream.0) cpu.0 < bound.0 }
-        ensures raised { result ≡ Ok NewMark
-            → HasBound (stream_at self.old stream.0) (stream_at self.new stream.0) cpu.0 bound.0 }
+        ensures marked { MarksStream self.old self.new stream.0 result }
+        ensures raises { RaisesBound (stream_at self.old stream.0) (stream_at self.new stream.0)
+            cpu.0 bound.0 result }
         ensures given_up { result ≡ Ok NewMark
             → (stream_at self.new stream.0).given_up ≡ (stream_at self.old stream.0).given_up }
-        ensures there { result ≡ Ok NewMark → IsSome (known_of self.new stream.0) }
-        ensures others { KeepsOthers self.old self.new stream.0 }
         ensures accounted { OnOk result (AllAccounted (stream_at self.old stream.0) cpu.0 bound.0) }
-        ensures within { OnOk result (IsUpToEnd (stream_at self.old stream.0) cpu.0 bound.0) }
         ensures fault { IfErr result (λ fault. IsForgetFault (stream_at self.old stream.0) cpu.0 bound.0 fault) }
-        ensures refused { OnErr result (self.new ≡ self.old) }
     {
         self.change(stream, cpu, Change::Forget(bound))
     }
@@ -101,18 +86,12 @@ impl Fleet {
         bound: RecordNo,
     ) -> Result<Marked, MarkFault>
         requires { cpu.0 < MAX_CPUS }
-        ensures known { (result ≡ Ok KnownMark) ↔ (bound.0 ≤ bound_of (stream_at self.old stream.0) cpu.0) }
-        ensures unchanged { result ≡ Ok KnownMark → self.new ≡ self.old }
-        ensures higher { result ≡ Ok NewMark → bound_of (stream_at self.old stream.0) cpu.0 < bound.0 }
-        ensures raised { result ≡ Ok NewMark
-            → HasBound (stream_at self.old stream.0) (stream_at self.new stream.0) cpu.0 bound.0 }
+        ensures marked { MarksStream self.old self.new stream.0 result }
+        ensures raises { RaisesBound (stream_at self.old stream.0) (stream_at self.new stream.0)
+            cpu.0 bound.0 result }
         ensures given_up { result ≡ Ok NewMark → GivesUpBelow (stream_at self.old stream.0)
             (stream_at self.new stream.0).given_up cpu.0 bound.0 }
-        ensures there { result ≡ Ok NewMark → IsSome (known_of self.new stream.0) }
-        ensures others { KeepsOthers self.old self.new stream.0 }
-        ensures within { OnOk result (IsUpToEnd (stream_at self.old stream.0) cpu.0 bound.0) }
         ensures fault { IfErr result (λ fault. IsBoundFault (stream_at self.old stream.0) cpu.0 bound.0 fault) }
-        ensures refused { OnErr result (self.new ≡ self.old) }
     {
         self.change(stream, cpu, Change::GiveUp(bound))
     }
@@ -127,21 +106,18 @@ impl Fleet {
         end: RecordNo,
     ) -> Result<Marked, MarkFault>
         requires { cpu.0 < MAX_CPUS }
+        ensures marked { MarksStream self.old self.new stream.0 result }
         ensures known { result ≡ Ok KnownMark
             → AllGivenUp (stream_at self.old stream.0).given_up cpu.0 first.0 end.0 }
         ensures new_exactly { result ≡ Ok NewMark
             → AllGivenUp (stream_at self.old stream.0).given_up cpu.0 first.0 end.0 → ⊥ }
-        ensures unchanged { result ≡ Ok KnownMark → self.new ≡ self.old }
         ensures given_up { result ≡ Ok NewMark → GivesUp (stream_at self.old stream.0).given_up
             (stream_at self.new stream.0).given_up cpu.0 first.0 end.0 }
         ensures parcels { (stream_at self.new stream.0).parcels ≡ (stream_at self.old stream.0).parcels }
         ensures marks { (stream_at self.new stream.0).marks ≡ (stream_at self.old stream.0).marks }
-        ensures there { result ≡ Ok NewMark → IsSome (known_of self.new stream.0) }
-        ensures others { KeepsOthers self.old self.new stream.0 }
         ensures within { OnOk result (first.0 < end.0 → IsUpToEnd (stream_at self.old stream.0) cpu.0 end.0) }
         ensures fault { IfErr result
             (λ fault. IsUndeliveredFault (stream_at self.old stream.0) cpu.0 first.0 end.0 fault) }
-        ensures refused { OnErr result (self.new ≡ self.old) }
     {
         self.change(stream, cpu, Change::Undelivered(first, end))
     }

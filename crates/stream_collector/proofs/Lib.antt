@@ -7,6 +7,7 @@ pub mod BothRuns
 pub mod Lost
 pub mod KeptParcels
 pub mod WithinEnds
+pub mod Raising
 pub mod CpusMarked
 pub mod Merging
 pub mod MarkWalks

@@ -1,11 +1,13 @@
 -- What becomes of a stream when the bound of a CPU is raised.
-use Rattle.std.specs.Prelude.{◌≡◌, ℕ, ◌<◌, ◌≤◌, ◌⊎◌, ◌↔◌, List, Some}
+use Rattle.std.specs.Prelude.{◌≡◌, ℕ, ◌<◌, ◌≤◌, ◌⊎◌, ◌↔◌, List, Result, Some, Ok, OnOk, OnErr}
 use Rattle.trace_model.specs.Parcel.{Parcel}
 use Rattle.trace_model.specs.Collection.{Misses, IsSame}
 use Rattle.collector.specs.Shown.{IsUnknown}
 use Rattle.collector.specs.Known.{without_ended}
 use Rattle.stream_collector.specs.Marks.{marks_at, bounds_of}
 use Rattle.stream_collector.specs.Stream.{Stream, bound_of, end_of, IsUpToEnd, IsOpen, HasOutcome}
+use Rattle.stream_collector.specs.declared.added.Marked.{Marked}
+use Rattle.stream_collector.specs.declared.added.Marked.TheVariants.{New, Known}
 use Rattle.stream_collector.specs.declared.fault.MarkFault.{MarkFault}
 use Rattle.stream_collector.specs.declared.fault.MarkFault.TheVariants.{OtherEnd, BeyondEnd, NotFinal, NoMemory}
 
@@ -15,6 +17,16 @@ pub record HasBound (old new : Stream) (cpu bound : ℕ) : Type 0 where
   pub marks : marks_at new.marks cpu ≡ record { bound = bound; end = end_of old cpu }
   pub others : (other : ℕ) → (other ≡ cpu → ⊥) → marks_at new.marks other ≡ marks_at old.marks other
   pub kept : IsSame new.parcels (without_ended (bounds_of new.marks) old.parcels)
+
+-- The CPU's bound is raised to this one, if it is higher, and it isn't above the CPU's end. Nothing changes if it isn't
+-- higher, nor on a fault.
+pub record RaisesBound (old new : Stream) (cpu bound : ℕ) (result : Result Marked MarkFault) : Type 0 where
+  pub known : (result ≡ Ok Known) ↔ (bound ≤ bound_of old cpu)
+  pub unchanged : result ≡ Ok Known → new ≡ old
+  pub higher : result ≡ Ok New → bound_of old cpu < bound
+  pub raised : result ≡ Ok New → HasBound old new cpu bound
+  pub within : OnOk result (IsUpToEnd old cpu bound)
+  pub refused : OnErr result (new ≡ old)
 
 -- No bound falls, all ends stay, and what is known is what the parcels have and miss that don't end below the bounds.
 pub record AreRaised (old new : Stream) : Type 0 where

@@ -9,13 +9,13 @@ use collector::Collector;
 use trace_model::{CpuId, NoMemory, RecordNo};
 
 impl StreamCollector {
-    ghost use Rattle.std.specs.Prelude.{◌≡◌, ◌<◌, ◌≤◌, ◌↔◌, Ok, IfOk, IfErr, OnOk, OnErr};
+    ghost use Rattle.std.specs.Prelude.{◌≡◌, ◌<◌, ◌≤◌, Ok, IfOk, IfErr, OnOk, OnErr};
     ghost use Rattle.trace_model.specs.Collection.{IsSame};
     ghost use Rattle.trace_model.specs.declared.limits.TheConstants.{MAX_CPUS};
     ghost use Rattle.stream_collector.specs.Stream.{bound_of, IsUpToEnd, HaveNoRecord};
-    ghost use Rattle.stream_collector.specs.Forgetting.{HasBound, GivesUpBelow, AllAccounted};
+    ghost use Rattle.stream_collector.specs.Forgetting.{HasBound, RaisesBound, GivesUpBelow, AllAccounted};
     ghost use Rattle.stream_collector.specs.Forgetting.{IsBoundFault, IsForgetFault};
-    ghost use Rattle.stream_collector.specs.declared.added.Marked.TheVariants.{New as NewMark, Known as KnownMark};
+    ghost use Rattle.stream_collector.specs.declared.added.Marked.TheVariants.{New as NewMark};
 
     /// What is below this bound of a CPU was forgotten, as the mark of a snapshot says: the CPU's bound is raised to
     /// it, if it is higher, and the parcels that end below are dropped. Whoever wrote the mark has seen to it that
@@ -23,14 +23,9 @@ impl StreamCollector {
     /// them: raise bounds by many records at a time.
     pub fn forgotten(&mut self, cpu: CpuId, bound: RecordNo) -> Result<Marked, MarkFault>
         requires { cpu.0 < MAX_CPUS }
-        ensures known { (result ≡ Ok KnownMark) ↔ (bound.0 ≤ bound_of self.old cpu.0) }
-        ensures unchanged { result ≡ Ok KnownMark → self.new ≡ self.old }
-        ensures higher { result ≡ Ok NewMark → bound_of self.old cpu.0 < bound.0 }
-        ensures raised { result ≡ Ok NewMark → HasBound self.old self.new cpu.0 bound.0 }
+        ensures raises { RaisesBound self.old self.new cpu.0 bound.0 result }
         ensures given_up { result ≡ Ok NewMark → self.new.given_up ≡ self.old.given_up }
-        ensures within { OnOk result (IsUpToEnd self.old cpu.0 bound.0) }
         ensures fault { IfErr result (λ fault. IsBoundFault self.old cpu.0 bound.0 fault) }
-        ensures refused { OnErr result (self.new ≡ self.old) }
     {
         let _marks = &self.marks;
         if bound.0 <= self.marks(cpu).bound {
@@ -48,15 +43,10 @@ impl StreamCollector {
     /// above the end.
     pub fn forget(&mut self, cpu: CpuId, bound: RecordNo) -> Result<Marked, MarkFault>
         requires { cpu.0 < MAX_CPUS }
-        ensures known { (result ≡ Ok KnownMark) ↔ (bound.0 ≤ bound_of self.old cpu.0) }
-        ensures unchanged { result ≡ Ok KnownMark → self.new ≡ self.old }
-        ensures higher { result ≡ Ok NewMark → bound_of self.old cpu.0 < bound.0 }
-        ensures raised { result ≡ Ok NewMark → HasBound self.old self.new cpu.0 bound.0 }
+        ensures raises { RaisesBound self.old self.new cpu.0 bound.0 result }
         ensures given_up { result ≡ Ok NewMark → self.new.given_up ≡ self.old.given_up }
         ensures accounted { OnOk result (AllAccounted self.old cpu.0 bound.0) }
-        ensures within { OnOk result (IsUpToEnd self.old cpu.0 bound.0) }
         ensures fault { IfErr result (λ fault. IsForgetFault self.old cpu.0 bound.0 fault) }
-        ensures refused { OnErr result (self.new ≡ self.old) }
     {
         let watermark = self.watermark(cpu);
         if watermark.0 < bound.0 {
@@ -69,14 +59,9 @@ impl StreamCollector {
     /// as undelivered, and then it is as with `forgotten`.
     pub fn give_up(&mut self, cpu: CpuId, bound: RecordNo) -> Result<Marked, MarkFault>
         requires { cpu.0 < MAX_CPUS }
-        ensures known { (result ≡ Ok KnownMark) ↔ (bound.0 ≤ bound_of self.old cpu.0) }
-        ensures unchanged { result ≡ Ok KnownMark → self.new ≡ self.old }
-        ensures higher { result ≡ Ok NewMark → bound_of self.old cpu.0 < bound.0 }
-        ensures raised { result ≡ Ok NewMark → HasBound self.old self.new cpu.0 bound.0 }
+        ensures raises { RaisesBound self.old self.new cpu.0 bound.0 result }
         ensures given_up { result ≡ Ok NewMark → GivesUpBelow self.old self.new.given_up cpu.0 bound.0 }
-        ensures within { OnOk result (IsUpToEnd self.old cpu.0 bound.0) }
         ensures fault { IfErr result (λ fault. IsBoundFault self.old cpu.0 bound.0 fault) }
-        ensures refused { OnErr result (self.new ≡ self.old) }
     {
         let _marks = &self.marks;
         if bound.0 <= self.marks(cpu).bound {

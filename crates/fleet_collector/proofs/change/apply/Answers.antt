@@ -31,23 +31,25 @@ pub returns-in-Forgotten-clause-cpus : goal.returns-in-Forgotten-clause-cpus
 returns-in-Forgotten-clause-cpus c =
     let a = c.forgotten.ensures in
     cpus_changed c.forgotten.result c.args.known.now c.forgotten.new.self c.args.cpu.0 c.requires
-    (λ e. bound_new c.args.known.now c.forgotten.new.self c.args.cpu.0 c.in-Forgotten.bound.0 (a.raised e)
+    (λ e. bound_new c.args.known.now c.forgotten.new.self c.args.cpu.0 c.in-Forgotten.bound.0 (a.raises.raised e)
     (a.given_up e))
-    a.unchanged a.refused
+    a.raises.unchanged a.raises.refused
 
 pub returns-in-Forget-clause-cpus : goal.returns-in-Forget-clause-cpus
 returns-in-Forget-clause-cpus c =
     let a = c.forget.ensures in
     cpus_changed c.forget.result c.args.known.now c.forget.new.self c.args.cpu.0 c.requires
-    (λ e. bound_new c.args.known.now c.forget.new.self c.args.cpu.0 c.in-Forget.bound.0 (a.raised e) (a.given_up e))
-    a.unchanged a.refused
+    (λ e. bound_new c.args.known.now c.forget.new.self c.args.cpu.0 c.in-Forget.bound.0 (a.raises.raised e)
+    (a.given_up e))
+    a.raises.unchanged a.raises.refused
 
 pub returns-in-GiveUp-clause-cpus : goal.returns-in-GiveUp-clause-cpus
 returns-in-GiveUp-clause-cpus c =
     let a = c.give_up.ensures in
     cpus_changed c.give_up.result c.args.known.now c.give_up.new.self c.args.cpu.0 c.requires
-    (λ e. lost_new c.args.known.now c.give_up.new.self c.args.cpu.0 c.in-GiveUp.bound.0 (a.raised e) (a.given_up e))
-    a.unchanged a.refused
+    (λ e. lost_new c.args.known.now c.give_up.new.self c.args.cpu.0 c.in-GiveUp.bound.0 (a.raises.raised e)
+    (a.given_up e))
+    a.raises.unchanged a.raises.refused
 
 pub returns-in-Undelivered-clause-cpus : goal.returns-in-Undelivered-clause-cpus
 returns-in-Undelivered-clause-cpus c =

@@ -1,18 +1,19 @@
-use Rattle.std.proofs.Common.{ap, ◌∙◌, sym, subst, arith}
+use Rattle.std.proofs.Common.{rules, ap, ◌∙◌, sym, subst, arith}
 use Rattle.stream_collector.specs.declared.marks.Marks.{Marks}
 use Rattle.stream_collector.specs.Stream.{Stream}
 use Rattle.stream_collector.specs.Marking.{AreWithinEnds}
 use Rattle.stream_collector.specs.Forgetting.{HasBound}
 use Rattle.stream_collector.specs.contracts.stream.StreamCollector.{the_view}
-use Rattle.stream_collector.proofs.WithinEnds.{bound_within, lost_standing}
+use Rattle.stream_collector.proofs.WithinEnds.{lost_standing}
+use Rattle.stream_collector.proofs.Raising.{bound_known}
 use Rattle.stream_collector.proofs.stream.StreamCollector.give_up.Goals as goal
 
-pub returns-then-bound-marks-clause-within : goal.returns-then-bound-marks-clause-within
-returns-then-bound-marks-clause-within c end is =
-    let low = bound_within c.args.self.now c.args.cpu.0 (subst AreWithinEnds c.self.view_is c.self.invariant.within) end
-    is in
+pub returns-then-bound-marks-clause-raises : goal.returns-then-bound-marks-clause-raises
+returns-then-bound-marks-clause-raises c =
     let own = ap (λ (m : Marks). m.bound) c.marks.ensures in
-    let le = c.if-bound-marks.true in omega arith
+    let le = c.if-bound-marks.true in
+    bound_known c.args.self.now _ c.args.cpu.0 c.args.bound.0
+    (subst AreWithinEnds c.self.view_is c.self.invariant.within) (omega arith) (search rules)
 
 pub invariant_of-self : goal.invariant_of-self
 invariant_of-self c =
