@@ -1,5 +1,5 @@
 -- What calls answer, as numbers of C; and what a handle held, if its end was taken out.
-use Rattle.std.proofs.Common.{◌≡◌, ℕ, ℤ, pos, List, length, Option, Some, None, Result, Ok, Err, is_some, IsSomeAnd}
+use Rattle.std.proofs.Common.{◌≡◌, ℕ, ℤ, List, length, Option, Some, None, Result, Ok, Err, is_some, IsSomeAnd}
 use Rattle.std.proofs.Common.{refl, sym, ap, ◌∙◌, subst, w32, to_z, of_z}
 use Rattle.std.proofs.lemmas.Bool.{false≢true}
 use Rattle.nested_writer.specs.declared.fault.WriteFault.{WriteFault}
@@ -7,6 +7,7 @@ use Rattle.ring_shared.specs.Value.{WriterValue}
 use Rattle.ring_shared.specs.WholeWrites.{IsWritten, IsRefusedWrite}
 use Rattle.ring_shared.specs.Rooms.{rooms}
 use Rattle.ring_frames.specs.Answers.{KeepsPayloads}
+use Rattle.tracering_c.specs.declared.codes.TheConstants.{DONE, EMPTY, NO_ROOM, NOT_AT_REST}
 use Rattle.tracering_c.specs.declared.ends.HeldReader.{HeldReader}
 use Rattle.tracering_c.specs.declared.taken.Taken.{Taken}
 use Rattle.collector.specs.declared.added.Added.{Added}
@@ -26,7 +27,7 @@ fault_or fault (Some other) = other
 
 pub written_so : (old : WriterValue) (moment : ℕ) (payload : List ℕ) (new : WriterValue)
     → IsWritten old.shape old.part moment payload new.part → KeepsPayloads old.frames.stack new.frames.stack
-    → rooms new ≡ rooms old → WritesSo old moment payload (pos 0) new
+    → rooms new ≡ rooms old → WritesSo old moment payload DONE new
 written_so old moment payload new is payloads same = record {
   refusal = None;
   written = λ none. (refl, is);
@@ -93,10 +94,10 @@ fits_by code number is fits = subst (λ (n : ℤ). to_z w32 (of_z w32 n) ≡ n) 
 -- and that of a peek's answer
 pub peek_fits : (writer : WriterValue) (room : ℕ) (code : ℤ) → AnswersPeek writer room code
     → to_z w32 (of_z w32 code) ≡ code
-peek_fits writer room code (not_at_rest is frames) = fits_by code (pos 18) is refl
-peek_fits writer room code (no_room is none short) = fits_by code (pos 17) is refl
-peek_fits writer room code (empty is none long nothing) = fits_by code (pos 15) is refl
-peek_fits writer room code (peeks is none long some) = fits_by code (pos 0) is refl
+peek_fits writer room code (not_at_rest is frames) = fits_by code NOT_AT_REST is refl
+peek_fits writer room code (no_room is none short) = fits_by code NO_ROOM is refl
+peek_fits writer room code (empty is none long nothing) = fits_by code EMPTY is refl
+peek_fits writer room code (peeks is none long some) = fits_by code DONE is refl
 
 -- an end that was taken out is what the handle held
 pub held_is : {V B : Type 0} (value : B → V) (held : Option V) (result : Option B) (end : B) → result ≡ Some end

@@ -10,6 +10,7 @@ use Rattle.nested_writer.specs.declared.frame.Progress.{Progress}
 use Rattle.nested_writer.specs.declared.frame.Progress.TheVariants.{Waiting, Through, Reserved, Left}
 use Rattle.nested_writer.specs.declared.frame.Slot.{Slot}
 use Rattle.nested_writer.specs.Calls.{HasNoSlot, LacksSlot, IsTopSlot}
+use Rattle.tracering_c.specs.declared.codes.TheConstants.{TOO_LONG, NO_FRAME, NOT_RESERVED}
 use Rattle.tracering_c.specs.Codes.{fault_code}
 
 -- each fits the answer's type
@@ -37,7 +38,7 @@ slot_or_none (Left noted) = inl tt
 pub code_of_unlent : {X : Type 0} (frames : List Frame) (result : Result X WriteFault) (fault : WriteFault)
     → result ≡ Err fault → (result ≡ Err NoFrame) ↔ (frames ≡ []) → (result ≡ Err NotReserved) ↔ LacksSlot frames
     → ((slot : Slot) → IsTopSlot frames slot → IsOk result)
-    → (fault_code fault ≡ pos 6) ⊎ (fault_code fault ≡ pos 7)
+    → (fault_code fault ≡ NO_FRAME) ⊎ (fault_code fault ≡ NOT_RESERVED)
 code_of_unlent [] result fault is none lacks has = inl (ap (λ r. fault_code (fault_in r)) (sym is ∙ none.1 refl))
 code_of_unlent (top ∷ below) result fault is none lacks has = ⊎_elim
     (λ no. inr (ap (λ r. fault_code (fault_in r)) (sym is ∙ lacks.1 no)))
@@ -52,9 +53,9 @@ size_of (negsuc n) = n
 pub never_long : {X : Type 0} (frames : List Frame) (result : Result X WriteFault) (fault : WriteFault)
     → result ≡ Err fault → (result ≡ Err NoFrame) ↔ (frames ≡ []) → (result ≡ Err NotReserved) ↔ LacksSlot frames
     → ((slot : Slot) → IsTopSlot frames slot → IsOk result)
-    → (code : ℤ) → code ≡ fault_code fault → to_z w32 (of_z w32 code) ≡ pos 2 → ⊥
+    → (code : ℤ) → code ≡ fault_code fault → to_z w32 (of_z w32 code) ≡ TOO_LONG → ⊥
 never_long frames result fault is none lacks has code code_is two =
-    let long : fault_code fault ≡ pos 2 =
+    let long : fault_code fault ≡ TOO_LONG =
     sym (code_fits fault) ∙ ap (λ (n : ℤ). to_z w32 (of_z w32 n)) (sym code_is) ∙ two in
     ⊎_elim
     (λ six. let e : 6 ≡ 2 = ap size_of (sym six ∙ long) in omega (arith, e))

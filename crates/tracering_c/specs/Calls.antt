@@ -1,5 +1,5 @@
 -- What the calls of C make of a ring's ends.
-use Rattle.std.specs.Prelude.{◌≡◌, ◌≢◌, ◌↔◌, ◌+◌, ◌<◌, ◌≤◌, ℕ, ℤ, pos, ◌++◌, List, [], ◌∷◌, take, drop, length, Option}
+use Rattle.std.specs.Prelude.{◌≡◌, ◌≢◌, ◌↔◌, ◌+◌, ◌<◌, ◌≤◌, ℕ, ℤ, ◌++◌, List, [], ◌∷◌, take, drop, length, Option}
 use Rattle.std.specs.Prelude.{Some, None}
 use Rattle.trace_model.specs.declared.numbers.FillNo.{FillNo}
 use Rattle.trace_model.specs.Steps as model
@@ -34,6 +34,8 @@ use Rattle.ring_shared.specs.WholeWrites.{IsWritten, IsRefusedWrite}
 use Rattle.ring_shared.specs.Takes.{IsPageTaken, IsEmptyFound, IsMovingFound, AnswersTake}
 use Rattle.ring_shared.specs.Settling.{IsSettled, unread_page}
 use Rattle.ring_shared.specs.declared.settling.Settled.{Settled}
+use Rattle.tracering_c.specs.declared.codes.TheConstants.{DONE, TOO_LONG, NO_FRAME, NOT_RESERVED, NO_MEMORY, BAD_SIZE}
+use Rattle.tracering_c.specs.declared.codes.TheConstants.{BAD_CPU, EMPTY, MOVING, NO_ROOM, NOT_AT_REST, UNREAD}
 use Rattle.tracering_c.specs.declared.ends.HeldReader.{HeldReader}
 use Rattle.tracering_c.specs.declared.ends.Next.{Next}
 use Rattle.tracering_c.specs.declared.ends.Next.TheVariants.{Page as NextPage, Empty as NoneUnread}
@@ -44,11 +46,11 @@ use Rattle.tracering_c.specs.Codes.{fault_code, answer_code, finish_code}
 
 -- ---- the writer
 
--- The record is written whole, and the answer is 0; or it is refused, and the answer is the refusal's number. The
+-- The record is written whole, and the answer is DONE; or it is refused, and the answer is the refusal's number. The
 -- payloads that aren't ended stay in their slots, which have the same room.
 pub record WritesSo (old : WriterValue) (moment : ℕ) (payload : List ℕ) (code : ℤ) (new : WriterValue) : Type 0 where
   pub refusal : Option WriteFault
-  pub written : refusal ≡ None → (code ≡ pos 0) × IsWritten old.shape old.part moment payload new.part
+  pub written : refusal ≡ None → (code ≡ DONE) × IsWritten old.shape old.part moment payload new.part
   pub refused : (fault : WriteFault)
       → refusal ≡ Some fault
       → (code ≡ fault_code fault) × IsRefusedWrite old.shape old.part moment (length payload) fault new.part
@@ -94,22 +96,22 @@ top_room writer = length (top_bytes writer.frames.stack writer.frames.stack.fram
 
 -- The bytes are put to the slot of the record on top, or refused, each number for its own reason.
 pub record PutsSo (old : WriterValue) (bytes : List ℕ) (code : ℤ) (new : WriterValue) : Type 0 where
-  -- 0: they are put
-  pub put : code ≡ pos 0 → IsPut old bytes new
-  -- 2: they are longer than the slot
-  pub long : code ≡ pos 2 → top_room old < length bytes
+  -- they are put
+  pub put : code ≡ DONE → IsPut old bytes new
+  -- they are longer than the slot
+  pub long : code ≡ TOO_LONG → top_room old < length bytes
   -- if there is a slot, they are put exactly if they aren't longer than it
-  pub fits : (slot : Slot) → IsTopSlot old.frames.stack.frames slot → length bytes ≤ top_room old → code ≡ pos 0
+  pub fits : (slot : Slot) → IsTopSlot old.frames.stack.frames slot → length bytes ≤ top_room old → code ≡ DONE
   pub too_long : (slot : Slot)
       → IsTopSlot old.frames.stack.frames slot
       → top_room old < length bytes
-      → code ≡ pos 2
-  -- 6: nothing is begun
-  pub no_frame : code ≡ pos 6 ↔ old.frames.stack.frames ≡ []
-  -- 7: what was begun last has reserved no record
-  pub not_reserved : code ≡ pos 7 ↔ LacksSlot old.frames.stack.frames
+      → code ≡ TOO_LONG
+  -- nothing is begun
+  pub no_frame : code ≡ NO_FRAME ↔ old.frames.stack.frames ≡ []
+  -- what was begun last has reserved no record
+  pub not_reserved : code ≡ NOT_RESERVED ↔ LacksSlot old.frames.stack.frames
   -- whatever the reason, nothing changes
-  pub refused : code ≢ pos 0 → new ≡ old
+  pub refused : code ≢ DONE → new ≡ old
 
 -- ---- the reader
 
@@ -144,19 +146,19 @@ pub data IsNext (old : HeldReader) (page : Contents) (missed : ℕ) (new : HeldR
       → AnswersTake old.reader (Page page missed) new.reader
       → IsNext old page missed new
 
--- No page is next: no closed page is unread, and the answer is 15; or a move of the head isn't finished, or the take
--- has made as many steps as it may, and the answer is 16.
+-- No page is next: no closed page is unread, and the answer is EMPTY; or a move of the head isn't finished, or the take
+-- has made as many steps as it may, and the answer is MOVING.
 pub data HasNoNext (old : HeldReader) (code : ℤ) (new : HeldReader) : Type 0 where
   is_empty : (done : ℕ)
       → (back : List ℕ)
-      → code ≡ pos 15
+      → code ≡ EMPTY
       → old.unadded ≡ None
       → IsEmptyFound old.reader.shape old.reader.part done new.reader.part
       → AnswersTake old.reader (Empty done back) new.reader
       → HasNoNext old code new
   is_moving : (fill : FillNo)
       → (back : List ℕ)
-      → code ≡ pos 16
+      → code ≡ MOVING
       → old.unadded ≡ None
       → IsMovingFound old.reader.shape old.reader.part fill.0 new.reader.part
       → AnswersTake old.reader (Moving fill back) new.reader
@@ -166,15 +168,15 @@ pub data HasNoNext (old : HeldReader) (code : ℤ) (new : HeldReader) : Type 0 w
 abbrev pub GivesNext : HeldReader → Next → HeldReader → Type 0
 GivesNext old (NextPage page missed) new =
     IsNext old page missed new × IsUnadded new.reader record { page = page; missed = missed }
-GivesNext old NoneUnread new = HasNoNext old (pos 15) new × IsHeldReader new
-GivesNext old StillMoving new = HasNoNext old (pos 16) new × IsHeldReader new
+GivesNext old NoneUnread new = HasNoNext old EMPTY new × IsHeldReader new
+GivesNext old StillMoving new = HasNoNext old MOVING new × IsHeldReader new
 
--- The next page is given, and the answer is 0; or nothing is given: no page is next, or the buffer is shorter than a
+-- The next page is given, and the answer is DONE; or nothing is given: no page is next, or the buffer is shorter than a
 -- parcel of the ring.
 pub data TakesSo (old : HeldReader) (out : List ℕ) (was : Taken) (code : ℤ) (left : List ℕ) (reported : Taken)
     (new : HeldReader) : Type 0 where
   is_page : (page : Contents) (missed : ℕ)
-      → code ≡ pos 0
+      → code ≡ DONE
       → IsNext old page missed new
       → new.unadded ≡ None
       → IsGiven old.cpu.0 page missed out left reported
@@ -185,7 +187,7 @@ pub data TakesSo (old : HeldReader) (out : List ℕ) (was : Taken) (code : ℤ) 
       → left ≡ out
       → reported ≡ was
       → TakesSo old out was code left reported new
-  has_no_room : code ≡ pos 17
+  has_no_room : code ≡ NO_ROOM
       → length out < 48 + old.reader.shape.size
       → new ≡ old
       → left ≡ out
@@ -193,9 +195,9 @@ pub data TakesSo (old : HeldReader) (out : List ℕ) (was : Taken) (code : ℤ) 
       → TakesSo old out was code left reported new
 
 -- The wish is for the first fill that the reader doesn't know to be closed, and is one step more that the end made;
--- nothing else of it changes. The answer is 0.
+-- nothing else of it changes. The answer is DONE.
 pub record WishesSo (old : HeldReader) (code : ℤ) (new : HeldReader) : Type 0 where
-  pub code_is : code ≡ pos 0
+  pub code_is : code ≡ DONE
   pub new_is :
       new
       ≡ record old {
@@ -225,17 +227,17 @@ pub record SettlesSo (writer : WriterValue) (end : HeldReader) (out left : List 
 
 -- Why two ends are settled into a buffer of this room, or aren't: the first of these that holds is answered.
 pub data AnswersSettle (writer : WriterValue) (end : HeldReader) (room : ℕ) (code : ℤ) : Type 0 where
-  frames_left : code ≡ pos 18 → writer.part.frames ≢ [] → AnswersSettle writer end room code
-  unread : code ≡ pos 19
+  frames_left : code ≡ NOT_AT_REST → writer.part.frames ≢ [] → AnswersSettle writer end room code
+  unread : code ≡ UNREAD
       → writer.part.frames ≡ []
       → end.reader.empty_at ≢ Some writer.part.done
       → AnswersSettle writer end room code
-  no_room : code ≡ pos 17
+  no_room : code ≡ NO_ROOM
       → writer.part.frames ≡ []
       → end.reader.empty_at ≡ Some writer.part.done
       → room < 48 + end.reader.shape.size
       → AnswersSettle writer end room code
-  settles : code ≡ pos 0
+  settles : code ≡ DONE
       → writer.part.frames ≡ []
       → end.reader.empty_at ≡ Some writer.part.done
       → 48 + end.reader.shape.size ≤ room
@@ -246,7 +248,7 @@ pub data AnswersSettle (writer : WriterValue) (end : HeldReader) (room : ℕ) (c
 -- Why two handles that have nothing get a ring of this CPU and size, or don't: the first of these that holds is
 -- answered.
 pub data AnswersNew (cpu pages size : ℕ) (code : ℤ) : Type 0 where
-  bad_cpu : code ≡ pos 14 → MAX_CPUS ≤ cpu → AnswersNew cpu pages size code
-  bad_size : code ≡ pos 13 → cpu < MAX_CPUS → (HasRingLimits pages size → ⊥) → AnswersNew cpu pages size code
-  no_memory : code ≡ pos 12 → cpu < MAX_CPUS → HasRingLimits pages size → AnswersNew cpu pages size code
-  made : code ≡ pos 0 → cpu < MAX_CPUS → HasRingLimits pages size → AnswersNew cpu pages size code
+  bad_cpu : code ≡ BAD_CPU → MAX_CPUS ≤ cpu → AnswersNew cpu pages size code
+  bad_size : code ≡ BAD_SIZE → cpu < MAX_CPUS → (HasRingLimits pages size → ⊥) → AnswersNew cpu pages size code
+  no_memory : code ≡ NO_MEMORY → cpu < MAX_CPUS → HasRingLimits pages size → AnswersNew cpu pages size code
+  made : code ≡ DONE → cpu < MAX_CPUS → HasRingLimits pages size → AnswersNew cpu pages size code

@@ -1,5 +1,5 @@
 -- The numbers by which C is answered.
-use Rattle.std.specs.Prelude.{ℕ, ℤ, pos, negsuc, Bool, true, false, ◌==◌, ◌&&◌, if◌then◌else◌, Result, Ok, Err}
+use Rattle.std.specs.Prelude.{ℕ, ℤ, Bool, true, false, ◌==◌, ◌&&◌, if◌then◌else◌, Result, Ok, Err}
 use Rattle.record_words.specs.declared.next.WordFault.{WordFault}
 use Rattle.record_words.specs.declared.next.WordFault.TheVariants.{Cut, BadLength, TimeOverflow}
 use Rattle.page_image.specs.declared.image.ImageFault.{ImageFault}
@@ -18,6 +18,11 @@ use Rattle.library_values.specs.declared.listed_collector.adding.AddRefusal.TheV
 use Rattle.library_values.specs.declared.listed_collector.listed.LineNumbers.{LineNumbers}
 use Rattle.library_values.specs.declared.listed_collector.listed.Given.{Given}
 use Rattle.library_values.specs.declared.listed_collector.listed.Given.TheVariants.{Line as IsLine, NoRoom, End}
+use Rattle.tracering_c.specs.declared.codes.TheConstants.{NOTHING_CLOSED, KNOWN, RESERVED, DONE, TOO_DEEP, TOO_LONG}
+use Rattle.tracering_c.specs.declared.codes.TheConstants.{LATE_MOMENT, CROWDED, WORN, NO_FRAME, NOT_RESERVED, NO_MEMORY}
+use Rattle.tracering_c.specs.declared.codes.TheConstants.{BAD_CPU, NO_ROOM, TOO_SHORT, BAD_IMAGE_SIZE, BAD_COUNT, CUT}
+use Rattle.tracering_c.specs.declared.codes.TheConstants.{BAD_LENGTH, TIME_OVERFLOW, NUMBER_OVERFLOW, MISSED_TOO_MANY}
+use Rattle.tracering_c.specs.declared.codes.TheConstants.{MISSED_DIFFERS, CLASH, TAKEN_AND_MISSING, END}
 use Rattle.tracering_c.specs.declared.collected.FaultAt.{FaultAt}
 use Rattle.tracering_c.specs.declared.collected.Listed.{Listed}
 use Rattle.nested_writer.specs.declared.fault.WriteFault.{WriteFault}
@@ -31,27 +36,27 @@ use Rattle.ring_frames.specs.declared.answer.Answer.TheVariants.{Empty, Moving, 
 
 -- the number of a refusal
 abbrev pub fault_code : WriteFault → ℤ
-fault_code TooDeep = pos 1
-fault_code TooLong = pos 2
-fault_code LateMoment = pos 3
-fault_code Crowded = pos 4
-fault_code Worn = pos 5
-fault_code NoFrame = pos 6
-fault_code NotReserved = pos 7
+fault_code TooDeep = TOO_DEEP
+fault_code TooLong = TOO_LONG
+fault_code LateMoment = LATE_MOMENT
+fault_code Crowded = CROWDED
+fault_code Worn = WORN
+fault_code NoFrame = NO_FRAME
+fault_code NotReserved = NOT_RESERVED
 
--- The number of a writer's answer: that of a refusal, -1 for a record that is reserved, else 0.
+-- The number of a writer's answer: that of a refusal, RESERVED for a record that is reserved, else DONE.
 abbrev pub answer_code : Answer → ℤ
-answer_code Pushed = pos 0
-answer_code Going = pos 0
-answer_code (Reserved number) = negsuc 0
-answer_code (Ended how) = pos 0
-answer_code Gone = pos 0
+answer_code Pushed = DONE
+answer_code Going = DONE
+answer_code (Reserved number) = RESERVED
+answer_code (Ended how) = DONE
+answer_code Gone = DONE
 answer_code (Refused fault) = fault_code fault
-answer_code (Looking body) = pos 0
-answer_code (Empty done body) = pos 0
-answer_code (Moving fill body) = pos 0
-answer_code (Taken page missed) = pos 0
-answer_code (Wished fill) = pos 0
+answer_code (Looking body) = DONE
+answer_code (Empty done body) = DONE
+answer_code (Moving fill body) = DONE
+answer_code (Taken page missed) = DONE
+answer_code (Wished fill) = DONE
 
 -- whether the answer is that the frame on top is gone, and it wasn't refused
 abbrev pub is_gone : Answer → Bool
@@ -73,17 +78,18 @@ abbrev pub closed_nothing : WriterValue → Answer → WriterValue → Bool
 closed_nothing old answer new =
     closes_first old.part.frames && is_gone answer && (new.part.opened == old.part.opened)
 
--- The number of the answer to what is finished: -4 for a close that closed nothing, else that of the writer's answer.
+-- The number of the answer to what is finished: its own for a close that closed nothing, else that of the writer's
+-- answer.
 abbrev pub finish_code : WriterValue → Answer → WriterValue → ℤ
-finish_code old answer new = if closed_nothing old answer new then negsuc 3 else answer_code answer
+finish_code old answer new = if closed_nothing old answer new then NOTHING_CLOSED else answer_code answer
 
 -- ---- collectors
 
 -- the number of a bad word, and where it is
 abbrev pub word_code : WordFault → ℤ
-word_code (Cut at) = pos 23
-word_code (BadLength at) = pos 24
-word_code (TimeOverflow at) = pos 25
+word_code (Cut at) = CUT
+word_code (BadLength at) = BAD_LENGTH
+word_code (TimeOverflow at) = TIME_OVERFLOW
 
 abbrev pub word_at : WordFault → ℕ
 word_at (Cut at) = at
@@ -92,29 +98,29 @@ word_at (TimeOverflow at) = at
 
 -- the number of an image's fault
 abbrev pub image_code : ImageFault → ℤ
-image_code TooShort = pos 20
-image_code BadSize = pos 21
-image_code BadCount = pos 22
+image_code TooShort = TOO_SHORT
+image_code BadSize = BAD_IMAGE_SIZE
+image_code BadCount = BAD_COUNT
 image_code (Word fault) = word_code fault
-image_code NoMemoryThere = pos 12
+image_code NoMemoryThere = NO_MEMORY
 
 -- the number of why bytes are no parcel
 abbrev pub parcel_code : ParcelFault → ℤ
 parcel_code (Image fault) = image_code fault
-parcel_code NumberOverflow = pos 26
-parcel_code MissedTooMany = pos 27
-parcel_code MissedDiffers = pos 28
-parcel_code BadCpu = pos 14
-parcel_code NoMemory = pos 12
+parcel_code NumberOverflow = NUMBER_OVERFLOW
+parcel_code MissedTooMany = MISSED_TOO_MANY
+parcel_code MissedDiffers = MISSED_DIFFERS
+parcel_code BadCpu = BAD_CPU
+parcel_code NoMemory = NO_MEMORY
 
 -- the number of what is answered to bytes that are to be added
 abbrev pub add_code : Result Added AddRefusal → ℤ
-add_code (Ok New) = pos 0
-add_code (Ok Known) = negsuc 1
+add_code (Ok New) = DONE
+add_code (Ok Known) = KNOWN
 add_code (Err (NoParcel fault)) = parcel_code fault
-add_code (Err (NotAdded (Clash cpu number))) = pos 29
-add_code (Err (NotAdded (TakenAndMissing cpu number))) = pos 30
-add_code (Err (NotAdded NoMemoryToAdd)) = pos 12
+add_code (Err (NotAdded (Clash cpu number))) = CLASH
+add_code (Err (NotAdded (TakenAndMissing cpu number))) = TAKEN_AND_MISSING
+add_code (Err (NotAdded NoMemoryToAdd)) = NO_MEMORY
 
 -- what is answered to a page that is to be added, as it is to bytes
 abbrev pub page_answer : Result Added AddFault → Result Added AddRefusal
@@ -143,9 +149,9 @@ fault_at was (Err (NotAdded NoMemoryToAdd)) = was
 
 -- the number of what is given of a listing, and the numbers of the line that is next
 abbrev pub given_code : Given → ℤ
-given_code (IsLine numbers) = pos 0
-given_code (NoRoom numbers) = pos 17
-given_code End = pos 31
+given_code (IsLine numbers) = DONE
+given_code (NoRoom numbers) = NO_ROOM
+given_code End = END
 
 abbrev pub line_at : LineNumbers → Listed
 line_at numbers = record {

@@ -1,5 +1,5 @@
 -- What the calls of C make of a collector.
-use Rattle.std.specs.Prelude.{◌≡◌, ℕ, ◌+◌, ℤ, pos, List, length, ltb, cond, [], Option, Some, None, Result, Ok, Err}
+use Rattle.std.specs.Prelude.{◌≡◌, ℕ, ◌+◌, ℤ, List, length, ltb, cond, [], Option, Some, None, Result, Ok, Err}
 use Rattle.trace_model.specs.Parcel.{Parcel}
 use Rattle.trace_model.specs.Collection.{Misses}
 use Rattle.trace_model.specs.Listing.{IsListing}
@@ -16,6 +16,7 @@ use Rattle.library_values.specs.CollectorAdding.{AddsSo, AddsPage}
 use Rattle.library_values.specs.CollectorGiving.{GivesSo}
 use Rattle.library_values.specs.CollectorLines.{lines_of}
 use Rattle.library_values.specs.Runs.{PutsRuns}
+use Rattle.tracering_c.specs.declared.codes.TheConstants.{DONE, NO_ROOM}
 use Rattle.tracering_c.specs.declared.collected.FaultAt.{FaultAt}
 use Rattle.tracering_c.specs.declared.collected.Listed.{Listed}
 use Rattle.tracering_c.specs.declared.taken.Taken.{Taken}
@@ -66,11 +67,11 @@ pub data CollectsSo (old : HeldReader) (listed : ListedCollector) (was : Taken) 
       → reported ≡ was
       → CollectsSo old listed was was_at code reported at new left
 
--- Runs are put as far as there is room, and all are counted: 17 if there is too little room.
+-- Runs are put as far as there is room, and all are counted: NO_ROOM if there is too little room.
 pub record MissesSo (parcels : List Parcel) (cpu : ℕ) (out : List Run) (code : ℤ) (left : List Run) (count : ℕ)
     : Type 0 where
   pub puts : PutsRuns (Misses parcels cpu) out count left
-  pub code_is : code ≡ cond (ltb (length out) count) (pos 17) (pos 0)
+  pub code_is : code ≡ cond (ltb (length out) count) NO_ROOM DONE
 
 -- The collector is listed: its listing's lines are to be given, from the first on.
 pub record IsListed (old : ListedCollector) (count : ℕ) (new : ListedCollector) : Type 0 where

@@ -1,5 +1,5 @@
 -- What the calls of C make of a fleet.
-use Rattle.std.specs.Prelude.{◌≡◌, ℕ, ℤ, pos, List, length, ltb, cond, [], Option, IfSome, IfNone, unwrap_or, Result}
+use Rattle.std.specs.Prelude.{◌≡◌, ℕ, ℤ, List, length, ltb, cond, [], Option, IfSome, IfNone, unwrap_or, Result}
 use Rattle.std.specs.Prelude.{Ok, OnErr}
 use Rattle.trace_model.specs.declared.numbers.Moment.{Moment}
 use Rattle.library_values.specs.declared.runs.Run.{Run}
@@ -21,6 +21,7 @@ use Rattle.library_values.specs.FleetGiving.{GivesSo}
 use Rattle.library_values.specs.FleetLines.{lines_of}
 use Rattle.library_values.specs.Merging as merging
 use Rattle.library_values.specs.Runs.{PutsRuns}
+use Rattle.tracering_c.specs.declared.codes.TheConstants.{DONE, NO_ROOM}
 use Rattle.tracering_c.specs.declared.fleet_codes.StreamFault.{StreamFault}
 use Rattle.tracering_c.specs.declared.fleet_codes.FleetLine.{FleetLine}
 use Rattle.tracering_c.specs.FleetCodes.{answer_code, answer_used, answer_at, marked_code, marked_at, merged_code}
@@ -75,10 +76,10 @@ pub record GivesLeast (holds : ℕ → Type 0) (from was : ℕ) (code : ℤ) (gi
   pub code_is : code ≡ found_code answer
   pub given_is : given ≡ unwrap_or answer was
 
--- Runs are put as far as there is room, and all are counted: 17 if there is too little room.
+-- Runs are put as far as there is room, and all are counted: NO_ROOM if there is too little room.
 pub record RunsSo (holds : ℕ → Type 0) (out : List Run) (code : ℤ) (left : List Run) (count : ℕ) : Type 0 where
   pub puts : PutsRuns holds out count left
-  pub code_is : code ≡ cond (ltb (length out) count) (pos 17) (pos 0)
+  pub code_is : code ≡ cond (ltb (length out) count) NO_ROOM DONE
 
 -- The fleet is listed: its listing's lines are to be given, from the first on.
 pub record IsListed (old : ListedFleet) (count : ℕ) (new : ListedFleet) : Type 0 where

@@ -1,5 +1,5 @@
 -- The numbers by which C is answered of fleets, and what is stored beside them.
-use Rattle.std.specs.Prelude.{ℕ, ℤ, pos, negsuc, Option, Some, None, Result, Ok, Err}
+use Rattle.std.specs.Prelude.{ℕ, ℤ, Option, Some, None, Result, Ok, Err}
 use Rattle.trace_model.specs.declared.numbers.Moment.{Moment}
 use Rattle.collector.specs.declared.fault.AddFault.TheVariants.{Clash, TakenAndMissing, NoMemory as NoMemoryToAdd}
 use Rattle.page_numbers.specs.declared.fault.ParcelFault.{ParcelFault}
@@ -34,29 +34,34 @@ use Rattle.library_values.specs.declared.listed_fleet.listed.LineNumbers.{LineNu
 use Rattle.library_values.specs.declared.listed_fleet.listed.Given.{Given}
 use Rattle.library_values.specs.declared.listed_fleet.listed.Given.TheVariants.{Line as IsLine, NoRoom as LacksRoom}
 use Rattle.library_values.specs.declared.listed_fleet.listed.Given.TheVariants.{End as AtEnd}
+use Rattle.tracering_c.specs.declared.codes.TheConstants.{KNOWN, DONE, NO_MEMORY, NO_ROOM, CLASH, TAKEN_AND_MISSING}
+use Rattle.tracering_c.specs.declared.codes.TheConstants.{END}
+use Rattle.tracering_c.specs.declared.fleet_codes.TheConstants.{FORGOTTEN, NOT_PACKED, PIECE_CUT, BAD_VERSION}
+use Rattle.tracering_c.specs.declared.fleet_codes.TheConstants.{BAD_PIECE_LENGTH, BAD_SUM, BAD_KIND, LOOSE, BAD_MARK}
+use Rattle.tracering_c.specs.declared.fleet_codes.TheConstants.{BEYOND_END, OTHER_END, NOT_FINAL}
 use Rattle.tracering_c.specs.declared.fleet_codes.StreamFault.{StreamFault}
 use Rattle.tracering_c.specs.declared.fleet_codes.FleetLine.{FleetLine}
 use Rattle.tracering_c.specs.Codes.{parcel_code}
 
 -- the number of why bytes have no piece at their front
 abbrev pub piece_code : PieceFault → ℤ
-piece_code NotPacked = pos 33
-piece_code Cut = pos 34
-piece_code BadVersion = pos 35
-piece_code BadLength = pos 36
-piece_code BadSum = pos 37
-piece_code BadKind = pos 38
+piece_code NotPacked = NOT_PACKED
+piece_code Cut = PIECE_CUT
+piece_code BadVersion = BAD_VERSION
+piece_code BadLength = BAD_PIECE_LENGTH
+piece_code BadSum = BAD_SUM
+piece_code BadKind = BAD_KIND
 piece_code (NoParcel fault) = parcel_code fault
-piece_code Loose = pos 39
-piece_code BadMark = pos 40
-piece_code NoPieceMemory = pos 12
+piece_code Loose = LOOSE
+piece_code BadMark = BAD_MARK
+piece_code NoPieceMemory = NO_MEMORY
 
 -- the number of why a parcel isn't added, and under which number of its CPU
 abbrev pub parcel_refusal_code : AddFault → ℤ
-parcel_refusal_code (ParcelBeyondEnd cpu number) = pos 41
-parcel_refusal_code (ParcelRefused (Clash cpu number)) = pos 29
-parcel_refusal_code (ParcelRefused (TakenAndMissing cpu number)) = pos 30
-parcel_refusal_code (ParcelRefused NoMemoryToAdd) = pos 12
+parcel_refusal_code (ParcelBeyondEnd cpu number) = BEYOND_END
+parcel_refusal_code (ParcelRefused (Clash cpu number)) = CLASH
+parcel_refusal_code (ParcelRefused (TakenAndMissing cpu number)) = TAKEN_AND_MISSING
+parcel_refusal_code (ParcelRefused NoMemoryToAdd) = NO_MEMORY
 
 abbrev pub parcel_number : AddFault → Option ℕ
 parcel_number (ParcelBeyondEnd cpu number) = Some number.0
@@ -66,10 +71,10 @@ parcel_number (ParcelRefused NoMemoryToAdd) = None
 
 -- the number of why a mark is refused, or a bound isn't raised
 abbrev pub mark_code : MarkFault → ℤ
-mark_code (OtherEnd number) = pos 42
-mark_code (BeyondEnd number) = pos 41
-mark_code (NotFinal number) = pos 43
-mark_code NoMemory = pos 12
+mark_code (OtherEnd number) = OTHER_END
+mark_code (BeyondEnd number) = BEYOND_END
+mark_code (NotFinal number) = NOT_FINAL
+mark_code NoMemory = NO_MEMORY
 
 abbrev pub mark_number : MarkFault → Option ℕ
 mark_number (OtherEnd number) = Some number.0
@@ -88,9 +93,9 @@ refusal_number (Mark fault) = mark_number fault
 
 -- the number of what became of a piece that was added
 abbrev pub added_code : Added → ℤ
-added_code New = pos 0
-added_code Known = negsuc 1
-added_code Forgotten = negsuc 4
+added_code New = DONE
+added_code Known = KNOWN
+added_code Forgotten = FORGOTTEN
 
 -- the number of what is answered to bytes whose first piece is to be added
 abbrev pub answer_code : AddAnswer → ℤ
@@ -118,8 +123,8 @@ answer_at was (NoPiece fault) = was
 
 -- the number of what is answered to a bound that is to be raised, and where it is refused
 abbrev pub marked_code : Result Marked MarkFault → ℤ
-marked_code (Ok NewMark) = pos 0
-marked_code (Ok KnownMark) = negsuc 1
+marked_code (Ok NewMark) = DONE
+marked_code (Ok KnownMark) = KNOWN
 marked_code (Err fault) = mark_code fault
 
 abbrev pub marked_at : StreamFault → (stream cpu : ℕ) → Result Marked MarkFault → StreamFault
@@ -128,16 +133,16 @@ marked_at was stream cpu (Err fault) = place_at was stream cpu (mark_number faul
 
 -- the number of why streams aren't merged
 abbrev pub merge_code : MergeFault → ℤ
-merge_code (EndsDiffer cpu end other) = pos 42
-merge_code (MergeBeyondEnd cpu number) = pos 41
-merge_code (MergeClash cpu number) = pos 29
-merge_code (MergeTakenAndMissing cpu number) = pos 30
-merge_code NoMergeMemory = pos 12
+merge_code (EndsDiffer cpu end other) = OTHER_END
+merge_code (MergeBeyondEnd cpu number) = BEYOND_END
+merge_code (MergeClash cpu number) = CLASH
+merge_code (MergeTakenAndMissing cpu number) = TAKEN_AND_MISSING
+merge_code NoMergeMemory = NO_MEMORY
 
 -- the number of what is answered to fleets that are to be merged, and where they are at odds
 abbrev pub merged_code : Option FleetMergeFault → ℤ
 merged_code (Some fault) = merge_code fault.fault
-merged_code None = pos 0
+merged_code None = DONE
 
 abbrev pub merge_at : StreamFault → (stream : ℕ) → MergeFault → StreamFault
 merge_at was stream (EndsDiffer cpu end other) = record { stream = stream; number = other.0; cpu = cpu.0 }
@@ -152,8 +157,8 @@ merged_at was None = was
 
 -- the number of what became of a piece that was to go to a buffer, and how many bytes it has, if it could be packed
 abbrev pub packed_code : Result Put ParcelFault → ℤ
-packed_code (Ok (Done len)) = pos 0
-packed_code (Ok (NoRoom len)) = pos 17
+packed_code (Ok (Done len)) = DONE
+packed_code (Ok (NoRoom len)) = NO_ROOM
 packed_code (Err fault) = parcel_code fault
 
 abbrev pub packed_len : ℕ → Result Put ParcelFault → ℕ
@@ -163,13 +168,13 @@ packed_len was (Err fault) = was
 
 -- the number of what is found, or isn't
 abbrev pub found_code : Option ℕ → ℤ
-found_code (Some number) = pos 0
-found_code None = pos 31
+found_code (Some number) = DONE
+found_code None = END
 
 -- the number of a frontier, if there is one, and its moment
 abbrev pub frontier_code : Option Moment → ℤ
-frontier_code (Some moment) = pos 0
-frontier_code None = pos 31
+frontier_code (Some moment) = DONE
+frontier_code None = END
 
 abbrev pub frontier_moment : ℕ → Option Moment → ℕ
 frontier_moment was (Some moment) = moment.0
@@ -177,9 +182,9 @@ frontier_moment was None = was
 
 -- the number of what is given of a listing, and the numbers of the line that is next
 abbrev pub given_code : Given → ℤ
-given_code (IsLine numbers) = pos 0
-given_code (LacksRoom numbers) = pos 17
-given_code AtEnd = pos 31
+given_code (IsLine numbers) = DONE
+given_code (LacksRoom numbers) = NO_ROOM
+given_code AtEnd = END
 
 abbrev pub line_at : LineNumbers → FleetLine
 line_at numbers = record {

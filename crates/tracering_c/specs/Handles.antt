@@ -1,10 +1,11 @@
 -- What the calls of C make of what a handle holds.
-use Rattle.std.specs.Prelude.{◌≡◌, ℤ, pos, Option, Some, None, IfSome, IsSomeAnd}
+use Rattle.std.specs.Prelude.{◌≡◌, ℤ, Option, Some, None, IfSome, IsSomeAnd}
 use Rattle.ring_shared.specs.Value.{WriterValue, SameWriter}
 use Rattle.ring_shared.specs.Calls.{IsWriter}
 use Rattle.ring_shared.specs.Takes.{SameRing}
 use Rattle.library_values.specs.declared.listed_collector.listed.ListedCollector.{ListedCollector}
 use Rattle.library_values.specs.declared.listed_fleet.listed.ListedFleet.{ListedFleet}
+use Rattle.tracering_c.specs.declared.codes.TheConstants.{ABSENT}
 use Rattle.tracering_c.specs.declared.ends.HeldReader.{HeldReader}
 use Rattle.tracering_c.specs.declared.handle.WriterHandle.{WriterHandle}
 use Rattle.tracering_c.specs.declared.handle.ReaderHandle.{ReaderHandle}
@@ -23,8 +24,8 @@ IsReaderHandle handle = IfSome (reader_of handle.held.value) (λ end. IsHeldRead
 
 -- A call on a handle that has nothing says so, and changes nothing of it.
 pub record SaysAbsent {E H : Type 0} (held : Option E) (code : ℤ) (old new : H) : Type 0 where
-  -- the answer is 8
-  pub code_is : held ≡ None → code ≡ pos 8
+  -- the answer is ABSENT
+  pub code_is : held ≡ None → code ≡ ABSENT
   -- the handle is as it was
   pub stays : held ≡ None → new ≡ old
 

@@ -1,5 +1,5 @@
 -- What a peek gives of the page that is written.
-use Rattle.std.specs.Prelude.{◌≡◌, ◌≢◌, ◌+◌, ◌<◌, ◌≤◌, ℕ, ℤ, pos, List, [], drop}
+use Rattle.std.specs.Prelude.{◌≡◌, ◌≢◌, ◌+◌, ◌<◌, ◌≤◌, ℕ, ℤ, List, [], drop}
 use Rattle.trace_model.specs.Record.{Record}
 use Rattle.trace_model.specs.History.{committed_records}
 use Rattle.trace_model.specs.Packing.{first_of_fill}
@@ -8,6 +8,7 @@ use Rattle.trace_model.specs.Parcel.{Parcel}
 use Rattle.page_image.specs.Contents.{Contents}
 use Rattle.nested_writer.specs.Released.{IsRestingTail}
 use Rattle.ring_shared.specs.Value.{WriterValue}
+use Rattle.tracering_c.specs.declared.codes.TheConstants.{DONE, EMPTY, NO_ROOM, NOT_AT_REST}
 use Rattle.tracering_c.specs.declared.taken.Taken.{Taken}
 use Rattle.tracering_c.specs.Calls.{IsGiven, ReadsAs}
 
@@ -46,17 +47,17 @@ pub record IsPeeked (cpu : ℕ) (writer : WriterValue) (out left : List ℕ) (re
 -- Why a writer's newest records are given in a buffer of this room, or aren't: the first of these that holds is
 -- answered.
 pub data AnswersPeek (writer : WriterValue) (room : ℕ) (code : ℤ) : Type 0 where
-  not_at_rest : code ≡ pos 18 → writer.part.frames ≢ [] → AnswersPeek writer room code
-  no_room : code ≡ pos 17
+  not_at_rest : code ≡ NOT_AT_REST → writer.part.frames ≢ [] → AnswersPeek writer room code
+  no_room : code ≡ NO_ROOM
       → writer.part.frames ≡ []
       → room < 48 + writer.shape.size
       → AnswersPeek writer room code
-  empty : code ≡ pos 15
+  empty : code ≡ EMPTY
       → writer.part.frames ≡ []
       → 48 + writer.shape.size ≤ room
       → newest_records writer ≡ []
       → AnswersPeek writer room code
-  peeks : code ≡ pos 0
+  peeks : code ≡ DONE
       → writer.part.frames ≡ []
       → 48 + writer.shape.size ≤ room
       → newest_records writer ≢ []

@@ -1,6 +1,7 @@
 //! The calls on collectors.
-ghost use Rattle.std.specs.Prelude.{◌≡◌, ◌≢◌, ◌↔◌, Some, None, IsSomeAnd, is_some, true, pos, negsuc};
+ghost use Rattle.std.specs.Prelude.{◌≡◌, ◌≢◌, ◌↔◌, Some, None, IsSomeAnd, is_some, true};
 ghost use Rattle.trace_model.specs.Collection.{IsSame};
+ghost use Rattle.tracering_c.specs.declared.codes.TheConstants.{DIFFERENT, DONE, ABSENT, IN_USE, NO_MEMORY};
 ghost use Rattle.tracering_c.specs.declared.ends.HeldCollector.{HeldCollector as EndValue};
 ghost use Rattle.tracering_c.specs.Held.{collector_of};
 ghost use Rattle.tracering_c.specs.Zeros.{AreZeros};
@@ -21,10 +22,10 @@ use trace_model::CpuId;
 /// A collector without a parcel, for a handle that has none.
 #[unsafe(no_mangle)]
 pub extern "C" fn tracering_raw_collector_new(alloc: Global, c: &mut CollectorHandle) -> i32
-    ensures empty { result ≡ pos 0 → IsSomeAnd (collector_of c.new.held.value) (λ end. IsEmpty end.listed) }
-    ensures stays { result ≢ pos 0 → c.new ≡ c.old }
-    ensures no_memory { collector_of c.old.held.value ≡ None → result ≢ pos 0 → result ≡ pos 12 }
-    ensures in_use { is_some (collector_of c.old.held.value) ≡ true → result ≡ pos 9 }
+    ensures empty { result ≡ DONE → IsSomeAnd (collector_of c.new.held.value) (λ end. IsEmpty end.listed) }
+    ensures stays { result ≢ DONE → c.new ≡ c.old }
+    ensures no_memory { collector_of c.old.held.value ≡ None → result ≢ DONE → result ≡ NO_MEMORY }
+    ensures in_use { is_some (collector_of c.old.held.value) ≡ true → result ≡ IN_USE }
 {
     if c.live {
         return IN_USE;
@@ -72,7 +73,7 @@ pub extern "C" fn tracering_raw_collector_missing(
     out: &mut [Run],
     count: &mut usize,
 ) -> i32
-    ensures absent { collector_of c.old.held.value ≡ None → result ≡ pos 8 }
+    ensures absent { collector_of c.old.held.value ≡ None → result ≡ ABSENT }
     ensures out_stays { collector_of c.old.held.value ≡ None → out.new ≡ out.old }
     ensures count_stays { collector_of c.old.held.value ≡ None → count.new ≡ count.old }
     ensures misses { (old : EndValue) → collector_of c.old.held.value ≡ Some old
@@ -104,11 +105,12 @@ pub extern "C" fn tracering_raw_collector_list(
     c: &mut CollectorHandle,
     count: &mut usize,
 ) -> i32
-    ensures absent { collector_of c.old.held.value ≡ None → result ≡ pos 8 }
-    ensures listed { OnCollector c.old c.new (λ old new. result ≡ pos 0 → IsListed old count.new new) }
-    ensures no_memory { (old : EndValue) → collector_of c.old.held.value ≡ Some old → result ≢ pos 0 → result ≡ pos 12 }
-    ensures stays { result ≢ pos 0 → collector_of c.new.held.value ≡ collector_of c.old.held.value }
-    ensures count_stays { result ≢ pos 0 → count.new ≡ count.old }
+    ensures absent { collector_of c.old.held.value ≡ None → result ≡ ABSENT }
+    ensures listed { OnCollector c.old c.new (λ old new. result ≡ DONE → IsListed old count.new new) }
+    ensures no_memory { (old : EndValue) → collector_of c.old.held.value ≡ Some old
+        → result ≢ DONE → result ≡ NO_MEMORY }
+    ensures stays { result ≢ DONE → collector_of c.new.held.value ≡ collector_of c.old.held.value }
+    ensures count_stays { result ≢ DONE → count.new ≡ count.old }
 {
     if !c.live {
         return ABSENT;
@@ -118,10 +120,10 @@ pub extern "C" fn tracering_raw_collector_list(
 
 /// `tracering_raw_collector_list`, of the collector itself.
 fn list_of(alloc: Global, listed: &mut ListedCollector, count: &mut usize) -> i32
-    ensures listed { result ≡ pos 0 → IsListed listed.old count.new listed.new }
-    ensures no_memory { result ≢ pos 0 → result ≡ pos 12 }
-    ensures stays { result ≢ pos 0 → listed.new ≡ listed.old }
-    ensures count_stays { result ≢ pos 0 → count.new ≡ count.old }
+    ensures listed { result ≡ DONE → IsListed listed.old count.new listed.new }
+    ensures no_memory { result ≢ DONE → result ≡ NO_MEMORY }
+    ensures stays { result ≢ DONE → listed.new ≡ listed.old }
+    ensures count_stays { result ≢ DONE → count.new ≡ count.old }
 {
     let Ok(lines) = listed.list(alloc) else {
         return NO_MEMORY;
@@ -163,14 +165,14 @@ pub extern "C" fn tracering_raw_collector_same(
     c: &mut CollectorHandle,
     other: &mut CollectorHandle,
 ) -> i32
-    ensures absent { collector_of c.old.held.value ≡ None → result ≡ pos 8 }
-    ensures other_absent { collector_of other.old.held.value ≡ None → result ≡ pos 8 }
+    ensures absent { collector_of c.old.held.value ≡ None → result ≡ ABSENT }
+    ensures other_absent { collector_of other.old.held.value ≡ None → result ≡ ABSENT }
     ensures same { (left : EndValue) (right : EndValue)
         → collector_of c.old.held.value ≡ Some left → collector_of other.old.held.value ≡ Some right
-        → result ≡ pos 0 ↔ IsSame left.listed.collector right.listed.collector }
+        → result ≡ DONE ↔ IsSame left.listed.collector right.listed.collector }
     ensures different { (left : EndValue) (right : EndValue)
         → collector_of c.old.held.value ≡ Some left → collector_of other.old.held.value ≡ Some right
-        → result ≢ pos 0 → result ≡ negsuc 2 }
+        → result ≢ DONE → result ≡ DIFFERENT }
     ensures stays { collector_of c.new.held.value ≡ collector_of c.old.held.value }
     ensures other_stays { collector_of other.new.held.value ≡ collector_of other.old.held.value }
 {
@@ -182,8 +184,8 @@ pub extern "C" fn tracering_raw_collector_same(
 
 /// `tracering_raw_collector_same`, of the collectors themselves.
 fn same_of(left: &ListedCollector, right: &ListedCollector) -> i32
-    ensures same { result ≡ pos 0 ↔ IsSame left.now.collector right.now.collector }
-    ensures different { result ≢ pos 0 → result ≡ negsuc 2 }
+    ensures same { result ≡ DONE ↔ IsSame left.now.collector right.now.collector }
+    ensures different { result ≢ DONE → result ≡ DIFFERENT }
 {
     if left.collector.same(&right.collector) {
         return DONE;
@@ -195,7 +197,7 @@ fn same_of(left: &ListedCollector, right: &ListedCollector) -> i32
 #[unsafe(no_mangle)]
 pub extern "C" fn tracering_raw_collector_free(alloc: Global, c: &mut CollectorHandle) -> i32
     ensures absent { SaysAbsent (collector_of c.old.held.value) result c.old c.new }
-    ensures freed { (x : EndValue) → collector_of c.old.held.value ≡ Some x → result ≡ pos 0 }
+    ensures freed { (x : EndValue) → collector_of c.old.held.value ≡ Some x → result ≡ DONE }
     ensures none { collector_of c.new.held.value ≡ None }
     ensures cleared { (x : EndValue) → collector_of c.old.held.value ≡ Some x → AreZeros c.new.held.at c.new.live }
 {

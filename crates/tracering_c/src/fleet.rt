@@ -1,6 +1,7 @@
 //! The calls that make, change and free fleets.
-ghost use Rattle.std.specs.Prelude.{◌≡◌, ◌≢◌, ◌<◌, ◌≤◌, Some, None, IsSomeAnd, is_some, true, pos};
+ghost use Rattle.std.specs.Prelude.{◌≡◌, ◌≢◌, ◌<◌, ◌≤◌, Some, None, IsSomeAnd, is_some, true};
 ghost use Rattle.trace_model.specs.declared.limits.TheConstants.{MAX_CPUS};
+ghost use Rattle.tracering_c.specs.declared.codes.TheConstants.{DONE, IN_USE, NO_MEMORY, BAD_CPU};
 ghost use Rattle.tracering_c.specs.declared.ends.HeldFleet.{HeldFleet as EndValue};
 ghost use Rattle.tracering_c.specs.Held.{fleet_of};
 ghost use Rattle.tracering_c.specs.Zeros.{AreZeros};
@@ -19,10 +20,10 @@ use trace_model::{CpuId, MAX_CPUS, RecordNo};
 /// A fleet of which no stream is there, for a handle that has none.
 #[unsafe(no_mangle)]
 pub extern "C" fn tracering_raw_fleet_new(alloc: Global, f: &mut FleetHandle) -> i32
-    ensures empty { result ≡ pos 0 → IsSomeAnd (fleet_of f.new.held.value) (λ end. IsEmpty end.listed) }
-    ensures stays { result ≢ pos 0 → f.new ≡ f.old }
-    ensures no_memory { fleet_of f.old.held.value ≡ None → result ≢ pos 0 → result ≡ pos 12 }
-    ensures in_use { is_some (fleet_of f.old.held.value) ≡ true → result ≡ pos 9 }
+    ensures empty { result ≡ DONE → IsSomeAnd (fleet_of f.new.held.value) (λ end. IsEmpty end.listed) }
+    ensures stays { result ≢ DONE → f.new ≡ f.old }
+    ensures no_memory { fleet_of f.old.held.value ≡ None → result ≢ DONE → result ≡ NO_MEMORY }
+    ensures in_use { is_some (fleet_of f.old.held.value) ≡ true → result ≡ IN_USE }
 {
     if f.live {
         return IN_USE;
@@ -85,7 +86,7 @@ pub extern "C" fn tracering_raw_fleet_forget(
     ensures at_stays { fleet_of f.old.held.value ≡ None → at.new ≡ at.old }
     ensures forgets { cpu < MAX_CPUS
         → OnFleet f.old f.new (λ old new. ForgetsSo old stream cpu bound at.old result at.new new) }
-    ensures bad_cpu { (x : EndValue) → fleet_of f.old.held.value ≡ Some x → MAX_CPUS ≤ cpu → result ≡ pos 14 }
+    ensures bad_cpu { (x : EndValue) → fleet_of f.old.held.value ≡ Some x → MAX_CPUS ≤ cpu → result ≡ BAD_CPU }
     ensures bad_cpu_stays { MAX_CPUS ≤ cpu → f.new ≡ f.old }
     ensures bad_cpu_at { MAX_CPUS ≤ cpu → at.new ≡ at.old }
 {
@@ -129,7 +130,7 @@ pub extern "C" fn tracering_raw_fleet_give_up(
     ensures at_stays { fleet_of f.old.held.value ≡ None → at.new ≡ at.old }
     ensures gives_up { cpu < MAX_CPUS
         → OnFleet f.old f.new (λ old new. GivesUpSo old stream cpu bound at.old result at.new new) }
-    ensures bad_cpu { (x : EndValue) → fleet_of f.old.held.value ≡ Some x → MAX_CPUS ≤ cpu → result ≡ pos 14 }
+    ensures bad_cpu { (x : EndValue) → fleet_of f.old.held.value ≡ Some x → MAX_CPUS ≤ cpu → result ≡ BAD_CPU }
     ensures bad_cpu_stays { MAX_CPUS ≤ cpu → f.new ≡ f.old }
     ensures bad_cpu_at { MAX_CPUS ≤ cpu → at.new ≡ at.old }
 {
@@ -164,7 +165,7 @@ fn give_up_in(
 #[unsafe(no_mangle)]
 pub extern "C" fn tracering_raw_fleet_free(alloc: Global, f: &mut FleetHandle) -> i32
     ensures absent { SaysAbsent (fleet_of f.old.held.value) result f.old f.new }
-    ensures freed { (x : EndValue) → fleet_of f.old.held.value ≡ Some x → result ≡ pos 0 }
+    ensures freed { (x : EndValue) → fleet_of f.old.held.value ≡ Some x → result ≡ DONE }
     ensures none { fleet_of f.new.held.value ≡ None }
     ensures cleared { (x : EndValue) → fleet_of f.old.held.value ≡ Some x → AreZeros f.new.held.at f.new.live }
 {

@@ -1,5 +1,6 @@
 //! A fleet's listing that goes out while it grows.
-ghost use Rattle.std.specs.Prelude.{◌≡◌, ◌≢◌, Some, None, pos};
+ghost use Rattle.std.specs.Prelude.{◌≡◌, ◌≢◌, Some, None};
+ghost use Rattle.tracering_c.specs.declared.codes.TheConstants.{DONE, ABSENT, NO_MEMORY};
 ghost use Rattle.tracering_c.specs.declared.ends.HeldFleet.{HeldFleet as EndValue};
 ghost use Rattle.tracering_c.specs.Held.{fleet_of};
 ghost use Rattle.tracering_c.specs.Handles.{SaysAbsent, OnFleet};
@@ -15,7 +16,7 @@ use trace_model::Moment;
 /// The moment before which no line comes any more.
 #[unsafe(no_mangle)]
 pub extern "C" fn tracering_raw_fleet_frontier(f: &mut FleetHandle, moment: &mut u64) -> i32
-    ensures absent { fleet_of f.old.held.value ≡ None → result ≡ pos 8 }
+    ensures absent { fleet_of f.old.held.value ≡ None → result ≡ ABSENT }
     ensures moment_stays { fleet_of f.old.held.value ≡ None → moment.new ≡ moment.old }
     ensures frontier { (old : EndValue) → fleet_of f.old.held.value ≡ Some old
         → FrontierSo old.listed moment.old result moment.new }
@@ -44,11 +45,11 @@ pub extern "C" fn tracering_raw_fleet_list_before(
     moment: u64,
     count: &mut usize,
 ) -> i32
-    ensures absent { fleet_of f.old.held.value ≡ None → result ≡ pos 8 }
-    ensures listed { OnFleet f.old f.new (λ old new. result ≡ pos 0 → IsListedBefore old moment count.new new) }
-    ensures no_memory { (old : EndValue) → fleet_of f.old.held.value ≡ Some old → result ≢ pos 0 → result ≡ pos 12 }
-    ensures stays { result ≢ pos 0 → fleet_of f.new.held.value ≡ fleet_of f.old.held.value }
-    ensures count_stays { result ≢ pos 0 → count.new ≡ count.old }
+    ensures absent { fleet_of f.old.held.value ≡ None → result ≡ ABSENT }
+    ensures listed { OnFleet f.old f.new (λ old new. result ≡ DONE → IsListedBefore old moment count.new new) }
+    ensures no_memory { (old : EndValue) → fleet_of f.old.held.value ≡ Some old → result ≢ DONE → result ≡ NO_MEMORY }
+    ensures stays { result ≢ DONE → fleet_of f.new.held.value ≡ fleet_of f.old.held.value }
+    ensures count_stays { result ≢ DONE → count.new ≡ count.old }
 {
     if !f.live {
         return ABSENT;
@@ -58,10 +59,10 @@ pub extern "C" fn tracering_raw_fleet_list_before(
 
 /// `tracering_raw_fleet_list_before`, of the fleet itself.
 fn list_before(alloc: Global, listed: &mut ListedFleet, moment: u64, count: &mut usize) -> i32
-    ensures listed { result ≡ pos 0 → IsListedBefore listed.old moment count.new listed.new }
-    ensures no_memory { result ≢ pos 0 → result ≡ pos 12 }
-    ensures stays { result ≢ pos 0 → listed.new ≡ listed.old }
-    ensures count_stays { result ≢ pos 0 → count.new ≡ count.old }
+    ensures listed { result ≡ DONE → IsListedBefore listed.old moment count.new listed.new }
+    ensures no_memory { result ≢ DONE → result ≡ NO_MEMORY }
+    ensures stays { result ≢ DONE → listed.new ≡ listed.old }
+    ensures count_stays { result ≢ DONE → count.new ≡ count.old }
 {
     let Ok(lines) = listed.list_before(alloc, Moment(moment)) else {
         return NO_MEMORY;
@@ -74,9 +75,9 @@ fn list_before(alloc: Global, listed: &mut ListedFleet, moment: u64, count: &mut
 #[unsafe(no_mangle)]
 pub extern "C" fn tracering_raw_fleet_forget_before(f: &mut FleetHandle, moment: u64) -> i32
     ensures absent { SaysAbsent (fleet_of f.old.held.value) result f.old f.new }
-    ensures forgotten { OnFleet f.old f.new (λ old new. result ≡ pos 0 → HasForgotten old moment new) }
+    ensures forgotten { OnFleet f.old f.new (λ old new. result ≡ DONE → HasForgotten old moment new) }
     ensures some { OnFleet f.old f.new (λ old new. HasForgottenSome old moment new) }
-    ensures no_memory { (old : EndValue) → fleet_of f.old.held.value ≡ Some old → result ≢ pos 0 → result ≡ pos 12 }
+    ensures no_memory { (old : EndValue) → fleet_of f.old.held.value ≡ Some old → result ≢ DONE → result ≡ NO_MEMORY }
 {
     if !f.live {
         return ABSENT;
@@ -86,9 +87,9 @@ pub extern "C" fn tracering_raw_fleet_forget_before(f: &mut FleetHandle, moment:
 
 /// `tracering_raw_fleet_forget_before`, of the fleet itself.
 fn forget_before(listed: &mut ListedFleet, moment: u64) -> i32
-    ensures forgotten { result ≡ pos 0 → HasForgotten listed.old moment listed.new }
+    ensures forgotten { result ≡ DONE → HasForgotten listed.old moment listed.new }
     ensures some { HasForgottenSome listed.old moment listed.new }
-    ensures no_memory { result ≢ pos 0 → result ≡ pos 12 }
+    ensures no_memory { result ≢ DONE → result ≡ NO_MEMORY }
 {
     match listed.fleet.forget_before(Moment(moment)) {
         Ok(()) => DONE,

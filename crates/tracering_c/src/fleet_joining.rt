@@ -1,6 +1,7 @@
 //! The calls on two fleets.
-ghost use Rattle.std.specs.Prelude.{◌≡◌, ◌≢◌, ◌↔◌, Some, None, IsSomeAnd, pos, negsuc};
+ghost use Rattle.std.specs.Prelude.{◌≡◌, ◌≢◌, ◌↔◌, Some, None, IsSomeAnd};
 ghost use Rattle.fleet_collector.specs.Merging.{IsSameFleet};
+ghost use Rattle.tracering_c.specs.declared.codes.TheConstants.{DIFFERENT, DONE, ABSENT};
 ghost use Rattle.tracering_c.specs.declared.ends.HeldFleet.{HeldFleet as EndValue};
 ghost use Rattle.tracering_c.specs.Held.{fleet_of};
 ghost use Rattle.tracering_c.specs.FleetCalls.{MergesSo};
@@ -17,8 +18,8 @@ pub extern "C" fn tracering_raw_fleet_merge(
     other: &mut FleetHandle,
     at: &mut StreamFault,
 ) -> i32
-    ensures absent { fleet_of f.old.held.value ≡ None → result ≡ pos 8 }
-    ensures other_absent { fleet_of other.old.held.value ≡ None → result ≡ pos 8 }
+    ensures absent { fleet_of f.old.held.value ≡ None → result ≡ ABSENT }
+    ensures other_absent { fleet_of other.old.held.value ≡ None → result ≡ ABSENT }
     ensures merges { (left : EndValue) (right : EndValue)
         → fleet_of f.old.held.value ≡ Some left → fleet_of other.old.held.value ≡ Some right
         → IsSomeAnd (fleet_of f.new.held.value)
@@ -47,14 +48,14 @@ fn merge_of(listed: &mut ListedFleet, other: &ListedFleet, at: &mut StreamFault)
 /// Whether two fleets know the same.
 #[unsafe(no_mangle)]
 pub extern "C" fn tracering_raw_fleet_same(f: &mut FleetHandle, other: &mut FleetHandle) -> i32
-    ensures absent { fleet_of f.old.held.value ≡ None → result ≡ pos 8 }
-    ensures other_absent { fleet_of other.old.held.value ≡ None → result ≡ pos 8 }
+    ensures absent { fleet_of f.old.held.value ≡ None → result ≡ ABSENT }
+    ensures other_absent { fleet_of other.old.held.value ≡ None → result ≡ ABSENT }
     ensures same { (left : EndValue) (right : EndValue)
         → fleet_of f.old.held.value ≡ Some left → fleet_of other.old.held.value ≡ Some right
-        → result ≡ pos 0 ↔ IsSameFleet left.listed.fleet right.listed.fleet }
+        → result ≡ DONE ↔ IsSameFleet left.listed.fleet right.listed.fleet }
     ensures different { (left : EndValue) (right : EndValue)
         → fleet_of f.old.held.value ≡ Some left → fleet_of other.old.held.value ≡ Some right
-        → result ≢ pos 0 → result ≡ negsuc 2 }
+        → result ≢ DONE → result ≡ DIFFERENT }
     ensures stays { fleet_of f.new.held.value ≡ fleet_of f.old.held.value }
     ensures other_stays { fleet_of other.new.held.value ≡ fleet_of other.old.held.value }
 {
@@ -66,8 +67,8 @@ pub extern "C" fn tracering_raw_fleet_same(f: &mut FleetHandle, other: &mut Flee
 
 /// `tracering_raw_fleet_same`, of the fleets themselves.
 fn same_of(left: &ListedFleet, right: &ListedFleet) -> i32
-    ensures same { result ≡ pos 0 ↔ IsSameFleet left.now.fleet right.now.fleet }
-    ensures different { result ≢ pos 0 → result ≡ negsuc 2 }
+    ensures same { result ≡ DONE ↔ IsSameFleet left.now.fleet right.now.fleet }
+    ensures different { result ≢ DONE → result ≡ DIFFERENT }
 {
     if left.fleet.same(&right.fleet) {
         return DONE;

@@ -1,9 +1,10 @@
 //! What a fleet is asked: its streams, how far each is known, its runs, and its listing.
-ghost use Rattle.std.specs.Prelude.{◌≡◌, ◌≢◌, Some, None, IsSome, pos};
+ghost use Rattle.std.specs.Prelude.{◌≡◌, ◌≢◌, Some, None, IsSome};
 ghost use Rattle.stream_collector.specs.Stream.{IsMissing, IsUndelivered, IsUnknownYet};
 ghost use Rattle.fleet_collector.specs.Fleet.{known_of, stream_at};
 ghost use Rattle.library_values.specs.Cpus.{IsToldOf};
 ghost use Rattle.library_values.specs.State.{IsStateOf};
+ghost use Rattle.tracering_c.specs.declared.codes.TheConstants.{DONE, ABSENT, NO_MEMORY, NO_ROOM};
 ghost use Rattle.tracering_c.specs.declared.ends.HeldFleet.{HeldFleet as EndValue};
 ghost use Rattle.tracering_c.specs.Held.{fleet_of};
 ghost use Rattle.tracering_c.specs.Handles.{SaysAbsent, OnFleet};
@@ -27,7 +28,7 @@ pub extern "C" fn tracering_raw_fleet_next_stream(
     from: u64,
     stream: &mut u64,
 ) -> i32
-    ensures absent { fleet_of f.old.held.value ≡ None → result ≡ pos 8 }
+    ensures absent { fleet_of f.old.held.value ≡ None → result ≡ ABSENT }
     ensures stream_stays { fleet_of f.old.held.value ≡ None → stream.new ≡ stream.old }
     ensures gives { (old : EndValue) → fleet_of f.old.held.value ≡ Some old
         → GivesLeast (λ id. IsSome (known_of old.listed.fleet id)) from stream.old result stream.new }
@@ -57,7 +58,7 @@ pub extern "C" fn tracering_raw_fleet_next_cpu(
     from: u32,
     cpu: &mut u32,
 ) -> i32
-    ensures absent { fleet_of f.old.held.value ≡ None → result ≡ pos 8 }
+    ensures absent { fleet_of f.old.held.value ≡ None → result ≡ ABSENT }
     ensures cpu_stays { fleet_of f.old.held.value ≡ None → cpu.new ≡ cpu.old }
     ensures gives { (old : EndValue) → fleet_of f.old.held.value ≡ Some old
         → GivesLeast (IsToldOf (stream_at old.listed.fleet stream)) from cpu.old result cpu.new }
@@ -87,11 +88,11 @@ pub extern "C" fn tracering_raw_fleet_state(
     cpu: u32,
     state: &mut CpuState,
 ) -> i32
-    ensures absent { fleet_of f.old.held.value ≡ None → result ≡ pos 8 }
+    ensures absent { fleet_of f.old.held.value ≡ None → result ≡ ABSENT }
     ensures state_stays { fleet_of f.old.held.value ≡ None → state.new ≡ state.old }
     ensures tells { (old : EndValue) → fleet_of f.old.held.value ≡ Some old
         → IsStateOf (stream_at old.listed.fleet stream) cpu state.new }
-    ensures done { (old : EndValue) → fleet_of f.old.held.value ≡ Some old → result ≡ pos 0 }
+    ensures done { (old : EndValue) → fleet_of f.old.held.value ≡ Some old → result ≡ DONE }
     ensures stays { fleet_of f.new.held.value ≡ fleet_of f.old.held.value }
 {
     if !f.live {
@@ -115,7 +116,7 @@ pub extern "C" fn tracering_raw_fleet_missing(
     out: &mut [Run],
     count: &mut usize,
 ) -> i32
-    ensures absent { fleet_of f.old.held.value ≡ None → result ≡ pos 8 }
+    ensures absent { fleet_of f.old.held.value ≡ None → result ≡ ABSENT }
     ensures out_stays { fleet_of f.old.held.value ≡ None → out.new ≡ out.old }
     ensures count_stays { fleet_of f.old.held.value ≡ None → count.new ≡ count.old }
     ensures misses { (old : EndValue) → fleet_of f.old.held.value ≡ Some old
@@ -154,7 +155,7 @@ pub extern "C" fn tracering_raw_fleet_unknown(
     out: &mut [Run],
     count: &mut usize,
 ) -> i32
-    ensures absent { fleet_of f.old.held.value ≡ None → result ≡ pos 8 }
+    ensures absent { fleet_of f.old.held.value ≡ None → result ≡ ABSENT }
     ensures out_stays { fleet_of f.old.held.value ≡ None → out.new ≡ out.old }
     ensures count_stays { fleet_of f.old.held.value ≡ None → count.new ≡ count.old }
     ensures awaits { (old : EndValue) → fleet_of f.old.held.value ≡ Some old
@@ -193,7 +194,7 @@ pub extern "C" fn tracering_raw_fleet_undelivered(
     out: &mut [Run],
     count: &mut usize,
 ) -> i32
-    ensures absent { fleet_of f.old.held.value ≡ None → result ≡ pos 8 }
+    ensures absent { fleet_of f.old.held.value ≡ None → result ≡ ABSENT }
     ensures out_stays { fleet_of f.old.held.value ≡ None → out.new ≡ out.old }
     ensures count_stays { fleet_of f.old.held.value ≡ None → count.new ≡ count.old }
     ensures gave_up { (old : EndValue) → fleet_of f.old.held.value ≡ Some old
@@ -226,7 +227,7 @@ ghost use Rattle.std.specs.Prelude.{cond, ltb};
 
 /// Whether `count` runs have room.
 fn code_of_room(room: usize, count: usize) -> i32
-    ensures { result ≡ cond (ltb room count) (pos 17) (pos 0) }
+    ensures { result ≡ cond (ltb room count) NO_ROOM DONE }
 {
     if room < count {
         return NO_ROOM;
@@ -241,11 +242,11 @@ pub extern "C" fn tracering_raw_fleet_list(
     f: &mut FleetHandle,
     count: &mut usize,
 ) -> i32
-    ensures absent { fleet_of f.old.held.value ≡ None → result ≡ pos 8 }
-    ensures listed { OnFleet f.old f.new (λ old new. result ≡ pos 0 → IsListed old count.new new) }
-    ensures no_memory { (old : EndValue) → fleet_of f.old.held.value ≡ Some old → result ≢ pos 0 → result ≡ pos 12 }
-    ensures stays { result ≢ pos 0 → fleet_of f.new.held.value ≡ fleet_of f.old.held.value }
-    ensures count_stays { result ≢ pos 0 → count.new ≡ count.old }
+    ensures absent { fleet_of f.old.held.value ≡ None → result ≡ ABSENT }
+    ensures listed { OnFleet f.old f.new (λ old new. result ≡ DONE → IsListed old count.new new) }
+    ensures no_memory { (old : EndValue) → fleet_of f.old.held.value ≡ Some old → result ≢ DONE → result ≡ NO_MEMORY }
+    ensures stays { result ≢ DONE → fleet_of f.new.held.value ≡ fleet_of f.old.held.value }
+    ensures count_stays { result ≢ DONE → count.new ≡ count.old }
 {
     if !f.live {
         return ABSENT;
@@ -255,10 +256,10 @@ pub extern "C" fn tracering_raw_fleet_list(
 
 /// `tracering_raw_fleet_list`, of the fleet itself.
 fn list_of(alloc: Global, listed: &mut ListedFleet, count: &mut usize) -> i32
-    ensures listed { result ≡ pos 0 → IsListed listed.old count.new listed.new }
-    ensures no_memory { result ≢ pos 0 → result ≡ pos 12 }
-    ensures stays { result ≢ pos 0 → listed.new ≡ listed.old }
-    ensures count_stays { result ≢ pos 0 → count.new ≡ count.old }
+    ensures listed { result ≡ DONE → IsListed listed.old count.new listed.new }
+    ensures no_memory { result ≢ DONE → result ≡ NO_MEMORY }
+    ensures stays { result ≢ DONE → listed.new ≡ listed.old }
+    ensures count_stays { result ≢ DONE → count.new ≡ count.old }
 {
     let Ok(lines) = listed.list(alloc) else {
         return NO_MEMORY;

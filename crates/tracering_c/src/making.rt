@@ -1,9 +1,10 @@
 //! A new ring; and its ends, freed.
-ghost use Rattle.std.specs.Prelude.{◌≡◌, ◌≢◌, ◌<◌, ◌↔◌, [], Some, None, IfOk, IsSomeAnd, is_some, true, pos};
+ghost use Rattle.std.specs.Prelude.{◌≡◌, ◌≢◌, ◌<◌, ◌↔◌, [], Some, None, IfOk, IsSomeAnd, is_some, true};
 ghost use Rattle.trace_model.specs.declared.limits.TheConstants.{MAX_CPUS, START_FILL};
 ghost use Rattle.trace_model.specs.Ring.{HasRingLimits};
 ghost use Rattle.ring_shared.specs.NewEnds.{AreNewEnds};
 ghost use Rattle.ring_shared.specs.Calls.{IsWriter};
+ghost use Rattle.tracering_c.specs.declared.codes.TheConstants.{DONE, IN_USE};
 ghost use Rattle.tracering_c.specs.declared.ends.HeldWriter.{HeldWriter as WriterValue};
 ghost use Rattle.tracering_c.specs.declared.ends.HeldReader.{HeldReader as ReaderValue};
 ghost use Rattle.tracering_c.specs.Held.{writer_of, reader_of};
@@ -34,17 +35,17 @@ pub extern "C" fn tracering_raw_new(
 ) -> i32
     requires writer { IsWriterHandle w.old }
     requires reader { IsReaderHandle r.old }
-    ensures ring { result ≡ pos 0
+    ensures ring { result ≡ DONE
         → IsSomeAnd (writer_of w.new.held.value) (λ left. IsSomeAnd (reader_of r.new.held.value) (λ right.
         AreNewEnds (record { pages = pages; size = size; start = START_FILL }) left.writer right.reader)) }
-    ensures cpu { result ≡ pos 0 → IsSomeAnd (reader_of r.new.held.value) (λ right. right.cpu.0 ≡ cpu) }
-    ensures writer_cpu { result ≡ pos 0 → IsSomeAnd (writer_of w.new.held.value) (λ left. left.cpu.0 ≡ cpu) }
-    ensures writer_stays { result ≢ pos 0 → w.new ≡ w.old }
-    ensures reader_stays { result ≢ pos 0 → r.new ≡ r.old }
+    ensures cpu { result ≡ DONE → IsSomeAnd (reader_of r.new.held.value) (λ right. right.cpu.0 ≡ cpu) }
+    ensures writer_cpu { result ≡ DONE → IsSomeAnd (writer_of w.new.held.value) (λ left. left.cpu.0 ≡ cpu) }
+    ensures writer_stays { result ≢ DONE → w.new ≡ w.old }
+    ensures reader_stays { result ≢ DONE → r.new ≡ r.old }
     ensures answers { writer_of w.old.held.value ≡ None → reader_of r.old.held.value ≡ None
         → AnswersNew cpu pages size result }
-    ensures in_use { is_some (writer_of w.old.held.value) ≡ true → result ≡ pos 9 }
-    ensures in_use_too { is_some (reader_of r.old.held.value) ≡ true → result ≡ pos 9 }
+    ensures in_use { is_some (writer_of w.old.held.value) ≡ true → result ≡ IN_USE }
+    ensures in_use_too { is_some (reader_of r.old.held.value) ≡ true → result ≡ IN_USE }
     ensures writer { IsWriterHandle w.new }
     ensures reader { IsReaderHandle r.new }
 {
@@ -117,7 +118,7 @@ pub extern "C" fn tracering_raw_writer_free(
     requires writer { IsWriterHandle w.old }
     ensures absent { SaysAbsent (writer_of w.old.held.value) result w.old w.new }
     ensures lost_stays { writer_of w.old.held.value ≡ None → lost.new ≡ lost.old }
-    ensures freed { (x : WriterValue) → writer_of w.old.held.value ≡ Some x → result ≡ pos 0 }
+    ensures freed { (x : WriterValue) → writer_of w.old.held.value ≡ Some x → result ≡ DONE }
     ensures frees { (x : WriterValue) → writer_of w.old.held.value ≡ Some x → FreesSo x.writer lost.new }
     ensures none { writer_of w.new.held.value ≡ None }
     ensures cleared { (x : WriterValue) → writer_of w.old.held.value ≡ Some x → AreZeros w.new.held.at w.new.live }
@@ -158,7 +159,7 @@ fn close_page(writer: &mut Writer)
 pub extern "C" fn tracering_raw_reader_free(alloc: Global, r: &mut ReaderHandle) -> i32
     requires reader { IsReaderHandle r.old }
     ensures absent { SaysAbsent (reader_of r.old.held.value) result r.old r.new }
-    ensures freed { (x : ReaderValue) → reader_of r.old.held.value ≡ Some x → result ≡ pos 0 }
+    ensures freed { (x : ReaderValue) → reader_of r.old.held.value ≡ Some x → result ≡ DONE }
     ensures none { reader_of r.new.held.value ≡ None }
     ensures cleared { (x : ReaderValue) → reader_of r.old.held.value ≡ Some x → AreZeros r.new.held.at r.new.live }
 {

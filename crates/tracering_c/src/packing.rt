@@ -1,5 +1,6 @@
 //! Pieces of a stream, packed into a buffer.
-ghost use Rattle.std.specs.Prelude.{◌≡◌, Some, None, pos};
+ghost use Rattle.std.specs.Prelude.{◌≡◌, Some, None};
+ghost use Rattle.tracering_c.specs.declared.codes.TheConstants.{ABSENT};
 ghost use Rattle.tracering_c.specs.declared.ends.HeldFleet.{HeldFleet as EndValue};
 ghost use Rattle.tracering_c.specs.Held.{fleet_of};
 ghost use Rattle.tracering_c.specs.Packing.{PacksSo, PacksEnd, PacksStream};
@@ -54,7 +55,7 @@ pub extern "C" fn tracering_raw_fleet_pack(
     out: &mut [u8],
     len: &mut usize,
 ) -> i32
-    ensures absent { fleet_of f.old.held.value ≡ None → result ≡ pos 8 }
+    ensures absent { fleet_of f.old.held.value ≡ None → result ≡ ABSENT }
     ensures out_stays { fleet_of f.old.held.value ≡ None → out.new ≡ out.old }
     ensures len_stays { fleet_of f.old.held.value ≡ None → len.new ≡ len.old }
     ensures packs { (old : EndValue) → fleet_of f.old.held.value ≡ Some old

@@ -1,6 +1,7 @@
 //! The page that is written, copied while its writer has begun nothing.
-ghost use Rattle.std.specs.Prelude.{◌≡◌, ◌≢◌, Some, length, pos};
+ghost use Rattle.std.specs.Prelude.{◌≡◌, ◌≢◌, Some, length};
 ghost use Rattle.ring_shared.specs.Calls.{IsWriter};
+ghost use Rattle.tracering_c.specs.declared.codes.TheConstants.{DONE};
 ghost use Rattle.tracering_c.specs.declared.ends.HeldWriter.{HeldWriter as EndValue};
 ghost use Rattle.tracering_c.specs.Held.{writer_of};
 ghost use Rattle.tracering_c.specs.Handles.{IsWriterHandle, SaysAbsent};
@@ -19,11 +20,11 @@ pub extern "C" fn tracering_raw_peek(w: &mut WriterHandle, out: &mut [u8], taken
     requires writer { IsWriterHandle w.old }
     ensures absent { SaysAbsent (writer_of w.old.held.value) result w.old w.new }
     ensures peeked { (end : EndValue) → writer_of w.old.held.value ≡ Some end
-        → result ≡ pos 0 → IsPeeked end.cpu.0 end.writer out.old out.new taken.new }
+        → result ≡ DONE → IsPeeked end.cpu.0 end.writer out.old out.new taken.new }
     ensures answers { (end : EndValue) → writer_of w.old.held.value ≡ Some end
         → AnswersPeek end.writer (length out.old) result }
-    ensures out_stays { result ≢ pos 0 → out.new ≡ out.old }
-    ensures taken_stays { result ≢ pos 0 → taken.new ≡ taken.old }
+    ensures out_stays { result ≢ DONE → out.new ≡ out.old }
+    ensures taken_stays { result ≢ DONE → taken.new ≡ taken.old }
     ensures same { writer_of w.new.held.value ≡ writer_of w.old.held.value }
 {
     if !w.live {
@@ -35,10 +36,10 @@ pub extern "C" fn tracering_raw_peek(w: &mut WriterHandle, out: &mut [u8], taken
 /// `tracering_raw_peek`, of the end itself.
 fn peek_into(end: &HeldWriter, out: &mut [u8], taken: &mut Taken) -> i32
     requires writer { IsWriter end.now.writer }
-    ensures peeked { result ≡ pos 0 → IsPeeked end.now.cpu.0 end.now.writer out.old out.new taken.new }
+    ensures peeked { result ≡ DONE → IsPeeked end.now.cpu.0 end.now.writer out.old out.new taken.new }
     ensures answers { AnswersPeek end.now.writer (length out.old) result }
-    ensures out_stays { result ≢ pos 0 → out.new ≡ out.old }
-    ensures taken_stays { result ≢ pos 0 → taken.new ≡ taken.old }
+    ensures out_stays { result ≢ DONE → out.new ≡ out.old }
+    ensures taken_stays { result ≢ DONE → taken.new ≡ taken.old }
 {
     let Some(page) = end.writer.resting_tail() else {
         return NOT_AT_REST;

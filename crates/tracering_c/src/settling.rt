@@ -1,6 +1,7 @@
 //! The two ends of a ring, settled.
-ghost use Rattle.std.specs.Prelude.{◌≡◌, ◌≢◌, ◌+◌, ◌≤◌, [], Some, None, length, pos};
+ghost use Rattle.std.specs.Prelude.{◌≡◌, ◌≢◌, ◌+◌, ◌≤◌, [], Some, None, length};
 ghost use Rattle.ring_shared.specs.Calls.{IsWriter};
+ghost use Rattle.tracering_c.specs.declared.codes.TheConstants.{DONE, ABSENT};
 ghost use Rattle.tracering_c.specs.declared.ends.HeldWriter.{HeldWriter as WriterValue};
 ghost use Rattle.tracering_c.specs.declared.ends.HeldReader.{HeldReader as ReaderValue};
 ghost use Rattle.tracering_c.specs.Held.{writer_of, reader_of};
@@ -31,23 +32,23 @@ pub extern "C" fn tracering_raw_settle(
     requires one_ring { (left : WriterValue) (right : ReaderValue)
         → writer_of w.old.held.value ≡ Some left → reader_of r.old.held.value ≡ Some right
         → AreOfOneRing left.writer right.reader }
-    ensures absent { writer_of w.old.held.value ≡ None → result ≡ pos 8 }
+    ensures absent { writer_of w.old.held.value ≡ None → result ≡ ABSENT }
     ensures reader_absent { (left : WriterValue) → writer_of w.old.held.value ≡ Some left
-        → reader_of r.old.held.value ≡ None → result ≡ pos 8 }
+        → reader_of r.old.held.value ≡ None → result ≡ ABSENT }
     ensures settled { (left : WriterValue) (right : ReaderValue)
         → writer_of w.old.held.value ≡ Some left → reader_of r.old.held.value ≡ Some right
-        → result ≡ pos 0 → SettlesSo left.writer right out.old out.new taken.new }
+        → result ≡ DONE → SettlesSo left.writer right out.old out.new taken.new }
     ensures answers { (left : WriterValue) (right : ReaderValue)
         → writer_of w.old.held.value ≡ Some left → reader_of r.old.held.value ≡ Some right
         → AnswersSettle left.writer right (length out.old) result }
-    ensures gone { result ≡ pos 0 → writer_of w.new.held.value ≡ None }
-    ensures reader_gone { result ≡ pos 0 → reader_of r.new.held.value ≡ None }
-    ensures cleared { result ≡ pos 0 → AreZeros w.new.held.at w.new.live }
-    ensures reader_cleared { result ≡ pos 0 → AreZeros r.new.held.at r.new.live }
-    ensures stays { result ≢ pos 0 → writer_of w.new.held.value ≡ writer_of w.old.held.value }
-    ensures reader_stays { result ≢ pos 0 → reader_of r.new.held.value ≡ reader_of r.old.held.value }
-    ensures out_stays { result ≢ pos 0 → out.new ≡ out.old }
-    ensures taken_stays { result ≢ pos 0 → taken.new ≡ taken.old }
+    ensures gone { result ≡ DONE → writer_of w.new.held.value ≡ None }
+    ensures reader_gone { result ≡ DONE → reader_of r.new.held.value ≡ None }
+    ensures cleared { result ≡ DONE → AreZeros w.new.held.at w.new.live }
+    ensures reader_cleared { result ≡ DONE → AreZeros r.new.held.at r.new.live }
+    ensures stays { result ≢ DONE → writer_of w.new.held.value ≡ writer_of w.old.held.value }
+    ensures reader_stays { result ≢ DONE → reader_of r.new.held.value ≡ reader_of r.old.held.value }
+    ensures out_stays { result ≢ DONE → out.new ≡ out.old }
+    ensures taken_stays { result ≢ DONE → taken.new ≡ taken.old }
 {
     let Some(left) = w.take_out(alloc) else {
         return ABSENT;
@@ -71,9 +72,9 @@ fn why_not(left: &HeldWriter, right: &HeldReader, room: usize) -> i32
     requires writer { IsWriter left.now.writer }
     requires reader { IsHeldReader right.now }
     ensures answers { AnswersSettle left.now.writer right.now room result }
-    ensures read { result ≡ pos 0 → right.now.reader.empty_at ≡ Some left.now.writer.part.done }
-    ensures room { result ≡ pos 0 → 48 + right.now.reader.shape.size ≤ room }
-    ensures rest { result ≡ pos 0 → left.now.writer.part.frames ≡ [] }
+    ensures read { result ≡ DONE → right.now.reader.empty_at ≡ Some left.now.writer.part.done }
+    ensures room { result ≡ DONE → 48 + right.now.reader.shape.size ≤ room }
+    ensures rest { result ≡ DONE → left.now.writer.part.frames ≡ [] }
 {
     if left.writer.depth() > 0 {
         return NOT_AT_REST;
