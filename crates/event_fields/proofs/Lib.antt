@@ -1,0 +1,9 @@
+pub mod Parts
+pub mod TypeWords
+pub mod NumberLists
+pub mod PieceLemmas
+pub mod LineParts
+pub mod FieldNames
+pub mod PrintingLemmas
+pub mod NumberTexts
+pub mod FieldLines

@@ -1,0 +1,11 @@
+pub mod Texts
+pub mod Types
+pub mod Declarations
+pub mod Lines
+pub mod Fields
+pub mod Cutting
+pub mod Numbers
+pub mod Values
+pub mod Laws
+pub mod Printing
+pub mod PrintingLaws
