@@ -2,7 +2,6 @@ mod Texts
 mod Plain
 mod Runs
 mod Damages
-mod Prints
 mod Places
 mod Pieces
 mod Events

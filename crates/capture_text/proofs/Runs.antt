@@ -1,7 +1,7 @@
 -- The runs of CPU after CPU.
-use Rattle.std.proofs.Common.{◌≡◌, ℕ, ◌+◌, ◌≤◌, Bool, List, [], ◌∷◌, ◌++◌, length, flat_map, refl, ap, ◌∙◌, subst}
+use Rattle.std.proofs.Common.{◌≡◌, ℕ, ◌+◌, ◌≤◌, List, [], ◌∷◌, ◌++◌, length, flat_map, refl, ap, ◌∙◌, subst}
 use Rattle.std.proofs.Common.{arith}
-use Rattle.std.specs.Prelude.{Option, slice_index_or}
+use Rattle.std.specs.Prelude.{slice_index_or}
 use Rattle.std.specs.List.{enumerate_from}
 use Rattle.std.proofs.lemmas.List.{length_push}
 use Rattle.std.proofs.lemmas.Grind.{flat_map-append}
@@ -12,7 +12,8 @@ use Rattle.collector.specs.Runs.{AreMissingRuns}
 use Rattle.collector.specs.Sound.{AreSound}
 use Rattle.collector_text.proofs.Appended.{numbered_behind}
 use Rattle.collector_text.proofs.RunsBehind.{AreRunsFrom, runs_more, each_cpu, none_far}
-use Rattle.text_values.specs.declared.buffer.TextBuffer.{TextBuffer}
+use Rattle.command_io.specs.declared.ends.Sink.{Ghosts}
+use Rattle.text_values.specs.declared.output.Out.{Out}
 use Rattle.text_values.specs.Putting.{Puts}
 use Rattle.capture_text.specs.declared.form.Form.{Form}
 use Rattle.capture_text.specs.declared.form.Form.TheVariants.{Text, Json}
@@ -38,53 +39,49 @@ lines_more Text runs of_cpu cpu count = more (run_line Text) runs of_cpu cpu cou
 lines_more Json runs of_cpu cpu count = more (run_line Json) runs of_cpu cpu count
 
 -- the text of the runs of all CPUs below this one was put
-pub record ArePut (form : Form) (parcels : List Parcel) (cpu : ℕ) (b0 : TextBuffer) (c0 : Option (List ℕ)) (f0 : Bool)
-    (b1 : TextBuffer) (c1 : Option (List ℕ)) (f1 : Bool) : Type 0 where
+pub record ArePut {W : Type 0} {g : Ghosts W} (form : Form) (parcels : List Parcel) (cpu : ℕ) (o0 o1 : Out W g)
+    : Type 0 where
   pub runs : List (List (ℕ × ℕ))
   pub count : length runs ≡ cpu
   pub each : AreRunsFrom parcels 0 runs
-  pub put : Puts (run_lines form runs) b0 c0 f0 b1 c1 f1
+  pub put : Puts (run_lines form runs) o0 o1
 
 lines_none : (form : Form) → [] ≡ run_lines form []
 lines_none Text = refl
 lines_none Json = refl
 
--- of no CPU there is none
-pub runs_none : (form : Form) (parcels : List Parcel) (buffer : TextBuffer) (contents : Option (List ℕ)) (failed : Bool)
-    → ArePut form parcels 0 buffer contents failed buffer contents failed
-runs_none form parcels buffer contents failed = record {
-  runs = [];
-  count = refl;
-  each = tt;
-  put = subst (λ (t : List ℕ). Puts t buffer contents failed buffer contents failed) (lines_none form)
-      (put_none buffer contents failed);
-}
+module _ {W : Type 0} {g : Ghosts W} where
+  -- of no CPU there is none
+  pub runs_none : (form : Form) (parcels : List Parcel) (out : Out W g) → ArePut form parcels 0 out out
+  runs_none form parcels out = record {
+    runs = [];
+    count = refl;
+    each = tt;
+    put = subst (λ (t : List ℕ). Puts t out out) (lines_none form) (put_none out);
+  }
 
--- and so it does with that of the next
-pub runs_put : (form : Form) (parcels : List Parcel) (cpu : ℕ) (of_cpu : List (ℕ × ℕ)) (b0 b1 b2 : TextBuffer)
-    (c0 c1 c2 : Option (List ℕ)) (f0 f1 f2 : Bool) → ArePut form parcels cpu b0 c0 f0 b1 c1 f1
-    → AreMissingRuns parcels cpu of_cpu → Puts (flat_map (run_line form cpu) of_cpu) b1 c1 f1 b2 c2 f2
-    → ArePut form parcels (cpu + 1) b0 c0 f0 b2 c2 f2
-runs_put form parcels cpu of_cpu b0 b1 b2 c0 c1 c2 f0 f1 f2 put one more =
-    let count = put.count in
-    let one_more = length_push put.runs of_cpu in
-    record {
-      runs = put.runs ++ of_cpu ∷ [];
-      count = omega arith;
-      each = runs_more parcels 0 put.runs cpu of_cpu (omega arith) put.each one;
-      put =
-          put_more (run_lines form (put.runs ++ of_cpu ∷ [])) (run_lines form put.runs)
-          (flat_map (run_line form cpu) of_cpu)
-          b0 b1 b2 c0 c1 c2 f0 f1 f2 (lines_more form put.runs of_cpu cpu count) put.put more;
-    }
+  -- and so it does with that of the next
+  pub runs_put : (form : Form) (parcels : List Parcel) (cpu : ℕ) (of_cpu : List (ℕ × ℕ)) (o0 o1 o2 : Out W g)
+      → ArePut form parcels cpu o0 o1 → AreMissingRuns parcels cpu of_cpu
+      → Puts (flat_map (run_line form cpu) of_cpu) o1 o2 → ArePut form parcels (cpu + 1) o0 o2
+  runs_put form parcels cpu of_cpu o0 o1 o2 put one more =
+      let count = put.count in
+      let one_more = length_push put.runs of_cpu in
+      record {
+        runs = put.runs ++ of_cpu ∷ [];
+        count = omega arith;
+        each = runs_more parcels 0 put.runs cpu of_cpu (omega arith) put.each one;
+        put =
+            put_more (run_lines form (put.runs ++ of_cpu ∷ [])) (run_lines form put.runs)
+            (flat_map (run_line form cpu) of_cpu) o0 o1 o2 (lines_more form put.runs of_cpu cpu count) put.put more;
+      }
 
--- if all CPUs are there the runs are those of each
-pub runs_all : (form : Form) (parcels : List Parcel) (cpu : ℕ) (b0 b1 : TextBuffer) (c0 c1 : Option (List ℕ))
-    (f0 f1 : Bool)
-    → AreSound parcels → MAX_CPUS ≤ cpu → (put : ArePut form parcels cpu b0 c0 f0 b1 c1 f1)
-    → (k : ℕ) → AreMissingRuns parcels k (slice_index_or put.runs k [])
-runs_all form parcels cpu b0 b1 c0 c1 f0 f1 sound all put k =
-    let count = put.count in
-    let e : 0 + k ≡ k = omega arith in
-    subst (λ (c : ℕ). AreMissingRuns parcels c (slice_index_or put.runs k [])) e
-    (each_cpu parcels 0 put.runs k put.each (λ c number far. none_far parcels sound c number (omega arith)))
+  -- if all CPUs are there the runs are those of each
+  pub runs_all : (form : Form) (parcels : List Parcel) (cpu : ℕ) (o0 o1 : Out W g)
+      → AreSound parcels → MAX_CPUS ≤ cpu → (put : ArePut form parcels cpu o0 o1)
+      → (k : ℕ) → AreMissingRuns parcels k (slice_index_or put.runs k [])
+  runs_all form parcels cpu o0 o1 sound all put k =
+      let count = put.count in
+      let e : 0 + k ≡ k = omega arith in
+      subst (λ (c : ℕ). AreMissingRuns parcels c (slice_index_or put.runs k [])) e
+      (each_cpu parcels 0 put.runs k put.each (λ c number far. none_far parcels sound c number (omega arith)))

@@ -7,14 +7,14 @@ ghost use Rattle.time_merge.specs.Lines.{line_seen};
 ghost use Rattle.world_model.specs.Printing.{printed_line};
 ghost use Rattle.trace_dat.specs.kernel_texts.Names.{events_of};
 ghost use Rattle.trace_dat.specs.kernel_texts.FirstBytes.{common_fields_in};
-ghost use Rattle.text_values.specs.Putting.{has_failed, Puts};
+ghost use Rattle.text_values.specs.Putting.{Puts};
 ghost use Rattle.capture_text.specs.Names.{json_named};
 ghost use Rattle.capture_text.specs.Printing.{named_line, json_line};
 
 use crate::names::{put_json_named, put_named};
 use command_io::Sink;
 use itoa::write_digits;
-use text_values::TextBuffer;
+use text_values::Out;
 use time_merge::Line;
 use trace_dat::kernel_texts::EventNames;
 
@@ -35,126 +35,88 @@ fn put_in_front(front: &mut [u8; FRONT], number: u64, end: usize) -> usize
 }
 
 /// Puts the numbers of a line, with a space after each.
-fn put_numbers<W: Sink>(buffer: &mut TextBuffer, writer: &mut W, line: &Line<'_>)
-    requires { has_failed buffer.old ≡ W.failed writer.old }
-    ensures tied { has_failed buffer.new ≡ W.failed writer.new }
-    ensures put { Puts (decimal line.now.cpu.0 ++ space ∷ decimal line.now.number.0
-        ++ space ∷ decimal line.now.moment.0 ++ space ∷ [])
-        buffer.old (W.contents writer.old) (W.failed writer.old)
-        buffer.new (W.contents writer.new) (W.failed writer.new) }
+fn put_numbers<W: Sink>(out: &mut Out<'_, W>, line: &Line<'_>)
+    ensures { Puts (decimal line.now.cpu.0 ++ space ∷ decimal line.now.number.0
+        ++ space ∷ decimal line.now.moment.0 ++ space ∷ []) out.old out.new }
 {
     let mut front = [0; FRONT];
     let moment = put_in_front(&mut front, line.moment.0, FRONT);
     let number = put_in_front(&mut front, line.number.0, moment);
     let cpu = put_in_front(&mut front, u64::from(line.cpu.0), number);
-    buffer.put(writer, &front[cpu..]);
+    out.put(&front[cpu..]);
 }
 
 /// Puts the payload in hexadecimal, `-` if it is empty.
-fn put_payload<W: Sink>(buffer: &mut TextBuffer, writer: &mut W, bytes: &[u8])
-    requires { has_failed buffer.old ≡ W.failed writer.old }
-    ensures tied { has_failed buffer.new ≡ W.failed writer.new }
-    ensures put { Puts (hex_text bytes.now)
-        buffer.old (W.contents writer.old) (W.failed writer.old)
-        buffer.new (W.contents writer.new) (W.failed writer.new) }
+fn put_payload<W: Sink>(out: &mut Out<'_, W>, bytes: &[u8])
+    ensures { Puts (hex_text bytes.now) out.old out.new }
 {
     if bytes.is_empty() {
-        buffer.put(writer, b"-");
+        out.put(b"-");
     } else {
-        buffer.put_hex(writer, bytes);
+        out.put_hex(bytes);
     }
 }
 
 /// Puts a record's line.
-pub(crate) fn put_line<W: Sink>(buffer: &mut TextBuffer, writer: &mut W, line: &Line<'_>)
-    requires { has_failed buffer.old ≡ W.failed writer.old }
-    ensures tied { has_failed buffer.new ≡ W.failed writer.new }
-    ensures put { Puts (printed_line (line_seen line.now))
-        buffer.old (W.contents writer.old) (W.failed writer.old)
-        buffer.new (W.contents writer.new) (W.failed writer.new) }
+pub(crate) fn put_line<W: Sink>(out: &mut Out<'_, W>, line: &Line<'_>)
+    ensures { Puts (printed_line (line_seen line.now)) out.old out.new }
 {
-    put_numbers(buffer, writer, line);
-    put_payload(buffer, writer, line.bytes);
-    buffer.put(writer, b"\n");
+    put_numbers(out, line);
+    put_payload(out, line.bytes);
+    out.put(b"\n");
 }
 
 /// Puts a record's line with what its event is.
-pub(crate) fn put_named_line<W: Sink>(
-    buffer: &mut TextBuffer,
-    writer: &mut W,
-    names: &EventNames,
-    line: &Line<'_>,
-)
-    requires { has_failed buffer.old ≡ W.failed writer.old }
-    ensures tied { has_failed buffer.new ≡ W.failed writer.new }
-    ensures put { Puts (named_line (events_of names.now) (line_seen line.now))
-        buffer.old (W.contents writer.old) (W.failed writer.old)
-        buffer.new (W.contents writer.new) (W.failed writer.new) }
+pub(crate) fn put_named_line<W: Sink>(out: &mut Out<'_, W>, names: &EventNames, line: &Line<'_>)
+    ensures { Puts (named_line (events_of names.now) (line_seen line.now)) out.old out.new }
 {
-    put_numbers(buffer, writer, line);
-    put_named(buffer, writer, names, line.bytes);
-    buffer.put(writer, b" ");
-    put_payload(buffer, writer, line.bytes);
-    buffer.put(writer, b"\n");
+    put_numbers(out, line);
+    put_named(out, names, line.bytes);
+    out.put(b" ");
+    put_payload(out, line.bytes);
+    out.put(b"\n");
 }
 
 /// Puts the numbers of a record as JSON members, after the mark that opens the object.
-fn put_json_numbers<W: Sink>(buffer: &mut TextBuffer, writer: &mut W, line: &Line<'_>)
-    requires { has_failed buffer.old ≡ W.failed writer.old }
-    ensures tied { has_failed buffer.new ≡ W.failed writer.new }
-    ensures put { Puts (codes "{\"cpu\":" ++ decimal line.now.cpu.0 ++ codes ",\"number\":"
-        ++ decimal line.now.number.0 ++ codes ",\"time\":" ++ decimal line.now.moment.0)
-        buffer.old (W.contents writer.old) (W.failed writer.old)
-        buffer.new (W.contents writer.new) (W.failed writer.new) }
+fn put_json_numbers<W: Sink>(out: &mut Out<'_, W>, line: &Line<'_>)
+    ensures { Puts (codes "{\"cpu\":" ++ decimal line.now.cpu.0 ++ codes ",\"number\":"
+        ++ decimal line.now.number.0 ++ codes ",\"time\":" ++ decimal line.now.moment.0) out.old out.new }
 {
-    buffer.put(writer, b"{\"cpu\":");
-    buffer.put_number(writer, u64::from(line.cpu.0));
-    buffer.put(writer, b",\"number\":");
-    buffer.put_number(writer, line.number.0);
-    buffer.put(writer, b",\"time\":");
-    buffer.put_number(writer, line.moment.0);
+    out.put(b"{\"cpu\":");
+    out.put_number(u64::from(line.cpu.0));
+    out.put(b",\"number\":");
+    out.put_number(line.number.0);
+    out.put(b",\"time\":");
+    out.put_number(line.moment.0);
 }
 
 /// Puts the payload of a record as a JSON member, and ends the object and the line.
-fn put_json_payload<W: Sink>(buffer: &mut TextBuffer, writer: &mut W, bytes: &[u8])
-    requires { has_failed buffer.old ≡ W.failed writer.old }
-    ensures tied { has_failed buffer.new ≡ W.failed writer.new }
-    ensures put { Puts (codes ",\"data\":\"" ++ pairs_of bytes.now ++ codes "\"}" ++ 10 ∷ [])
-        buffer.old (W.contents writer.old) (W.failed writer.old)
-        buffer.new (W.contents writer.new) (W.failed writer.new) }
+fn put_json_payload<W: Sink>(out: &mut Out<'_, W>, bytes: &[u8])
+    ensures { Puts (codes ",\"data\":\"" ++ pairs_of bytes.now ++ codes "\"}" ++ 10 ∷ []) out.old out.new }
 {
-    buffer.put(writer, b",\"data\":\"");
-    buffer.put_hex(writer, bytes);
-    buffer.put(writer, b"\"}\n");
+    out.put(b",\"data\":\"");
+    out.put_hex(bytes);
+    out.put(b"\"}\n");
 }
 
 /// Puts a record's line as JSON.
-pub(crate) fn put_json_line<W: Sink>(buffer: &mut TextBuffer, writer: &mut W, line: &Line<'_>)
-    requires { has_failed buffer.old ≡ W.failed writer.old }
-    ensures tied { has_failed buffer.new ≡ W.failed writer.new }
-    ensures put { Puts (json_line [] (line_seen line.now))
-        buffer.old (W.contents writer.old) (W.failed writer.old)
-        buffer.new (W.contents writer.new) (W.failed writer.new) }
+pub(crate) fn put_json_line<W: Sink>(out: &mut Out<'_, W>, line: &Line<'_>)
+    ensures { Puts (json_line [] (line_seen line.now)) out.old out.new }
 {
-    put_json_numbers(buffer, writer, line);
-    put_json_payload(buffer, writer, line.bytes);
+    put_json_numbers(out, line);
+    put_json_payload(out, line.bytes);
 }
 
 /// Puts a record's line as JSON, with what its event is.
 pub(crate) fn put_json_named_line<W: Sink>(
-    buffer: &mut TextBuffer,
-    writer: &mut W,
+    out: &mut Out<'_, W>,
     names: &EventNames,
     line: &Line<'_>,
 )
-    requires { has_failed buffer.old ≡ W.failed writer.old }
-    ensures tied { has_failed buffer.new ≡ W.failed writer.new }
-    ensures put { Puts (json_line (json_named (events_of names.now) line.now.bytes.now
-        (common_fields_in line.now.bytes.now)) (line_seen line.now))
-        buffer.old (W.contents writer.old) (W.failed writer.old)
-        buffer.new (W.contents writer.new) (W.failed writer.new) }
+    ensures { Puts (json_line (json_named (events_of names.now) line.now.bytes.now
+        (common_fields_in line.now.bytes.now)) (line_seen line.now)) out.old out.new }
 {
-    put_json_numbers(buffer, writer, line);
-    put_json_named(buffer, writer, names, line.bytes);
-    put_json_payload(buffer, writer, line.bytes);
+    put_json_numbers(out, line);
+    put_json_named(out, names, line.bytes);
+    put_json_payload(out, line.bytes);
 }

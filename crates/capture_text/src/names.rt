@@ -4,7 +4,7 @@ ghost use Rattle.std.specs.Option.{option_map};
 ghost use Rattle.std.specs.Fmt.{signed_decimal};
 ghost use Rattle.trace_dat.specs.kernel_texts.Names.{event_seen, events_of};
 ghost use Rattle.trace_dat.specs.kernel_texts.FirstBytes.{common_fields_in};
-ghost use Rattle.text_values.specs.Putting.{has_failed, Puts};
+ghost use Rattle.text_values.specs.Putting.{Puts};
 ghost use Rattle.capture_text.specs.Names.{event_text, is_print, text_before_zero, print_text, event_or_number};
 ghost use Rattle.capture_text.specs.Names.{print_part, named_part, known_part, json_event, json_print, json_named};
 ghost use Rattle.capture_text.specs.Names.{json_known};
@@ -12,35 +12,27 @@ ghost use Rattle.capture_text.specs.Names.{json_known};
 use crate::quoting::{put_name, put_quoted};
 use command_io::Sink;
 use itoa::Buffer;
-use text_values::TextBuffer;
+use text_values::Out;
 use trace_dat::kernel_texts::{EventName, EventNames, common_fields};
 
 /// How many bytes are before the text of a print: the fields that all events have, and an address.
 const PRINT_TEXT: usize = 16;
 
 /// Puts the names of an event.
-fn put_event<W: Sink>(buffer: &mut TextBuffer, writer: &mut W, event: EventName<'_>)
-    requires { has_failed buffer.old ≡ W.failed writer.old }
-    ensures tied { has_failed buffer.new ≡ W.failed writer.new }
-    ensures put { Puts (event_text (event_seen event.entry))
-        buffer.old (W.contents writer.old) (W.failed writer.old)
-        buffer.new (W.contents writer.new) (W.failed writer.new) }
+fn put_event<W: Sink>(out: &mut Out<'_, W>, event: EventName<'_>)
+    ensures { Puts (event_text (event_seen event.entry)) out.old out.new }
 {
-    put_name(buffer, writer, event.system);
-    buffer.put(writer, b":");
-    put_name(buffer, writer, event.name);
+    put_name(out, event.system);
+    out.put(b":");
+    put_name(out, event.name);
 }
 
 /// Puts a number that may be negative.
-fn put_signed<W: Sink>(buffer: &mut TextBuffer, writer: &mut W, number: i32)
-    requires { has_failed buffer.old ≡ W.failed writer.old }
-    ensures tied { has_failed buffer.new ≡ W.failed writer.new }
-    ensures put { Puts (signed_decimal number)
-        buffer.old (W.contents writer.old) (W.failed writer.old)
-        buffer.new (W.contents writer.new) (W.failed writer.new) }
+fn put_signed<W: Sink>(out: &mut Out<'_, W>, number: i32)
+    ensures { Puts (signed_decimal number) out.old out.new }
 {
     let mut digits = Buffer::new();
-    buffer.put(writer, digits.format(number).as_bytes());
+    out.put(digits.format(number).as_bytes());
 }
 
 /// Whether the event is what a program prints.
@@ -83,174 +75,100 @@ fn print_text(bytes: &[u8]) -> &[u8]
 // ---- in a line of text
 
 /// Puts the event, or its number.
-fn put_event_or_number<W: Sink>(
-    buffer: &mut TextBuffer,
-    writer: &mut W,
-    id: u16,
-    event: Option<EventName<'_>>,
-)
-    requires { has_failed buffer.old ≡ W.failed writer.old }
-    ensures tied { has_failed buffer.new ≡ W.failed writer.new }
-    ensures put { Puts (event_or_number id (option_map event_seen event.entry))
-        buffer.old (W.contents writer.old) (W.failed writer.old)
-        buffer.new (W.contents writer.new) (W.failed writer.new) }
+fn put_event_or_number<W: Sink>(out: &mut Out<'_, W>, id: u16, event: Option<EventName<'_>>)
+    ensures { Puts (event_or_number id (option_map event_seen event.entry)) out.old out.new }
 {
     match event {
-        Some(event) => put_event(buffer, writer, event),
-        None => buffer.put_number(writer, u64::from(id)),
+        Some(event) => put_event(out, event),
+        None => out.put_number(u64::from(id)),
     }
 }
 
 /// Puts the text of a print.
-fn put_print<W: Sink>(
-    buffer: &mut TextBuffer,
-    writer: &mut W,
-    event: Option<EventName<'_>>,
-    bytes: &[u8],
-)
-    requires { has_failed buffer.old ≡ W.failed writer.old }
-    ensures tied { has_failed buffer.new ≡ W.failed writer.new }
-    ensures put { Puts (print_part (option_map event_seen event.entry) bytes.now)
-        buffer.old (W.contents writer.old) (W.failed writer.old)
-        buffer.new (W.contents writer.new) (W.failed writer.new) }
+fn put_print<W: Sink>(out: &mut Out<'_, W>, event: Option<EventName<'_>>, bytes: &[u8])
+    ensures { Puts (print_part (option_map event_seen event.entry) bytes.now) out.old out.new }
 {
     if is_print(event) {
-        buffer.put(writer, b" ");
-        put_quoted(buffer, writer, print_text(bytes));
+        out.put(b" ");
+        put_quoted(out, print_text(bytes));
     }
 }
 
 /// Puts the process and the event of a record, whose event has this number.
-fn put_known<W: Sink>(
-    buffer: &mut TextBuffer,
-    writer: &mut W,
-    names: &EventNames,
-    bytes: &[u8],
-    id: u16,
-    pid: i32,
-)
-    requires { has_failed buffer.old ≡ W.failed writer.old }
-    ensures tied { has_failed buffer.new ≡ W.failed writer.new }
-    ensures put { Puts (known_part (events_of names.now) bytes.now id pid)
-        buffer.old (W.contents writer.old) (W.failed writer.old)
-        buffer.new (W.contents writer.new) (W.failed writer.new) }
+fn put_known<W: Sink>(out: &mut Out<'_, W>, names: &EventNames, bytes: &[u8], id: u16, pid: i32)
+    ensures { Puts (known_part (events_of names.now) bytes.now id pid) out.old out.new }
 {
     let event = names.event(id);
-    put_signed(buffer, writer, pid);
-    buffer.put(writer, b" ");
-    put_event_or_number(buffer, writer, id, event);
-    put_print(buffer, writer, event, bytes);
+    put_signed(out, pid);
+    out.put(b" ");
+    put_event_or_number(out, id, event);
+    put_print(out, event, bytes);
 }
 
 /// Puts what a line says of its record's event.
-pub(crate) fn put_named<W: Sink>(
-    buffer: &mut TextBuffer,
-    writer: &mut W,
-    names: &EventNames,
-    bytes: &[u8],
-)
-    requires { has_failed buffer.old ≡ W.failed writer.old }
-    ensures tied { has_failed buffer.new ≡ W.failed writer.new }
-    ensures put { Puts (named_part (events_of names.now) bytes.now (common_fields_in bytes.now))
-        buffer.old (W.contents writer.old) (W.failed writer.old)
-        buffer.new (W.contents writer.new) (W.failed writer.new) }
+pub(crate) fn put_named<W: Sink>(out: &mut Out<'_, W>, names: &EventNames, bytes: &[u8])
+    ensures { Puts (named_part (events_of names.now) bytes.now (common_fields_in bytes.now)) out.old out.new }
 {
     match common_fields(bytes) {
-        Some(fields) => put_known(buffer, writer, names, bytes, fields.event, fields.pid),
-        None => buffer.put(writer, b"- -"),
+        Some(fields) => put_known(out, names, bytes, fields.event, fields.pid),
+        None => out.put(b"- -"),
     }
 }
 
 // ---- in a JSON line
 
 /// Puts the event, or its number, as a JSON value.
-fn put_json_event<W: Sink>(
-    buffer: &mut TextBuffer,
-    writer: &mut W,
-    id: u16,
-    event: Option<EventName<'_>>,
-)
-    requires { has_failed buffer.old ≡ W.failed writer.old }
-    ensures tied { has_failed buffer.new ≡ W.failed writer.new }
-    ensures put { Puts (json_event id (option_map event_seen event.entry))
-        buffer.old (W.contents writer.old) (W.failed writer.old)
-        buffer.new (W.contents writer.new) (W.failed writer.new) }
+fn put_json_event<W: Sink>(out: &mut Out<'_, W>, id: u16, event: Option<EventName<'_>>)
+    ensures { Puts (json_event id (option_map event_seen event.entry)) out.old out.new }
 {
     match event {
-        Some(event) => put_json_name(buffer, writer, event),
-        None => buffer.put_number(writer, u64::from(id)),
+        Some(event) => put_json_name(out, event),
+        None => out.put_number(u64::from(id)),
     }
 }
 
 /// Puts the names of an event between quotation marks.
-fn put_json_name<W: Sink>(buffer: &mut TextBuffer, writer: &mut W, event: EventName<'_>)
-    requires { has_failed buffer.old ≡ W.failed writer.old }
-    ensures tied { has_failed buffer.new ≡ W.failed writer.new }
-    ensures put { Puts (34 ∷ event_text (event_seen event.entry) ++ 34 ∷ [])
-        buffer.old (W.contents writer.old) (W.failed writer.old)
-        buffer.new (W.contents writer.new) (W.failed writer.new) }
+fn put_json_name<W: Sink>(out: &mut Out<'_, W>, event: EventName<'_>)
+    ensures { Puts (34 ∷ event_text (event_seen event.entry) ++ 34 ∷ []) out.old out.new }
 {
-    buffer.put(writer, b"\"");
-    put_event(buffer, writer, event);
-    buffer.put(writer, b"\"");
+    out.put(b"\"");
+    put_event(out, event);
+    out.put(b"\"");
 }
 
 /// Puts the text of a print as a JSON member.
-fn put_json_print<W: Sink>(
-    buffer: &mut TextBuffer,
-    writer: &mut W,
-    event: Option<EventName<'_>>,
-    bytes: &[u8],
-)
-    requires { has_failed buffer.old ≡ W.failed writer.old }
-    ensures tied { has_failed buffer.new ≡ W.failed writer.new }
-    ensures put { Puts (json_print (option_map event_seen event.entry) bytes.now)
-        buffer.old (W.contents writer.old) (W.failed writer.old)
-        buffer.new (W.contents writer.new) (W.failed writer.new) }
+fn put_json_print<W: Sink>(out: &mut Out<'_, W>, event: Option<EventName<'_>>, bytes: &[u8])
+    ensures { Puts (json_print (option_map event_seen event.entry) bytes.now) out.old out.new }
 {
     if is_print(event) {
-        buffer.put(writer, b",\"text\":");
-        put_quoted(buffer, writer, print_text(bytes));
+        out.put(b",\"text\":");
+        put_quoted(out, print_text(bytes));
     }
 }
 
 /// Puts the process and the event of a record, whose event has this number, as JSON members.
 fn put_json_known<W: Sink>(
-    buffer: &mut TextBuffer,
-    writer: &mut W,
+    out: &mut Out<'_, W>,
     names: &EventNames,
     bytes: &[u8],
     id: u16,
     pid: i32,
 )
-    requires { has_failed buffer.old ≡ W.failed writer.old }
-    ensures tied { has_failed buffer.new ≡ W.failed writer.new }
-    ensures put { Puts (json_known (events_of names.now) bytes.now id pid)
-        buffer.old (W.contents writer.old) (W.failed writer.old)
-        buffer.new (W.contents writer.new) (W.failed writer.new) }
+    ensures { Puts (json_known (events_of names.now) bytes.now id pid) out.old out.new }
 {
     let event = names.event(id);
-    buffer.put(writer, b",\"pid\":");
-    put_signed(buffer, writer, pid);
-    buffer.put(writer, b",\"event\":");
-    put_json_event(buffer, writer, id, event);
-    put_json_print(buffer, writer, event, bytes);
+    out.put(b",\"pid\":");
+    put_signed(out, pid);
+    out.put(b",\"event\":");
+    put_json_event(out, id, event);
+    put_json_print(out, event, bytes);
 }
 
 /// Puts what a JSON line says of its record's event.
-pub(crate) fn put_json_named<W: Sink>(
-    buffer: &mut TextBuffer,
-    writer: &mut W,
-    names: &EventNames,
-    bytes: &[u8],
-)
-    requires { has_failed buffer.old ≡ W.failed writer.old }
-    ensures tied { has_failed buffer.new ≡ W.failed writer.new }
-    ensures put { Puts (json_named (events_of names.now) bytes.now (common_fields_in bytes.now))
-        buffer.old (W.contents writer.old) (W.failed writer.old)
-        buffer.new (W.contents writer.new) (W.failed writer.new) }
+pub(crate) fn put_json_named<W: Sink>(out: &mut Out<'_, W>, names: &EventNames, bytes: &[u8])
+    ensures { Puts (json_named (events_of names.now) bytes.now (common_fields_in bytes.now)) out.old out.new }
 {
     if let Some(fields) = common_fields(bytes) {
-        put_json_known(buffer, writer, names, bytes, fields.event, fields.pid);
+        put_json_known(out, names, bytes, fields.event, fields.pid);
     }
 }

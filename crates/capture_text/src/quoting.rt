@@ -2,13 +2,13 @@
 ghost use Rattle.std.specs.Prelude.{◌≡◌, ◌<◌, ◌≤◌, ◌↔◌, ◌++◌, IsTrue, codes, length, slice_index, take};
 ghost use Rattle.text_values.specs.Digits.{pair_of};
 ghost use Rattle.std.specs.Str.{is_utf8};
-ghost use Rattle.text_values.specs.Putting.{has_failed, Puts};
+ghost use Rattle.text_values.specs.Putting.{Puts};
 ghost use Rattle.capture_text.specs.Quoting.{shown_byte, shown_name, escaped_ascii, escaped, escaped_text, IsPlain};
 ghost use Rattle.capture_text.specs.Quoting.{quoted};
 
 use command_io::Sink;
 use std::str::from_utf8;
-use text_values::TextBuffer;
+use text_values::Out;
 
 /// A byte of a name as it is shown.
 fn shown_byte(byte: u8) -> u8
@@ -33,66 +33,50 @@ fn is_shown(name: &[u8]) -> bool
 }
 
 /// Puts a name: at once, if all of it is shown as it is.
-pub(crate) fn put_name<W: Sink>(buffer: &mut TextBuffer, writer: &mut W, name: &[u8])
-    requires { has_failed buffer.old ≡ W.failed writer.old }
-    ensures tied { has_failed buffer.new ≡ W.failed writer.new }
-    ensures put { Puts (shown_name name.now)
-        buffer.old (W.contents writer.old) (W.failed writer.old)
-        buffer.new (W.contents writer.new) (W.failed writer.new) }
+pub(crate) fn put_name<W: Sink>(out: &mut Out<'_, W>, name: &[u8])
+    ensures { Puts (shown_name name.now) out.old out.new }
 {
     if is_shown(name) {
-        buffer.put(writer, name);
+        out.put(name);
         return;
     }
     for byte in name {
-        buffer.put(writer, &[shown_byte(*byte)]);
+        out.put(&[shown_byte(*byte)]);
     }
 }
 
 /// Puts a byte of ASCII as it is between quotation marks.
-fn put_escaped_ascii<W: Sink>(buffer: &mut TextBuffer, writer: &mut W, byte: u8)
-    requires { has_failed buffer.old ≡ W.failed writer.old }
-    ensures tied { has_failed buffer.new ≡ W.failed writer.new }
-    ensures put { Puts (escaped_ascii byte)
-        buffer.old (W.contents writer.old) (W.failed writer.old)
-        buffer.new (W.contents writer.new) (W.failed writer.new) }
+fn put_escaped_ascii<W: Sink>(out: &mut Out<'_, W>, byte: u8)
+    ensures { Puts (escaped_ascii byte) out.old out.new }
 {
     match byte {
-        b'"' | b'\\' => buffer.put(writer, &[b'\\', byte]),
-        b'\n' => buffer.put(writer, b"\\n"),
-        b'\t' => buffer.put(writer, b"\\t"),
-        b'\r' => buffer.put(writer, b"\\r"),
-        0..=31 | 127 => put_control(buffer, writer, byte),
-        _ => buffer.put(writer, &[byte]),
+        b'"' | b'\\' => out.put(&[b'\\', byte]),
+        b'\n' => out.put(b"\\n"),
+        b'\t' => out.put(b"\\t"),
+        b'\r' => out.put(b"\\r"),
+        0..=31 | 127 => put_control(out, byte),
+        _ => out.put(&[byte]),
     }
 }
 
 /// Puts a control character by its number.
-fn put_control<W: Sink>(buffer: &mut TextBuffer, writer: &mut W, byte: u8)
-    requires { has_failed buffer.old ≡ W.failed writer.old }
-    ensures tied { has_failed buffer.new ≡ W.failed writer.new }
-    ensures put { Puts (codes "\\u00" ++ pair_of byte)
-        buffer.old (W.contents writer.old) (W.failed writer.old)
-        buffer.new (W.contents writer.new) (W.failed writer.new) }
+fn put_control<W: Sink>(out: &mut Out<'_, W>, byte: u8)
+    ensures { Puts (codes "\\u00" ++ pair_of byte) out.old out.new }
 {
-    buffer.put(writer, b"\\u00");
-    buffer.put_hex(writer, &[byte]);
+    out.put(b"\\u00");
+    out.put_hex(&[byte]);
 }
 
 /// Puts a byte as it is between quotation marks, in a text that is UTF-8 or not.
-fn put_escaped<W: Sink>(buffer: &mut TextBuffer, writer: &mut W, is_text: bool, byte: u8)
-    requires { has_failed buffer.old ≡ W.failed writer.old }
-    ensures tied { has_failed buffer.new ≡ W.failed writer.new }
-    ensures put { Puts (escaped is_text byte)
-        buffer.old (W.contents writer.old) (W.failed writer.old)
-        buffer.new (W.contents writer.new) (W.failed writer.new) }
+fn put_escaped<W: Sink>(out: &mut Out<'_, W>, is_text: bool, byte: u8)
+    ensures { Puts (escaped is_text byte) out.old out.new }
 {
     if byte < 128 {
-        put_escaped_ascii(buffer, writer, byte);
+        put_escaped_ascii(out, byte);
     } else if is_text {
-        buffer.put(writer, &[byte]);
+        out.put(&[byte]);
     } else {
-        buffer.put(writer, b"\\ufffd");
+        out.put(b"\\ufffd");
     }
 }
 
@@ -122,21 +106,17 @@ fn plain_length(is_text: bool, text: &[u8]) -> usize
 }
 
 /// Puts what is between the quotation marks. A run of bytes that stay as they are is put at once.
-fn put_escaped_text<W: Sink>(buffer: &mut TextBuffer, writer: &mut W, is_text: bool, text: &[u8])
-    requires { has_failed buffer.old ≡ W.failed writer.old }
-    ensures tied { has_failed buffer.new ≡ W.failed writer.new }
-    ensures put { Puts (escaped_text is_text text.now)
-        buffer.old (W.contents writer.old) (W.failed writer.old)
-        buffer.new (W.contents writer.new) (W.failed writer.new) }
+fn put_escaped_text<W: Sink>(out: &mut Out<'_, W>, is_text: bool, text: &[u8])
+    ensures { Puts (escaped_text is_text text.now) out.old out.new }
 {
     let mut rest = text;
     loop {
         let (plain, behind) = rest.split_at(plain_length(is_text, rest));
-        buffer.put(writer, plain);
+        out.put(plain);
         let Some((byte, more)) = behind.split_first() else {
             return;
         };
-        put_escaped(buffer, writer, is_text, *byte);
+        put_escaped(out, is_text, *byte);
         rest = more;
     }
 }
@@ -149,14 +129,10 @@ fn is_text(bytes: &[u8]) -> bool
 }
 
 /// Puts a text between quotation marks.
-pub(crate) fn put_quoted<W: Sink>(buffer: &mut TextBuffer, writer: &mut W, text: &[u8])
-    requires { has_failed buffer.old ≡ W.failed writer.old }
-    ensures tied { has_failed buffer.new ≡ W.failed writer.new }
-    ensures put { Puts (quoted text.now)
-        buffer.old (W.contents writer.old) (W.failed writer.old)
-        buffer.new (W.contents writer.new) (W.failed writer.new) }
+pub(crate) fn put_quoted<W: Sink>(out: &mut Out<'_, W>, text: &[u8])
+    ensures { Puts (quoted text.now) out.old out.new }
 {
-    buffer.put(writer, b"\"");
-    put_escaped_text(buffer, writer, is_text(text), text);
-    buffer.put(writer, b"\"");
+    out.put(b"\"");
+    put_escaped_text(out, is_text(text), text);
+    out.put(b"\"");
 }

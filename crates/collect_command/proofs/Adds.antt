@@ -7,31 +7,34 @@ use Rattle.parcel_streams.specs.Pieces.{AreAllPieces, IsPiece, bytes_of_piece, b
 use Rattle.parcel_streams.specs.Answers.{piece_seen, pieces_seen}
 use Rattle.parcel_streams.specs.declared.piece.Piece.{Piece}
 use Rattle.parcel_streams.proofs.Streams.{one_more as bytes_more, all_joined}
+use Rattle.command_io.specs.declared.ends.Sink.{Ghosts}
 use Rattle.collect_command.proofs.StreamsGathered.{gathered_more}
 use Rattle.ring_region.specs.declared.regions.Region.{Region}
 use Rattle.collect_command.specs.declared.recovery.gather.Stop.{Stop}
 use Rattle.collect_command.specs.declared.recovery.gather.Stop.TheVariants.{Refused, NoMemory}
 use Rattle.collect_command.specs.recovery.Telling.{IsToldBy}
-use Rattle.collect_command.specs.recovery.Gathering.{Gathering, Has, AddsOne, AddsAll, AreCounted, StopsAmong, StopsInRegion}
+use Rattle.collect_command.specs.recovery.Gathering.{Gathering, Has, AddsOne, AddsAll, AreCounted, StopsAmong}
+use Rattle.collect_command.specs.recovery.Gathering.{StopsInRegion}
 
-pub adds_more : (pieces : List Piece) (old mid new : Gathering) (piece : Piece) → AddsAll pieces old mid
-    → IsPiece (piece_seen piece) → AddsOne piece mid new → AddsAll (pieces ++ piece ∷ []) old new
-adds_more pieces old mid new piece all is one = record {
-  sound = subst AreAllPieces (sym (map-append piece_seen pieces (piece ∷ [])))
-      (all_joined (pieces_seen pieces) (piece_seen piece ∷ []) all.sound (is, tt));
-  adds = λ start before has. subst (Has start new) (append_assoc before pieces (piece ∷ []))
-      (gathered_more start mid.contents new.contents mid.failed new.failed mid.buffer new.buffer mid.fleet new.fleet
-      (before ++ pieces) piece (all.adds start before has) one);
-}
+module _ {K : Type 0} {g : Ghosts K} where
+  pub adds_more : (pieces : List Piece) (old mid new : Gathering K g) (piece : Piece) → AddsAll pieces old mid
+      → IsPiece (piece_seen piece) → AddsOne piece mid new → AddsAll (pieces ++ piece ∷ []) old new
+  adds_more pieces old mid new piece all is one = record {
+    sound = subst AreAllPieces (sym (map-append piece_seen pieces (piece ∷ [])))
+        (all_joined (pieces_seen pieces) (piece_seen piece ∷ []) all.sound (is, tt));
+    adds = λ start before has. subst (Has start new) (append_assoc before pieces (piece ∷ []))
+        (gathered_more start mid.out new.out mid.fleet new.fleet (before ++ pieces) piece (all.adds start before has)
+        one);
+  }
 
-pub adds_both : (pieces others : List Piece) (old mid new : Gathering) → AddsAll pieces old mid → AddsAll others mid new
-    → AddsAll (pieces ++ others) old new
-adds_both pieces others old mid new one two = record {
-  sound = subst AreAllPieces (sym (map-append piece_seen pieces others))
-      (all_joined (pieces_seen pieces) (pieces_seen others) one.sound two.sound);
-  adds = λ start before has. subst (Has start new) (append_assoc before pieces others)
-      (two.adds start (before ++ pieces) (one.adds start before has));
-}
+  pub adds_both : (pieces others : List Piece) (old mid new : Gathering K g) → AddsAll pieces old mid
+      → AddsAll others mid new → AddsAll (pieces ++ others) old new
+  adds_both pieces others old mid new one two = record {
+    sound = subst AreAllPieces (sym (map-append piece_seen pieces others))
+        (all_joined (pieces_seen pieces) (pieces_seen others) one.sound two.sound);
+    adds = λ start before has. subst (Has start new) (append_assoc before pieces others)
+        (two.adds start (before ++ pieces) (one.adds start before has));
+  }
 
 -- ---- counts
 
@@ -68,7 +71,8 @@ pub on_err : {T E : Type 0} {A B : E → Type 0} (result : Result T E) → IfErr
 on_err (Ok x) a f = tt
 on_err (Err e) a f = f e a
 
-pub stops_in_region : (region : Region) (pieces : List Piece) (old new : Gathering) (stop : Stop)
+pub stops_in_region : {K : Type 0} {g : Ghosts K} (region : Region) (pieces : List Piece) (old new : Gathering K g)
+    (stop : Stop)
     → IsToldBy region (pieces_seen pieces) → StopsAmong pieces old new stop → StopsInRegion region old new stop
 stops_in_region region pieces old new NoMemory told s = record {
   pieces = s.front;

@@ -10,8 +10,9 @@ use Rattle.parcel_streams.specs.declared.piece.Piece.{Piece}
 use Rattle.stream_collector.specs.Stream.{Stream}
 use Rattle.fleet_collector.specs.declared.refusal.PieceRefusal.{PieceRefusal}
 use Rattle.capture_text.specs.declared.form.Form.{Form}
-use Rattle.text_values.specs.declared.buffer.TextBuffer.{TextBuffer}
-use Rattle.text_values.specs.Putting.{HasPut}
+use Rattle.command_io.specs.declared.ends.Sink.{Ghosts}
+use Rattle.text_values.specs.declared.output.Out.{Out}
+use Rattle.text_values.specs.Putting.{Start, HasPut}
 use Rattle.fleet_text.specs.declared.fault.PieceTrouble.{PieceTrouble}
 use Rattle.fleet_text.specs.declared.fault.PieceTrouble.TheVariants.{Unread, Refused}
 use Rattle.fleet_text.specs.Pieces.{piece_line}
@@ -20,7 +21,8 @@ use Rattle.collect_command.specs.declared.streams.read.Stop.{Stop}
 use Rattle.collect_command.specs.declared.streams.read.Stop.TheVariants.{Read, Piece as PieceStop}
 use Rattle.collect_command.specs.declared.streams.read.Stopped.{Stopped}
 use Rattle.collect_command.specs.streams.Reading.{Placed, placed, piece_length, TakesAll, IsTrouble, IsWhy, StopsInputs}
-use Rattle.collect_command.specs.streams.Gathering.{HasGathered, IsGathered, Refuses, PrintsPiece, pieces_in, piece_lines}
+use Rattle.collect_command.specs.streams.Gathering.{HasGathered, IsGathered, Refuses, PrintsPiece, pieces_in}
+use Rattle.collect_command.specs.streams.Gathering.{piece_lines}
 use Rattle.collect_command.specs.streams.Runs.{Adds, IsRefused, Prints, IsNotPrinted}
 use Rattle.collect_command.proofs.Readings.{takes_both}
 use Rattle.collect_command.proofs.StreamsGathered.{added_told, GathersTo, all_gathered}
@@ -87,22 +89,20 @@ all_taken remaining has_failed takes refuses old new p q stopped s =
 
 -- ---- gathering
 
-module _ {G K : Type 0} (fleet_of : G → List (ℕ × Stream)) (buffer_of : G → TextBuffer) (contents : K → Option (List ℕ))
-    (failed : K → Bool) where
-  abbrev Gathering : (G × K) → Placed → (G × K) → Type 0
-  Gathering = GathersTo fleet_of buffer_of contents failed
+module _ {G K : Type 0} {g : Ghosts K} (fleet_of : G → List (ℕ × Stream)) where
+  abbrev Gathering : (G × Out K g) → Placed → (G × Out K g) → Type 0
+  Gathering = GathersTo fleet_of
 
-  abbrev pub RefusesTo : (G × K) → Placed → PieceRefusal → (G × K) → Type 0
-  RefusesTo p placed refusal q = Refuses placed.piece refusal (fleet_of p.0) (buffer_of p.0) (contents p.1) (failed p.1)
-      (fleet_of q.0) (buffer_of q.0) (contents q.1) (failed q.1)
+  abbrev pub RefusesTo : (G × Out K g) → Placed → PieceRefusal → (G × Out K g) → Type 0
+  RefusesTo p placed refusal q = Refuses placed.piece refusal (fleet_of p.0) p.1 (fleet_of q.0) q.1
 
-  abbrev Has : (start : Option (List ℕ)) → List Piece → (G × K) → Type 0
-  Has start pieces q = HasGathered start (contents q.1) (failed q.1) (buffer_of q.0) (fleet_of q.0) pieces
+  abbrev Has : (start : Start) → List Piece → (G × Out K g) → Type 0
+  Has start pieces q = HasGathered start q.1 (fleet_of q.0) pieces
 
   module _ {R : Type 0} (remaining : R → Option (List ℕ)) (has_failed : R → Bool) where
     -- a piece that is refused, or none, changes nothing
-    still : (start : Option (List ℕ)) (pieces : List Piece) (input : ℕ) (new : PieceReader R) (own : List Piece)
-        (left : Option (List ℕ)) (p q : G × K) (stop : Stop)
+    still : (start : Start) (pieces : List Piece) (input : ℕ) (new : PieceReader R) (own : List Piece)
+        (left : Option (List ℕ)) (p q : G × Out K g) (stop : Stop)
         → IsWhy remaining has_failed Gathering RefusesTo input new own left p q stop → Has start pieces p
         → Has start pieces q
     still start pieces input new own left p q Read (same, is) has = subst (Has start pieces) same has
@@ -110,28 +110,26 @@ module _ {G K : Type 0} (fleet_of : G → List (ℕ × Stream)) (buffer_of : G �
         subst (Has start pieces) same has
     still start pieces input new own left p q (PieceStop index at (Refused stream cpu refusal))
         (index_is, at_is, (piece, origin, gives, r)) has =
-        subst (λ c. HasGathered start c (failed q.1) (buffer_of q.0) (fleet_of q.0) pieces) (sym r.contents_stay)
-        (subst (λ x. HasGathered start (contents p.1) x (buffer_of q.0) (fleet_of q.0) pieces) (sym r.sound_stays)
-        (subst (λ b. HasGathered start (contents p.1) (failed p.1) b (fleet_of q.0) pieces) (sym r.buffer_stays)
-        (subst (λ l. HasGathered start (contents p.1) (failed p.1) (buffer_of p.0) l pieces) (sym r.fleet_stays) has)))
+        subst (λ (o : Out K g). HasGathered start o (fleet_of q.0) pieces) (sym r.out_stays)
+        (subst (λ l. HasGathered start p.1 l pieces) (sym r.fleet_stays) has)
 
-    pub stops_gathered : (start : Option (List ℕ)) (old new : List (PieceReader R)) (p q : G × K) (stopped : Stopped)
+    pub stops_gathered : (start : Start) (old new : List (PieceReader R)) (p q : G × Out K g) (stopped : Stopped)
         (s : StopsInputs remaining has_failed Gathering RefusesTo old new p q stopped) → Has start [] p
         → Has start (pieces_in (s.pieces ++ placed stopped.input 0 s.here.pieces)) q
     stops_gathered start old new p q stopped s has =
         let pieces = s.pieces ++ placed stopped.input 0 s.here.pieces in
         still start (pieces_in pieces) stopped.input s.this_new s.here.pieces s.here.left s.here.between q stopped.stop
         s.here.why
-        (all_gathered fleet_of buffer_of contents failed start [] pieces p s.here.between has
+        (all_gathered fleet_of start [] pieces p s.here.between has
         (all_taken remaining has_failed Gathering RefusesTo old new p q stopped s))
 
-    abbrev pub stops_adding : (old new : List (PieceReader R)) (p q : G × K) (stopped : Stopped) → fleet_of p.0 ≡ []
+    abbrev pub stops_adding : (old new : List (PieceReader R)) (p q : G × Out K g) (stopped : Stopped)
+        → fleet_of p.0 ≡ []
         → StopsInputs remaining has_failed Gathering RefusesTo old new p q stopped
         → StopsInputs remaining has_failed Adds IsRefused old new [] (fleet_of q.0) stopped
     stops_adding old new p q stopped none s =
-        let seen = stops_seen (λ (z : G × K). fleet_of z.0) Gathering Adds (λ a x b g. (g.added, g.adds)) remaining
-        has_failed
-        RefusesTo IsRefused (λ a x r b g. (g.fleet_stays, g.refused)) old new p q stopped s in
+        let seen = stops_seen (λ (z : G × Out K g). fleet_of z.0) Gathering Adds (λ a x b t. (t.added, t.adds))
+        remaining has_failed RefusesTo IsRefused (λ a x r b t. (t.fleet_stays, t.refused)) old new p q stopped s in
         record {
           front = seen.front;
           front_new = seen.front_new;
@@ -149,15 +147,14 @@ module _ {G K : Type 0} (fleet_of : G → List (ℕ × Stream)) (buffer_of : G �
         }
 
 -- what was gathered and then written
-pub gathered : {T F : Type 0} (result : Result T F) (contents after : Option (List ℕ)) (before : Option (List ℕ))
-    (failed_before failed : Bool) (buffer : TextBuffer) (pieces : List Piece) (fleet : List (ℕ × Stream))
-    → HasGathered contents before failed_before buffer fleet pieces
-    → ((text : List ℕ) → HasPut contents before failed_before text buffer → OnOk result (Appends contents after text))
-    → ((text : List ℕ) → HasPut contents before failed_before text buffer → OnErr result
-    (AppendsPrefix contents after text))
+pub gathered : {T F K : Type 0} {g : Ghosts K} (result : Result T F) (start : Start) (after : Option (List ℕ))
+    (failed : Bool) (out : Out K g) (pieces : List Piece) (fleet : List (ℕ × Stream))
+    → HasGathered start out fleet pieces
+    → ((text : List ℕ) → HasPut start text out → OnOk result (Appends start.contents after text))
+    → ((text : List ℕ) → HasPut start text out → OnErr result (AppendsPrefix start.contents after text))
     → ((failed ≡ true) ↔ IsErr result)
-    → IsGathered contents after failed pieces fleet (is_ok result)
-gathered (Ok x) contents after before failed_before failed buffer pieces fleet has all prefix fault =
+    → IsGathered start.contents after failed pieces fleet (is_ok result)
+gathered (Ok x) start after failed out pieces fleet has all prefix fault =
     let told = added_told has.added in
     record {
       kept = has.kept;
@@ -167,7 +164,7 @@ gathered (Ok x) contents after before failed_before failed buffer pieces fleet h
       written = λ sound. (all (bytes_of_pieces has.kept) has.put, refl);
       cut_off = λ broken. absurd (true≢false (sym (fault.0 broken)));
     }
-gathered (Err e) contents after before failed_before failed buffer pieces fleet has all prefix fault =
+gathered (Err e) start after failed out pieces fleet has all prefix fault =
     let told = added_told has.added in
     record {
       kept = has.kept;
@@ -180,47 +177,41 @@ gathered (Err e) contents after before failed_before failed buffer pieces fleet 
 
 -- ---- printing
 
-module _ {P W : Type 0} (form_of : P → Form) (buffer_of : P → TextBuffer) (contents : W → Option (List ℕ))
-    (failed : W → Bool) where
-  abbrev pub PrintsTo : (P × W) → Placed → (P × W) → Type 0
-  PrintsTo p placed q = PrintsPiece placed (form_of p.0) (buffer_of p.0) (contents p.1) (failed p.1)
-      (form_of q.0) (buffer_of q.0) (contents q.1) (failed q.1)
+module _ {P W : Type 0} {g : Ghosts W} (form_of : P → Form) where
+  abbrev pub PrintsTo : (P × Out W g) → Placed → (P × Out W g) → Type 0
+  PrintsTo p placed q = PrintsPiece placed (form_of p.0) p.1 (form_of q.0) q.1
 
-  abbrev pub NeverRefuses : (P × W) → Placed → PieceRefusal → (P × W) → Type 0
+  abbrev pub NeverRefuses : (P × Out W g) → Placed → PieceRefusal → (P × Out W g) → Type 0
   NeverRefuses p placed refusal q = ⊥
 
-  pub all_printed : (start : Option (List ℕ)) (text : List ℕ) (pieces : List Placed) (p q : P × W)
-      → HasPut start (contents p.1) (failed p.1) text (buffer_of p.0) → TakesAll PrintsTo p pieces q
-      → HasPut start (contents q.1) (failed q.1) (text ++ piece_lines (form_of p.0) pieces) (buffer_of q.0)
+  pub all_printed : (start : Start) (text : List ℕ) (pieces : List Placed) (p q : P × Out W g)
+      → HasPut start text p.1 → TakesAll PrintsTo p pieces q
+      → HasPut start (text ++ piece_lines (form_of p.0) pieces) q.1
   all_printed start text [] p q has same =
-      subst (λ (z : P × W). HasPut start (contents z.1) (failed z.1) (text ++ []) (buffer_of z.0)) same
-      (subst (λ t. HasPut start (contents p.1) (failed p.1) t (buffer_of p.0)) (sym (append-nil text)) has)
+      subst (λ (z : P × Out W g). HasPut start (text ++ []) z.1) same
+      (subst (λ t. HasPut start t p.1) (sym (append-nil text)) has)
   all_printed start text (x ∷ xs) p q has (m, one, more) =
       let line = piece_line (form_of p.0) x.input x.at (piece_length x.piece) (piece_seen x.piece) in
-      subst (λ t. HasPut start (contents q.1) (failed q.1) t (buffer_of q.0))
-      (append_assoc text line (piece_lines (form_of p.0) xs))
-      (subst (λ f. HasPut start (contents q.1) (failed q.1) ((text ++ line) ++ piece_lines f xs) (buffer_of q.0))
-      one.form_stays
+      subst (λ t. HasPut start t q.1) (append_assoc text line (piece_lines (form_of p.0) xs))
+      (subst (λ f. HasPut start ((text ++ line) ++ piece_lines f xs) q.1) one.form_stays
       (all_printed start (text ++ line) xs m q (one.put start text has) more))
 
   module _ {R : Type 0} (remaining : R → Option (List ℕ)) (has_failed : R → Bool) where
-    still_put : (start : Option (List ℕ)) (text : List ℕ) (input : ℕ) (new : PieceReader R) (own : List Piece)
-        (left : Option (List ℕ)) (p q : P × W) (stop : Stop)
+    still_put : (start : Start) (text : List ℕ) (input : ℕ) (new : PieceReader R) (own : List Piece)
+        (left : Option (List ℕ)) (p q : P × Out W g) (stop : Stop)
         → IsWhy remaining has_failed PrintsTo NeverRefuses input new own left p q stop
-        → HasPut start (contents p.1) (failed p.1) text (buffer_of p.0)
-        → HasPut start (contents q.1) (failed q.1) text (buffer_of q.0)
+        → HasPut start text p.1 → HasPut start text q.1
     still_put start text input new own left p q Read (same, is) has =
-        subst (λ (z : P × W). HasPut start (contents z.1) (failed z.1) text (buffer_of z.0)) same has
+        subst (λ (z : P × Out W g). HasPut start text z.1) same has
     still_put start text input new own left p q (PieceStop index at (Unread fault)) (index_is, at_is, (same, is)) has =
-        subst (λ (z : P × W). HasPut start (contents z.1) (failed z.1) text (buffer_of z.0)) same has
+        subst (λ (z : P × Out W g). HasPut start text z.1) same has
     still_put start text input new own left p q (PieceStop index at (Refused stream cpu refusal))
         (index_is, at_is, (piece, origin, gives, r)) has = absurd r
 
-    pub stops_printed : (start : Option (List ℕ)) (old new : List (PieceReader R)) (p q : P × W) (stopped : Stopped)
+    pub stops_printed : (start : Start) (old new : List (PieceReader R)) (p q : P × Out W g) (stopped : Stopped)
         (s : StopsInputs remaining has_failed PrintsTo NeverRefuses old new p q stopped)
-        → HasPut start (contents p.1) (failed p.1) [] (buffer_of p.0)
-        → HasPut start (contents q.1) (failed q.1)
-        (piece_lines (form_of p.0) (s.pieces ++ placed stopped.input 0 s.here.pieces)) (buffer_of q.0)
+        → HasPut start [] p.1
+        → HasPut start (piece_lines (form_of p.0) (s.pieces ++ placed stopped.input 0 s.here.pieces)) q.1
     stops_printed start old new p q stopped s has =
         let pieces = s.pieces ++ placed stopped.input 0 s.here.pieces in
         still_put start (piece_lines (form_of p.0) pieces) stopped.input s.this_new s.here.pieces s.here.left
@@ -229,12 +220,12 @@ module _ {P W : Type 0} (form_of : P → Form) (buffer_of : P → TextBuffer) (c
         (all_printed start [] pieces p s.here.between has
         (all_taken remaining has_failed PrintsTo NeverRefuses old new p q stopped s))
 
-    abbrev pub stops_printing : (old new : List (PieceReader R)) (p q : P × W) (stopped : Stopped)
+    abbrev pub stops_printing : (old new : List (PieceReader R)) (p q : P × Out W g) (stopped : Stopped)
         (s : StopsInputs remaining has_failed PrintsTo NeverRefuses old new p q stopped)
         → StopsInputs remaining has_failed Prints IsNotPrinted old new tt tt stopped
     stops_printing old new p q stopped s =
-        stops_seen (λ (z : P × W). tt) PrintsTo Prints (λ a x b g. tt) remaining has_failed NeverRefuses
-        IsNotPrinted (λ a x r b g. g) old new p q stopped s
+        stops_seen (λ (z : P × Out W g). tt) PrintsTo Prints (λ a x b t. tt) remaining has_failed NeverRefuses
+        IsNotPrinted (λ a x r b r'. r') old new p q stopped s
 
 -- ---- by whether all was read
 

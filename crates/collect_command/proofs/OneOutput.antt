@@ -18,10 +18,11 @@ use Rattle.capture.specs.files.Losses.{settled, overrun_in}
 use Rattle.capture_text.specs.declared.form.Form.{Form}
 use Rattle.capture_text.specs.declared.form.Form.TheVariants.{Text, Json}
 use Rattle.capture_text.specs.Printing.{record_line, run_line, run_lines}
+use Rattle.collect_command.specs.declared.collect.Collecting.{Collecting}
 use Rattle.collect_command.specs.declared.ending.Ending.{Ending}
 use Rattle.collect_command.specs.Gathered.{AreCpuPages, AreCpusPages}
 use Rattle.collect_command.specs.Listings.{all_unknown, all_damaged, listing_text, IsListed}
-use Rattle.collect_command.specs.Runs.{Asked, formats_for, ListsFiles}
+use Rattle.collect_command.specs.Runs.{formats_for, ListsFiles}
 
 -- ---- the parts, and the pages of each CPU
 
@@ -95,18 +96,18 @@ one_listed form formats parts captures start text other ending end a b =
       wrote.1 ∙ sym wrote_too.1,
     )
 
-pub one_output : (asked : Asked) (files : List File) (start text other : List ℕ) (ending end : Ending)
-    → ListsFiles asked files (Some start) (Some text) false ending
-    → ListsFiles asked files (Some start) (Some other) false end → (text ≡ other) × (ending ≡ end)
-one_output asked files start text other ending end a b =
+pub one_output : (collecting : Collecting) (files : List File) (start text other : List ℕ) (ending end : Ending)
+    → ListsFiles collecting files (Some start) (Some text) false ending
+    → ListsFiles collecting files (Some start) (Some other) false end → (text ≡ other) × (ending ≡ end)
+one_output collecting files start text other ending end a b =
     let overrun = overrun_in files in
-    let formats = formats_for asked files in
-    let parts : b.parts ≡ a.parts = one_parts asked.page files b.parts a.parts b.parts_are a.parts_are in
+    let formats = formats_for collecting files in
+    let parts : b.parts ≡ a.parts = one_parts collecting.page files b.parts a.parts b.parts_are a.parts_are in
     let pages = subst (λ (ps : List ModelPart). AreCpusPages overrun ps 0 b.captures) parts b.pages_are in
     let captures : b.captures ≡ a.captures =
     one_captures overrun a.parts 0 b.captures a.captures pages a.pages_are (b.count ∙ sym a.count) in
-    one_listed asked.form formats a.parts a.captures start text other ending end a.listed
-    (subst (λ (ps : List ModelPart). IsListed asked.form formats ps a.captures (Some start) (Some other) false end)
+    one_listed collecting.form formats a.parts a.captures start text other ending end a.listed
+    (subst (λ (ps : List ModelPart). IsListed collecting.form formats ps a.captures (Some start) (Some other) false end)
     parts
-    (subst (λ (cs : List (List Page)). IsListed asked.form formats b.parts cs (Some start) (Some other) false end)
+    (subst (λ (cs : List (List Page)). IsListed collecting.form formats b.parts cs (Some start) (Some other) false end)
     captures b.listed))

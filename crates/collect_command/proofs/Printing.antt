@@ -1,4 +1,4 @@
--- Texts that a printer has printed, one after the other.
+-- What a printer prints, one text after the other.
 use Rattle.std.proofs.Common.{◌≡◌, ℕ, zero, suc, ◌+◌, Bool, true, false, true≢false, ◌&&◌, ◌==◌, ◌↔◌, List, [], ◌∷◌}
 use Rattle.std.proofs.Common.{◌++◌, length, flat_map, map, append_assoc, append-nil, Option, Some, Result, Ok, Err}
 use Rattle.std.proofs.Common.{OnOk, OnErr, IsErr, refl, sym, ap, ◌∙◌, subst, arith}
@@ -26,52 +26,39 @@ use Rattle.capture.specs.files.Losses.{are_intact}
 use Rattle.capture_text.specs.declared.form.Form.{Form}
 use Rattle.capture_text.specs.declared.printer.Printer.{Printer}
 use Rattle.capture_text.specs.Printing.{record_line, unknown_lines, damaged_lines}
-use Rattle.capture_text.specs.Printed.{HasPrinted, Prints}
+use Rattle.capture_text.specs.Printed.{AreNames, PrintsRecord}
+use Rattle.command_io.specs.declared.ends.Sink.{Ghosts}
+use Rattle.text_values.specs.declared.output.Out.{Out}
+use Rattle.text_values.specs.Putting.{Puts}
+use Rattle.text_values.proofs.Chains.{put_none, put_then}
 use Rattle.collect_command.specs.Gathered.{AreReadFrom}
 use Rattle.command_io.specs.Written.{IsTextWritten}
 use Rattle.collect_command.specs.declared.ending.Ending.TheVariants.{NotWritten}
 use Rattle.collect_command.specs.Listings.{all_unknown, all_damaged, are_all_intact, ending_of}
 
--- ---- one text after the other
-
-pub prints_both : (a b c : Form → Option (List EventFormat) → List ℕ) (old mid new : Printer) (x y z : Option (List ℕ))
-    (f g h : Bool)
-    → Prints a old x f mid y g → Prints b mid y g new z h
-    → ((form : Form) (formats : Option (List EventFormat)) → c form formats ≡ a form formats ++ b form formats)
-    → Prints c old x f new z h
-prints_both a b c old mid new x y z f g h first second is form formats start text has =
-    subst (λ (t : List ℕ). HasPrinted form formats start z h t new)
-    (append_assoc text (a form formats) (b form formats) ∙ ap (λ (t : List ℕ). text ++ t) (sym (is form formats)))
-    (second form formats start (text ++ a form formats) (first form formats start text has))
-
-pub prints_none : (c : Form → Option (List EventFormat) → List ℕ) (old : Printer) (x : Option (List ℕ)) (f : Bool)
-    → ((form : Form) (formats : Option (List EventFormat)) → c form formats ≡ []) → Prints c old x f old x f
-prints_none c old x f is form formats start text has =
-    subst (λ (t : List ℕ). HasPrinted form formats start x f t old)
-    (sym (ap (λ (t : List ℕ). text ++ t) (is form formats) ∙ append-nil text)) has
-
 -- ---- the lines that are walked over
 
-module _ {W : Type 0} (contents : W → Option (List ℕ)) (failed : W → Bool) where
-  abbrev pub PrintsLine : (Printer × W) → Line → (Printer × W) → Type 0
-  PrintsLine p line q =
-      Prints (λ form formats. record_line form formats line) p.0 (contents p.1) (failed p.1) q.0 (contents q.1)
-      (failed q.1)
+module _ {W : Type 0} {g : Ghosts W} where
+  abbrev pub PrintsLine : (Printer × Out W g) → Line → (Printer × Out W g) → Type 0
+  PrintsLine p line q = PrintsRecord line p.0 p.1 q.0 q.1
 
-  pub walked : (lines : List Line) (p q : Printer × W) → TakesAll PrintsLine p lines q
-      → Prints (λ form formats. flat_map (record_line form formats) lines) p.0 (contents p.1) (failed p.1) q.0
-      (contents q.1) (failed q.1)
-  walked [] p q same =
-      subst
-      (λ (z : Printer × W).
-      Prints (λ form formats. []) p.0 (contents p.1) (failed p.1) z.0 (contents z.1) (failed z.1)) same
-      (prints_none (λ form formats. []) p.0 (contents p.1) (failed p.1) (λ form formats. refl))
-  walked (line ∷ lines) p q (mid, first, rest) =
-      prints_both (λ form formats. record_line form formats line)
-      (λ form formats. flat_map (record_line form formats) lines)
-      (λ form formats. flat_map (record_line form formats) (line ∷ lines)) p.0 mid.0 q.0 (contents p.1) (contents mid.1)
-      (contents q.1) (failed p.1) (failed mid.1) (failed q.1)
-      first (walked lines mid q rest) (λ form formats. refl)
+  pub walked : (formats : Option (List EventFormat)) (lines : List Line) (p q : Printer × Out W g)
+      → AreNames p.0.names formats → TakesAll PrintsLine p lines q
+      → Puts (flat_map (record_line p.0.form formats) lines) p.1 q.1
+  walked formats [] p q names same = subst (λ (z : Printer × Out W g). Puts [] p.1 z.1) same (put_none p.1)
+  walked formats (line ∷ lines) p q names (mid, first, rest) =
+      let stays = first.same_printer in
+      let named : AreNames mid.0.names formats =
+      subst (λ (z : Printer). AreNames z.names formats) (sym stays) names in
+      let others : Puts (flat_map (record_line p.0.form formats) lines) mid.1 q.1 =
+      subst (λ (z : Printer). Puts (flat_map (record_line z.form formats) lines) mid.1 q.1) stays
+      (walked formats lines mid q named rest) in
+      put_then _ _ (first.put formats names) others
+
+  -- the printer stays as it is
+  pub walked_printer : (lines : List Line) (p q : Printer × Out W g) → TakesAll PrintsLine p lines q → q.0 ≡ p.0
+  walked_printer [] p q same = sym (ap (λ (z : Printer × Out W g). z.0) same)
+  walked_printer (line ∷ lines) p q (mid, first, rest) = walked_printer lines mid q rest ∙ first.same_printer
 
 -- ---- the losses and damaged pages of one CPU more
 

@@ -1,5 +1,5 @@
 -- What pieces that are added one after the other state, and what is kept of them.
-use Rattle.std.proofs.Common.{◌≡◌, ℕ, Bool, List, [], ◌∷◌, ◌++◌, append_assoc, append-nil, Option, sym, subst}
+use Rattle.std.proofs.Common.{◌≡◌, ℕ, List, [], ◌∷◌, ◌++◌, append_assoc, append-nil, sym, subst}
 use Rattle.std.proofs.lemmas.List.{map-append}
 use Rattle.parcel_streams.specs.Pieces.{Packed, bytes_of_pieces}
 use Rattle.parcel_streams.specs.Answers.{piece_seen, pieces_seen}
@@ -13,10 +13,12 @@ use Rattle.fleet_collector.specs.Pieces.{AddsPiece}
 use Rattle.fleet_collector.specs.Told.{IsFleetOf}
 use Rattle.fleet_collector.proofs.Adding.{piece_added}
 use Rattle.fleet_collector.proofs.Telling.{told_by_none}
-use Rattle.text_values.specs.declared.buffer.TextBuffer.{TextBuffer}
-use Rattle.text_values.specs.Putting.{HasPut}
+use Rattle.command_io.specs.declared.ends.Sink.{Ghosts}
+use Rattle.text_values.specs.declared.output.Out.{Out}
+use Rattle.text_values.specs.Putting.{Start, HasPut}
 use Rattle.collect_command.specs.streams.Reading.{Placed, TakesAll}
-use Rattle.collect_command.specs.streams.Gathering.{AreAdded, none_added, one_more, kept_of, Gathers, HasGathered, pieces_in}
+use Rattle.collect_command.specs.streams.Gathering.{AreAdded, none_added, one_more, kept_of, Gathers, HasGathered}
+use Rattle.collect_command.specs.streams.Gathering.{pieces_in}
 
 -- ---- what they state
 
@@ -54,36 +56,36 @@ added_told (one_more pieces old new kept piece added before adds) =
 
 -- ---- gathering
 
-pub gathered_more : (start contents contents' : Option (List ℕ)) (failed failed' : Bool) (b b' : TextBuffer)
-    (fleet fleet' : List (ℕ × Stream)) (pieces : List Piece) (piece : Piece)
-    → HasGathered start contents failed b fleet pieces → Gathers piece fleet b contents failed fleet' b' contents'
-    failed'
-    → HasGathered start contents' failed' b' fleet' (pieces ++ piece ∷ [])
-gathered_more start contents contents' failed failed' b b' fleet fleet' pieces piece has one = record {
-  kept = has.kept ++ kept_of piece one.added;
-  added = one_more pieces fleet fleet' has.kept piece one.added has.added one.adds;
-  put = subst (λ t. HasPut start contents' failed' t b') (sym (joined has.kept (kept_of piece one.added)))
-      (one.put start (bytes_of_pieces has.kept) has.put);
-}
+module _ {K : Type 0} {g : Ghosts K} where
+  pub none_gathered : (start : Start) (out : Out K g) (fleet : List (ℕ × Stream)) → fleet ≡ [] → HasPut start [] out
+      → HasGathered start out fleet []
+  none_gathered start out fleet none has = record {
+    kept = [];
+    added = subst (λ (f : List (ℕ × Stream)). AreAdded [] f []) (sym none) none_added;
+    put = has;
+  }
 
-module _ {G K : Type 0} (fleet_of : G → List (ℕ × Stream)) (buffer_of : G → TextBuffer) (contents : K → Option (List ℕ))
-    (failed : K → Bool) where
-  abbrev pub GathersTo : (G × K) → Placed → (G × K) → Type 0
-  GathersTo p placed q = Gathers placed.piece (fleet_of p.0) (buffer_of p.0) (contents p.1) (failed p.1)
-      (fleet_of q.0) (buffer_of q.0) (contents q.1) (failed q.1)
+  pub gathered_more : (start : Start) (out out_now : Out K g) (fleet fleet_now : List (ℕ × Stream))
+      (pieces : List Piece) (piece : Piece) → HasGathered start out fleet pieces
+      → Gathers piece fleet out fleet_now out_now → HasGathered start out_now fleet_now (pieces ++ piece ∷ [])
+  gathered_more start out out_now fleet fleet_now pieces piece has one = record {
+    kept = has.kept ++ kept_of piece one.added;
+    added = one_more pieces fleet fleet_now has.kept piece one.added has.added one.adds;
+    put = subst (λ t. HasPut start t out_now) (sym (joined has.kept (kept_of piece one.added)))
+        (one.put start (bytes_of_pieces has.kept) has.put);
+  }
 
-  pub all_gathered : (start : Option (List ℕ)) (before : List Piece) (pieces : List Placed) (p q : G × K)
-      → HasGathered start (contents p.1) (failed p.1) (buffer_of p.0) (fleet_of p.0) before
-      → TakesAll GathersTo p pieces q
-      → HasGathered start (contents q.1) (failed q.1) (buffer_of q.0) (fleet_of q.0) (before ++ pieces_in pieces)
-  all_gathered start before [] p q has same =
-      subst (λ (z : G × K). HasGathered start (contents z.1) (failed z.1) (buffer_of z.0) (fleet_of z.0) (before ++ []))
-      same
-      (subst (HasGathered start (contents p.1) (failed p.1) (buffer_of p.0) (fleet_of p.0)) (sym (append-nil before))
-      has)
-  all_gathered start before (x ∷ xs) p q has (m, one, more) =
-      subst (HasGathered start (contents q.1) (failed q.1) (buffer_of q.0) (fleet_of q.0))
-      (append_assoc before (x.piece ∷ []) (pieces_in xs))
-      (all_gathered start (before ++ x.piece ∷ []) xs m q
-      (gathered_more start (contents p.1) (contents m.1) (failed p.1) (failed m.1) (buffer_of p.0) (buffer_of m.0)
-      (fleet_of p.0) (fleet_of m.0) before x.piece has one) more)
+  module _ {G : Type 0} (fleet_of : G → List (ℕ × Stream)) where
+    abbrev pub GathersTo : (G × Out K g) → Placed → (G × Out K g) → Type 0
+    GathersTo p placed q = Gathers placed.piece (fleet_of p.0) p.1 (fleet_of q.0) q.1
+
+    pub all_gathered : (start : Start) (before : List Piece) (pieces : List Placed) (p q : G × Out K g)
+        → HasGathered start p.1 (fleet_of p.0) before → TakesAll GathersTo p pieces q
+        → HasGathered start q.1 (fleet_of q.0) (before ++ pieces_in pieces)
+    all_gathered start before [] p q has same =
+        subst (λ (z : G × Out K g). HasGathered start z.1 (fleet_of z.0) (before ++ [])) same
+        (subst (HasGathered start p.1 (fleet_of p.0)) (sym (append-nil before)) has)
+    all_gathered start before (x ∷ xs) p q has (m, one, more) =
+        subst (HasGathered start q.1 (fleet_of q.0)) (append_assoc before (x.piece ∷ []) (pieces_in xs))
+        (all_gathered start (before ++ x.piece ∷ []) xs m q
+        (gathered_more start p.1 m.1 (fleet_of p.0) (fleet_of m.0) before x.piece has one) more)

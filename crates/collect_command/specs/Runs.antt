@@ -1,8 +1,8 @@
 -- What a run of `collect` does with its inputs and its sink.
-use Rattle.std.specs.Prelude.{◌≡◌, ◌⊎◌, ℕ, ◌^◌, ◌-◌, Bool, false, if◌then◌else◌, List, ◌++◌, length, min, Option, Some}
-use Rattle.std.specs.Prelude.{None}
+use Rattle.std.specs.Prelude.{◌≡◌, ◌⊎◌, ℕ, ◌^◌, ◌-◌, Bool, false, if◌then◌else◌, List, ◌++◌, length, map, min, Option}
+use Rattle.std.specs.Prelude.{Some, None}
 use Rattle.trace_model.specs.declared.limits.TheConstants.{MAX_CPUS}
-use Rattle.trace_dat.specs.Contents.{EventFormat}
+use Rattle.trace_dat.specs.Contents.{EventFormat, format_seen}
 use Rattle.command_io.specs.declared.command.TheConstants.{MEMORY_LINE}
 use Rattle.command_io.specs.Written.{IsTextWritten}
 use Rattle.capture.specs.Pages.{Page}
@@ -12,36 +12,29 @@ use Rattle.capture.specs.declared.files.fault.InputFault.TheVariants as faults
 use Rattle.capture.specs.files.Files.{File, ModelPart, ArePartsOf, all_formats, all_instances}
 use Rattle.capture.specs.files.Losses.{overrun_in}
 use Rattle.capture.specs.files.Inputs.{AreRead, IsUnread}
-use Rattle.capture_text.specs.declared.form.Form.{Form}
+use Rattle.collect_command.specs.declared.collect.Collecting.{Collecting}
 use Rattle.collect_command.specs.declared.ending.Collected.{Collected}
 use Rattle.collect_command.specs.declared.ending.Ending.{Ending}
-use Rattle.collect_command.specs.declared.ending.Ending.TheVariants.{Malformed, Numbers, NoMemory, NotRead}
+use Rattle.collect_command.specs.declared.ending.Ending.TheVariants.{MalformedFile, Numbers, NoMemory, NotRead}
 use Rattle.collect_command.specs.declared.ending.Ending.TheVariants.{NotWritten}
 use Rattle.collect_command.specs.Gathered.{AreCpusPages}
 use Rattle.collect_command.specs.Faults.{fault_line, numbers_line}
 use Rattle.collect_command.specs.Listings.{IsListed}
 
--- How files are listed: the form of lines, the size of a raw page, and whether events are named, by the formats in the
--- files and by these.
-pub record Asked : Type 0 where
-  pub form : Form
-  pub page : ℕ
-  pub names : Bool
-  pub formats : List EventFormat
-
--- the formats by which events are named, if they are
-abbrev pub formats_for : Asked → List File → Option (List EventFormat)
-formats_for asked files = if asked.names then Some (all_formats files ++ asked.formats) else None
+-- the formats by which events are named, if they are: those in the files, and those that are given
+abbrev pub formats_for : Collecting → List File → Option (List EventFormat)
+formats_for collecting files =
+    if collecting.names then Some (all_formats files ++ map format_seen collecting.formats.now) else None
 
 -- The files, none of which has a fault, are listed: their pages, CPU by CPU, and what these have and miss.
-pub record ListsFiles (asked : Asked) (files : List File) (contents after : Option (List ℕ)) (failed : Bool)
+pub record ListsFiles (collecting : Collecting) (files : List File) (contents after : Option (List ℕ)) (failed : Bool)
     (ending : Ending) : Type 0 where
   pub parts : List ModelPart
-  pub parts_are : ArePartsOf asked.page files parts
+  pub parts_are : ArePartsOf collecting.page files parts
   pub captures : List (List Page)
   pub pages_are : AreCpusPages (overrun_in files) parts 0 captures
   pub count : length captures ≡ MAX_CPUS
-  pub listed : IsListed asked.form (formats_for asked files) parts captures contents after failed ending
+  pub listed : IsListed collecting.form (formats_for collecting files) parts captures contents after failed ending
 
 -- nothing was written
 pub record IsUnwritten (contents after : Option (List ℕ)) (failed : Bool) : Type 0 where
@@ -56,7 +49,7 @@ IsMemoryLine contents after failed ending = IsTextWritten NotWritten contents af
 abbrev pub TellsFault : (index : ℕ) → InputFault → (contents after : Option (List ℕ)) (failed : Bool) → Ending → Type 0
 TellsFault index faults.Read contents after failed ending = IsUnwritten contents after failed × (ending ≡ NotRead index)
 TellsFault index (faults.File fault) contents after failed ending =
-    IsTextWritten NotWritten contents after failed (fault_line fault) (Malformed index fault) ending
+    IsTextWritten NotWritten contents after failed (fault_line fault) (MalformedFile index fault) ending
     ⊎ IsMemoryLine contents after failed ending
 TellsFault index faults.Numbers contents after failed ending =
     IsTextWritten NotWritten contents after failed numbers_line Numbers ending
@@ -65,26 +58,26 @@ TellsFault index faults.NoMemory contents after failed ending = IsMemoryLine con
 module _ {R : Type 0} (remaining : R → Option (List ℕ)) (has_failed : R → Bool) where
   -- all inputs were read, and are listed, or memory was refused before anything was written. `collected` says how
   -- many instances aren't listed.
-  pub record CollectsAll (asked : Asked) (old new : List (Input R)) (contents after : Option (List ℕ)) (failed : Bool)
-      (collected : Collected) : Type 0 where
+  pub record CollectsAll (collecting : Collecting) (old new : List (Input R)) (contents after : Option (List ℕ))
+      (failed : Bool) (collected : Collected) : Type 0 where
     pub files : List File
     pub are_read : AreRead remaining has_failed old new files
-    pub told : ListsFiles asked files contents after failed collected.ending
+    pub told : ListsFiles collecting files contents after failed collected.ending
         ⊎ IsMemoryLine contents after failed collected.ending
     pub instances_are : collected.instances ≡ min (all_instances files) (2 ^ 64 - 1)
 
   -- an input couldn't be read
-  pub record CollectsNone (asked : Asked) (old new : List (Input R)) (contents after : Option (List ℕ)) (failed : Bool)
-      (collected : Collected) : Type 0 where
+  pub record CollectsNone (collecting : Collecting) (old new : List (Input R)) (contents after : Option (List ℕ))
+      (failed : Bool) (collected : Collected) : Type 0 where
     pub index : ℕ
     pub fault : InputFault
-    pub unread : IsUnread remaining has_failed asked.page old new index fault
+    pub unread : IsUnread remaining has_failed collecting.page old new index fault
     pub told : TellsFault index fault contents after failed collected.ending
     pub no_instances : collected.instances ≡ 0
 
   -- What a run of `collect` does.
-  abbrev pub IsCollectRun : (asked : Asked) (old new : List (Input R)) (contents after : Option (List ℕ))
+  abbrev pub IsCollectRun : (collecting : Collecting) (old new : List (Input R)) (contents after : Option (List ℕ))
       (failed : Bool) → Collected → Type 0
-  IsCollectRun asked old new contents after failed collected =
-      CollectsAll asked old new contents after failed collected
-      ⊎ CollectsNone asked old new contents after failed collected
+  IsCollectRun collecting old new contents after failed collected =
+      CollectsAll collecting old new contents after failed collected
+      ⊎ CollectsNone collecting old new contents after failed collected

@@ -1,17 +1,24 @@
--- The exit statuses.
-use Rattle.std.specs.Prelude.{ℕ}
+-- The exit statuses of the commands that list.
+use Rattle.std.specs.Prelude.{ℕ, if◌then◌else◌}
 use Rattle.command_io.specs.declared.status.TheConstants.{DONE, REFUSED, NO_MEMORY, END_FAILED}
+use Rattle.collect_command.specs.declared.ending.Outcome.{Outcome}
 use Rattle.collect_command.specs.declared.ending.Ending.{Ending}
-use Rattle.collect_command.specs.declared.ending.Ending.TheVariants.{Done, Damaged, Malformed, Numbers, NoMemory}
-use Rattle.collect_command.specs.declared.ending.Ending.TheVariants.{NotRead, NotWritten}
+use Rattle.collect_command.specs.declared.ending.Ending.TheVariants.{Done, Damaged, MalformedFile, Malformed, Numbers}
+use Rattle.collect_command.specs.declared.ending.Ending.TheVariants.{NoMemory, NotRead, TooLong, NotWritten}
 
--- 0 if all is listed; 1 for a damaged page, a malformed file or numbers that don't fit; 3 and 4 as for the other
+-- 0 if all is listed; 1 for something damaged, a malformed input or numbers that don't fit; 3 and 4 as for the other
 -- commands
 abbrev pub status_for : Ending → ℕ
 status_for Done = DONE
 status_for Damaged = REFUSED
-status_for (Malformed input fault) = REFUSED
+status_for (MalformedFile input fault) = REFUSED
+status_for (Malformed input) = REFUSED
 status_for Numbers = REFUSED
 status_for NoMemory = NO_MEMORY
 status_for (NotRead input) = END_FAILED
+status_for (TooLong input) = END_FAILED
 status_for NotWritten = END_FAILED
+
+-- 4 if new pieces couldn't be kept
+abbrev pub status_of_run : Outcome → ℕ
+status_of_run outcome = if outcome.is_kept then status_for outcome.ending else END_FAILED

@@ -1,4 +1,3 @@
-pub mod Statuses
 pub mod Reading
 pub mod Telling
 pub mod Gathering

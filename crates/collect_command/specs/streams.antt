@@ -1,4 +1,3 @@
 pub mod Reading
 pub mod Gathering
-pub mod Statuses
 pub mod Runs

@@ -7,16 +7,16 @@ ghost use Rattle.trace_dat.specs.kernel_texts.Names.{HasEvents};
 ghost use Rattle.capture_text.specs.Printed.{AreNames};
 ghost use Rattle.capture.specs.files.Files.{File};
 ghost use Rattle.capture.specs.files.Captures.{AreCaptured};
-ghost use Rattle.collect_command.specs.Asking.{asked_by};
 ghost use Rattle.command_io.specs.Written.{IsTextWritten};
 ghost use Rattle.collect_command.specs.Runs.{ListsFiles, TellsFault, IsMemoryLine, IsCollectRun};
 
 use crate::ending::{Collected, Ending};
 use crate::fault_line::fault_line;
 use crate::listing::print_listing;
+use crate::memory::tell_memory;
 use capture::files::{Captured, FileFault, Input, InputFault, Unread, read_inputs};
 use capture_text::Form;
-use command_io::{MEMORY_LINE, Sink, Source, write_text};
+use command_io::{Sink, Source, write_text};
 use std::alloc::Global;
 use trace_dat::Format;
 use trace_dat::kernel_texts::EventNames;
@@ -47,14 +47,6 @@ fn write_line<W: Sink>(writer: &mut W, line: &[u8], wanted: Ending) -> Ending
     write_text(writer, line, wanted, Ending::NotWritten)
 }
 
-/// Reports that memory was refused.
-fn tell_memory<W: Sink>(writer: &mut W) -> Ending
-    requires { W.failed writer.old ≡ false }
-    ensures { IsMemoryLine (W.contents writer.old) (W.contents writer.new) (W.failed writer.new) result }
-{
-    write_line(writer, &MEMORY_LINE, Ending::NoMemory)
-}
-
 /// Reports the fault of a file.
 fn tell_file<W: Sink>(alloc: Global, input: usize, fault: FileFault, writer: &mut W) -> Ending
     requires { W.failed writer.old ≡ false }
@@ -62,7 +54,11 @@ fn tell_file<W: Sink>(alloc: Global, input: usize, fault: FileFault, writer: &mu
         (W.failed writer.new) result }
 {
     match fault_line(alloc, fault) {
-        Ok(line) => write_line(writer, line.as_slice(), Ending::Malformed { input, fault }),
+        Ok(line) => write_line(
+            writer,
+            line.as_slice(),
+            Ending::MalformedFile { input, fault },
+        ),
         Err(NoMemory) => tell_memory(writer),
     }
 }
@@ -99,7 +95,7 @@ fn list_captured<W: Sink>(
     requires sound { W.failed writer.old ≡ false }
     requires read { (files : List File) × AreCaptured collecting.now.page files captured }
     ensures listed { (files : List File) → AreCaptured collecting.now.page files captured → IfOk result (λ ending.
-        ListsFiles (asked_by collecting.now) files (W.contents writer.old) (W.contents writer.new)
+        ListsFiles collecting.now files (W.contents writer.old) (W.contents writer.new)
         (W.failed writer.new) ending) }
     ensures refused { OnErr result (writer.new ≡ writer.old) }
 {
@@ -121,7 +117,7 @@ fn list_or_tell<W: Sink>(
     requires sound { W.failed writer.old ≡ false }
     requires read { (files : List File) × AreCaptured collecting.now.page files captured }
     ensures { (files : List File) → AreCaptured collecting.now.page files captured
-        → ListsFiles (asked_by collecting.now) files (W.contents writer.old) (W.contents writer.new)
+        → ListsFiles collecting.now files (W.contents writer.old) (W.contents writer.new)
         (W.failed writer.new) result
         ⊎ IsMemoryLine (W.contents writer.old) (W.contents writer.new) (W.failed writer.new) result }
 {
@@ -144,7 +140,7 @@ pub fn collect_to<R: Source, W: Sink>(
     requires cpus { All (λ input. input.cpu.0 < MAX_CPUS) inputs.old }
     requires sound_readers { All (λ input. R.failed input.reader ≡ false) inputs.old }
     requires sound_writer { W.failed writer.old ≡ false }
-    ensures { IsCollectRun R.remaining R.failed (asked_by collecting.now) inputs.old inputs.new
+    ensures { IsCollectRun R.remaining R.failed collecting.now inputs.old inputs.new
         (W.contents writer.old) (W.contents writer.new) (W.failed writer.new) result }
 {
     match read_inputs(alloc, collecting.page, inputs) {

@@ -1,28 +1,32 @@
-//! How `collect` ends.
+//! How a command that lists ends.
 
 use capture::files::FileFault;
 use command_io::{DONE, END_FAILED, NO_MEMORY, REFUSED};
 
-/// How `collect` ends.
+/// How a command that lists ends. An input is named by its index.
 #[derive(Clone, Copy, Debug, PartialEq, Eq)]
 pub enum Ending {
-    /// All is listed.
+    /// All is printed, and nothing is damaged.
     Done,
-    /// All is listed but some pages that can't be read.
+    /// All is printed but some damaged pages or slots, and a line says of each what is wrong with it.
     Damaged,
     /// A file of trace-cmd has a fault, whose line was printed.
-    Malformed {
+    MalformedFile {
         /// How many inputs are before it.
         input: usize,
         /// What is wrong with it.
         fault: FileFault,
     },
+    /// This input isn't a stream of parcels or a region, or a piece of it is refused, and a line says so.
+    Malformed(usize),
     /// The numbers of a CPU don't fit 64 bits, and a line says so.
     Numbers,
     /// Memory was refused, and a line says so.
     NoMemory,
-    /// A read of the input of this index failed, and nothing was written.
+    /// A read of this input failed.
     NotRead(usize),
+    /// This input is longer than what is read.
+    TooLong(usize),
     /// A write failed.
     NotWritten,
 }
@@ -37,17 +41,17 @@ impl Ending {
     {
         match self {
             Ending::Done => DONE,
-            Ending::Damaged => REFUSED,
-            Ending::Malformed { .. } => REFUSED,
-            Ending::Numbers => REFUSED,
+            Ending::Damaged
+            | Ending::MalformedFile { .. }
+            | Ending::Malformed(_)
+            | Ending::Numbers => REFUSED,
             Ending::NoMemory => NO_MEMORY,
-            Ending::NotRead(_) => END_FAILED,
-            Ending::NotWritten => END_FAILED,
+            Ending::NotRead(_) | Ending::TooLong(_) | Ending::NotWritten => END_FAILED,
         }
     }
 }
 
-/// What a run of `collect` answers.
+/// What a command answers that lists captures.
 #[derive(Clone, Copy, Debug, PartialEq, Eq)]
 pub struct Collected {
     /// How it ends.
@@ -55,4 +59,29 @@ pub struct Collected {
     /// How many instances the files of trace-cmd have, which aren't listed: buffers beside the main one. It is 2^64 - 1
     /// if there are more, and 0 if a file can't be read.
     pub instances: u64,
+}
+
+/// What a command answers that may keep new pieces of streams.
+#[derive(Clone, Copy, Debug, PartialEq, Eq)]
+pub struct Outcome {
+    /// How it ends.
+    pub ending: Ending,
+    /// Whether each new piece was written to the sink for them.
+    pub is_kept: bool,
+}
+
+impl Outcome {
+    ghost use Rattle.std.specs.Prelude.{◌≡◌};
+    ghost use Rattle.collect_command.specs.Statuses.{status_of_run};
+
+    /// The exit status: 4 if new pieces couldn't be written, and else that of the ending.
+    pub fn status(self) -> u8
+        ensures { result ≡ status_of_run self }
+    {
+        if self.is_kept {
+            self.ending.status()
+        } else {
+            END_FAILED
+        }
+    }
 }

@@ -1,13 +1,14 @@
 //! That files have one listing.
 ghost use Rattle.std.specs.Prelude.{◌≡◌, false, ℕ, List, Some};
 ghost use Rattle.capture.specs.files.Files.{File};
+ghost use Rattle.collect_command.specs.declared.collect.Collecting.{Collecting as CollectingSeen};
 ghost use Rattle.collect_command.specs.declared.ending.Ending.{Ending as EndingSeen};
-ghost use Rattle.collect_command.specs.Runs.{Asked, ListsFiles};
+ghost use Rattle.collect_command.specs.Runs.{ListsFiles};
 
 /// Files have one listing: the files, and how they are to be listed, decide what `collect` writes of them, and how it
 /// ends, if no write fails.
 pub fn one_output()
-    ensures { (asked : Asked) (files : List File) (start text other : List ℕ) (ending end : EndingSeen) →
-        ListsFiles asked files (Some start) (Some text) false ending →
-        ListsFiles asked files (Some start) (Some other) false end → (text ≡ other) × (ending ≡ end) }
+    ensures { (collecting : CollectingSeen) (files : List File) (start text other : List ℕ) (ending end : EndingSeen) →
+        ListsFiles collecting files (Some start) (Some text) false ending →
+        ListsFiles collecting files (Some start) (Some other) false end → (text ≡ other) × (ending ≡ end) }
 {}

@@ -8,8 +8,9 @@ mod fault_line;
 mod gather;
 pub mod laws;
 mod listing;
+mod memory;
 pub mod recovery;
 pub mod streams;
 
 pub use collect::{Collecting, collect_to};
-pub use ending::{Collected, Ending};
+pub use ending::{Collected, Ending, Outcome};

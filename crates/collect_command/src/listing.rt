@@ -3,7 +3,8 @@ ghost use Rattle.std.specs.Prelude.{◌≡◌, ◌==◌, false, List, Option, le
 ghost use Rattle.trace_dat.specs.Contents.{EventFormat};
 ghost use Rattle.capture.specs.Pages.{Page};
 ghost use Rattle.capture.specs.files.Files.{ModelPart};
-ghost use Rattle.capture_text.specs.Printed.{failed_of, AreNames, Prints};
+ghost use Rattle.text_values.specs.Putting.{Puts};
+ghost use Rattle.capture_text.specs.Printed.{AreNames};
 ghost use Rattle.collect_command.specs.Gathered.{AreReadFrom};
 ghost use Rattle.collect_command.specs.Listings.{all_unknown, all_damaged, are_all_intact, ending_of, IsListed};
 
@@ -14,33 +15,28 @@ use capture::files::CpuCapture;
 use capture_text::{Form, Printer};
 use command_io::Sink;
 use std::alloc::Global;
+use text_values::{Out, TextBuffer};
 use time_merge::walk_lines;
 use trace_dat::kernel_texts::EventNames;
 use trace_model::NoMemory;
 
 /// Prints the losses of unknown number of each CPU.
-fn print_unknown<W: Sink>(printer: &mut Printer<'_>, writer: &mut W, cpus: &[CpuCapture])
-    requires { failed_of printer.old ≡ W.failed writer.old }
-    ensures tied { failed_of printer.new ≡ W.failed writer.new }
-    ensures put { (parts : List ModelPart) (captures : List (List Page)) → AreReadFrom parts 0 cpus.now captures
-        → Prints (λ form formats. all_unknown form 0 captures) printer.old (W.contents writer.old) (W.failed writer.old)
-        printer.new (W.contents writer.new) (W.failed writer.new) }
+fn print_unknown<W: Sink>(printer: &Printer<'_>, out: &mut Out<'_, W>, cpus: &[CpuCapture])
+    ensures { (parts : List ModelPart) (captures : List (List Page)) → AreReadFrom parts 0 cpus.now captures
+        → Puts (all_unknown printer.now.form 0 captures) out.old out.new }
 {
     for found in cpus {
-        printer.put_unknown(writer, &found.capture);
+        printer.put_unknown(out, &found.capture);
     }
 }
 
 /// Prints the damaged pages of each CPU.
-fn print_damaged<W: Sink>(printer: &mut Printer<'_>, writer: &mut W, cpus: &[CpuCapture])
-    requires { failed_of printer.old ≡ W.failed writer.old }
-    ensures tied { failed_of printer.new ≡ W.failed writer.new }
-    ensures put { (parts : List ModelPart) (captures : List (List Page)) → AreReadFrom parts 0 cpus.now captures
-        → Prints (λ form formats. all_damaged form parts 0 captures) printer.old (W.contents writer.old)
-        (W.failed writer.old) printer.new (W.contents writer.new) (W.failed writer.new) }
+fn print_damaged<W: Sink>(printer: &Printer<'_>, out: &mut Out<'_, W>, cpus: &[CpuCapture])
+    ensures { (parts : List ModelPart) (captures : List (List Page)) → AreReadFrom parts 0 cpus.now captures
+        → Puts (all_damaged printer.now.form parts 0 captures) out.old out.new }
 {
     for found in cpus {
-        printer.put_damaged(writer, &found.capture, &found.parts);
+        printer.put_damaged(out, &found.capture, &found.parts);
     }
 }
 
@@ -96,11 +92,13 @@ pub(crate) fn print_listing<W: Sink>(
     ensures refused { OnErr result (writer.new ≡ writer.old) }
 {
     let collector = gather(alloc, cpus)?;
-    let mut printer = Printer::new(alloc, form, names)?;
-    walk_lines(alloc, &collector, &mut printer, writer)?;
-    printer.put_missing(writer, &collector);
-    print_unknown(&mut printer, writer, cpus);
-    print_damaged(&mut printer, writer, cpus);
-    let is_written = printer.finish(writer).is_ok();
+    let mut buffer = TextBuffer::new(alloc)?;
+    let mut out = Out::new(&mut buffer, writer);
+    let mut printer = Printer { form, names };
+    walk_lines(alloc, &collector, &mut printer, &mut out)?;
+    printer.put_missing(&mut out, &collector);
+    print_unknown(&printer, &mut out, cpus);
+    print_damaged(&printer, &mut out, cpus);
+    let is_written = out.finish().is_ok();
     Ok(ending_of(is_written, are_intact(cpus)))
 }

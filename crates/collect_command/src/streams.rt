@@ -2,10 +2,8 @@
 //! for each piece.
 
 mod collect;
-mod ending;
 mod gather;
 mod print;
 mod read;
 
 pub use collect::{collect_streams, print_pieces};
-pub use ending::{Collected, Ending};

@@ -1,54 +1,109 @@
 -- What the program's command line is on words that call for `collect` and are written out.
 use Rattle.std.proofs.Common.{◌≡◌, ◌⊎◌, inl, inr, List, ◌∷◌, [], Result, Ok, Err, Some, None, Option, ℕ, Bool, true}
-use Rattle.std.proofs.Common.{false, codes, is_some, refl, sym, ap, ◌∙◌}
-use Rattle.clap.specs.Words.{Row, Text, first_of}
+use Rattle.std.proofs.Common.{false, codes, is_some, refl, sym, ap, ◌∙◌, arith}
+use Rattle.clap.specs.Words.{Row, Text, first_of, one_of}
 use Rattle.clap.proofs.OnLiterals.{clap_on_literals}
-use Rattle.command_line.proofs.Names.{collect_is_not_recover}
-use Rattle.command_line.specs.Calls.{Asked, AsksFor, AreUnread, IsAsked, asked_of, files_matched, page_matched}
+use Rattle.command_line.proofs.Names.{collect_is_not_recover, first_letter}
+use Rattle.command_line.specs.Calls.{Asked, AsksFor, AreUnread, IsAsked, SaysFlag, asked_of, files_matched}
+use Rattle.command_line.specs.Calls.{page_matched, usual}
 use Rattle.command_line.specs.CommandLine.{IsParseOf, IsAccepted, names_command, rows_named}
 use Rattle.command_line.specs.declared.call.Call.{Call}
 use Rattle.command_line.specs.declared.call.Call.TheVariants.{Replay, Run, Steps, Dump, Collect, Recover, Version}
 use Rattle.command_line.specs.declared.call.CallFault.{CallFault}
 use Rattle.command_line.specs.declared.call.CallFault.TheVariants.{Usage, NoMemory}
 
-same_asked : (a b : Asked) → a.page ≡ b.page → a.has_page ≡ b.has_page → a.names ≡ b.names → a.json ≡ b.json
-    → a.formats ≡ b.formats → a.keep ≡ b.keep → a.parcels ≡ b.parcels → a.files ≡ b.files → a ≡ b
-same_asked a b page has_page names json formats keep parcels files =
-    let make : ℕ → Bool → Bool → Bool → Option Text → Option Text → Bool → List (ℕ × Text) → Asked = λ p h n j f k q fs.
-    record { page = p; has_page = h; names = n; json = j; formats = f; keep = k; parcels = q; files = fs } in
-    ap (λ p. make p a.has_page a.names a.json a.formats a.keep a.parcels a.files) page
-    ∙ ap (λ h. make b.page h a.names a.json a.formats a.keep a.parcels a.files) has_page
-    ∙ ap (λ n. make b.page b.has_page n a.json a.formats a.keep a.parcels a.files) names
-    ∙ ap (λ j. make b.page b.has_page b.names j a.formats a.keep a.parcels a.files) json
-    ∙ ap (λ f. make b.page b.has_page b.names b.json f a.keep a.parcels a.files) formats
-    ∙ ap (λ k. make b.page b.has_page b.names b.json b.formats k a.parcels a.files) keep
-    ∙ ap (λ q. make b.page b.has_page b.names b.json b.formats b.keep q a.files) parcels
-    ∙ ap (λ fs. make b.page b.has_page b.names b.json b.formats b.keep b.parcels fs) files
+same_asked : (a b : Asked) → a.page ≡ b.page → a.names ≡ b.names → a.json ≡ b.json → a.formats ≡ b.formats
+    → a.keep ≡ b.keep → a.parcels ≡ b.parcels → a.files ≡ b.files → a ≡ b
+same_asked a b page names json formats keep parcels files =
+    ap (λ x. record a { page = x }) page
+    ∙ ap (λ x. record a { page = b.page; names = x }) names
+    ∙ ap (λ x. record a { page = b.page; names = b.names; json = x }) json
+    ∙ ap (λ x. record a { page = b.page; names = b.names; json = b.json; formats = x }) formats
+    ∙ ap (λ x. record a { page = b.page; names = b.names; json = b.json; formats = b.formats; keep = x }) keep
+    ∙ ap (λ x. record a {
+        page = b.page; names = b.names; json = b.json; formats = b.formats; keep = b.keep; parcels = x
+    }) parcels
+    ∙ ap (λ x. record b { files = x }) files
 
--- what the matches say, and so all that they ask for
-record Says (rows : List Row) (asked : Asked) : Type 0 where
-  page : page_matched rows ≡ Some asked.page
-  files : files_matched rows ≡ Some asked.files
-  has_page : is_some (first_of (codes "page") rows) ≡ asked.has_page
-  formats : first_of (codes "formats") rows ≡ asked.formats
-  keep : first_of (codes "keep") rows ≡ asked.keep
-  json : (asks : Asked) → AsksFor rows asks → asks.json ≡ asked.json
-  names : (asks : Asked) → AsksFor rows asks → asks.names ≡ asked.names
-  parcels : (asks : Asked) → AsksFor rows asks → asks.parcels ≡ asked.parcels
+-- ---- what the matches say of each option, and so all that is asked for
+
+-- the text of a flag, which is given or not
+abbrev flag_word : Bool → Text
+flag_word true = codes "true"
+flag_word false = codes "false"
+
+-- the text of `--names`, which is as if it were given if formats are
+abbrev names_text : (formats names : Option Text) → Option Text
+names_text None names = names
+names_text (Some folder) names = Some (codes "true")
+
+-- what they say of each option
+record Said : Type 0 where
+  page : Option (Option ℕ)
+  names : Option Text
+  json : Option Text
+  formats : Option Text
+  keep : Option Text
+  parcels : Option Text
+  files : Option (List (ℕ × Text))
+
+abbrev said_in : List Row → Said
+said_in rows = record {
+  page = page_matched rows;
+  names = names_text (first_of (codes "formats") rows) (one_of (codes "names") rows);
+  json = one_of (codes "json") rows;
+  formats = first_of (codes "formats") rows;
+  keep = first_of (codes "keep") rows;
+  parcels = one_of (codes "parcels") rows;
+  files = files_matched rows;
+}
+
+-- what they say if this is asked for
+abbrev said_for : Asked → Said
+said_for asked = record {
+  page = Some asked.page;
+  names = Some (flag_word asked.names);
+  json = Some (flag_word asked.json);
+  formats = asked.formats;
+  keep = asked.keep;
+  parcels = Some (flag_word asked.parcels);
+  files = Some asked.files;
+}
+
+same_flag : (rows : List Row) (name : Text) (is_given wanted : Bool) → SaysFlag rows name is_given
+    → one_of name rows ≡ Some (flag_word wanted) → is_given ≡ wanted
+same_flag rows name is_given true says is = says.0 is
+same_flag rows name is_given false says is = says.1 is
+
+true_is_not_false : Some (codes "true") ≡ Some (codes "false") → ⊥
+true_is_not_false same = let letters : 116 ≡ 102 = ap first_letter same in omega (arith, letters)
+
+same_names : (rows : List Row) (asked : Asked) (formats : Option Text) (wanted : Bool)
+    → first_of (codes "formats") rows ≡ formats → AsksFor rows asked
+    → names_text formats (one_of (codes "names") rows) ≡ Some (flag_word wanted) → asked.names ≡ wanted
+same_names rows asked (Some folder) true has asks is =
+    asks.named_formats (ap is_some (sym asks.formats ∙ has))
+same_names rows asked (Some folder) false has asks is = absurd (true_is_not_false is)
+same_names rows asked None true has asks is = asks.names is
+same_names rows asked None false has asks is = asks.no_names is (sym asks.formats ∙ has)
 
 same_some : {T : Type 0} (a b : T) (o : Option T) → o ≡ Some a → o ≡ Some b → a ≡ b
 same_some a b o x y = let both : Some a ≡ Some b = sym x ∙ y in cc
 
 module _ (words : List Text) (named : names_command words ≡ Some (codes "collect")) where
-  asks : (asked : Asked) (result : Result Call CallFault) → IsAccepted words → Says (rows_named words) asked
-      → IsParseOf words result → IsAsked result asked
+  asks : (asked : Asked) (result : Result Call CallFault) → IsAccepted words
+      → said_in (rows_named words) ≡ said_for asked → IsParseOf words result → IsAsked result asked
   asks asked (Ok (Collect call)) accepted says a =
+      let rows = rows_named words in
       let asks = a.collect call refl in
       same_asked (asked_of call) asked
-      (same_some call.page asked.page _ asks.page says.page) (asks.has_page ∙ says.has_page)
-      (says.names (asked_of call) asks) (says.json (asked_of call) asks)
-      (sym asks.formats ∙ says.formats) (sym asks.keep ∙ says.keep) (says.parcels (asked_of call) asks)
-      (same_some _ asked.files _ asks.files says.files)
+      (same_some call.page asked.page _ asks.page (ap (λ (s : Said). s.page) says))
+      (same_names rows (asked_of call) _ asked.names refl asks (ap (λ (s : Said). s.names) says))
+      (same_flag rows (codes "json") call.json asked.json asks.json (ap (λ (s : Said). s.json) says))
+      (sym asks.formats ∙ ap (λ (s : Said). s.formats) says)
+      (sym asks.keep ∙ ap (λ (s : Said). s.keep) says)
+      (same_flag rows (codes "parcels") call.parcels asked.parcels asks.parcels (ap (λ (s : Said). s.parcels) says))
+      (same_some _ asked.files _ asks.files (ap (λ (s : Said). s.files) says))
   asks asked (Ok (Replay log)) accepted says a = absurd (let wrong = sym named ∙ a.named (Replay log) refl in cc)
   asks asked (Ok Run) accepted says a = absurd (let wrong = sym named ∙ a.named Run refl in cc)
   asks asked (Ok Steps) accepted says a = absurd (let wrong = sym named ∙ a.named Steps refl in cc)
@@ -59,8 +114,8 @@ module _ (words : List Text) (named : names_command words ≡ Some (codes "colle
   asks asked (Err Usage) accepted says a = absurd (unread (a.no_collect refl accepted named))
     where
       unread : AreUnread (rows_named words) → ⊥
-      unread (inl none) = let wrong = sym none ∙ says.page in cc
-      unread (inr none) = let wrong = sym none ∙ says.files in cc
+      unread (inl none) = let wrong = sym none ∙ ap (λ (s : Said). s.page) says in cc
+      unread (inr none) = let wrong = sym none ∙ ap (λ (s : Said). s.files) says in cc
   asks asked (Err NoMemory) accepted says a = tt
 
   unreadable : (result : Result Call CallFault) → AreUnread (rows_named words) → IsParseOf words result
@@ -76,432 +131,114 @@ module _ (words : List Text) (named : names_command words ≡ Some (codes "colle
   unreadable (Err Usage) none a = inl refl
   unreadable (Err NoMemory) none a = inr refl
 
-collect_accepted : (first : List ℕ) → IsAccepted (first ∷ codes "collect" ∷ codes "a" ∷ codes "b" ∷ [])
-unfolding clap_on_literals
-collect_accepted first = refl
+-- ---- examples
 
-collect_named : (first : List ℕ)
-    → names_command (first ∷ codes "collect" ∷ codes "a" ∷ codes "b" ∷ []) ≡ Some (codes "collect")
-unfolding clap_on_literals names_command
-collect_named first = refl
+-- the words call for `collect`, and ask for this
+abbrev Calls : List Text → Asked → Type 0
+Calls words asked = IsAccepted words × (names_command words ≡ Some (codes "collect"))
+    × (said_in (rows_named words) ≡ said_for asked)
 
-collect_says : (first : List ℕ)
-    → Says (rows_named (first ∷ codes "collect" ∷ codes "a" ∷ codes "b" ∷ []))
-    (record {
-      page = 4096;
-      has_page = false;
-      names = false;
-      json = false;
-      formats = None;
-      keep = None;
-      parcels = false;
-      files = (0, codes "a") ∷ (1, codes "b") ∷ [];
-    })
-unfolding clap_on_literals rows_named
-collect_says first =
-    record {
-      page = refl;
-      has_page = refl;
-      files = refl;
-      formats = refl;
-      keep = refl;
-      parcels = λ asks h. h.no_parcels refl;
-      json = λ asks h. h.no_json refl;
-      names = λ asks h. h.no_names refl (sym h.formats);
-    }
+called : (words : List Text) (asked : Asked) (result : Result Call CallFault) → Calls words asked
+    → IsParseOf words result → IsAsked result asked
+called words asked result calls a = asks words calls.1 asked result calls.0 calls.2 a
 
-pub asked_collect : (first : List ℕ) (result : Result Call CallFault)
-    → IsParseOf (first ∷ codes "collect" ∷ codes "a" ∷ codes "b" ∷ []) result
-    → IsAsked result
-    (record {
-      page = 4096;
-      has_page = false;
-      names = false;
-      json = false;
-      formats = None;
-      keep = None;
-      parcels = false;
-      files = (0, codes "a") ∷ (1, codes "b") ∷ [];
-    })
-asked_collect first result a =
-    asks (first ∷ codes "collect" ∷ codes "a" ∷ codes "b" ∷ []) (collect_named first)
-    (record {
-      page = 4096;
-      has_page = false;
-      names = false;
-      json = false;
-      formats = None;
-      keep = None;
-      parcels = false;
-      files = (0, codes "a") ∷ (1, codes "b") ∷ [];
-    }) result (collect_accepted first) (collect_says first) a
+abbrev collect_words : (first : List ℕ) → List Text
+collect_words first = first ∷ codes "collect" ∷ codes "a" ∷ codes "b" ∷ []
 
-cpu_accepted : (first : List ℕ) → IsAccepted (first ∷ codes "collect" ∷ codes "3=a" ∷ codes "-" ∷ [])
-unfolding clap_on_literals
-cpu_accepted first = refl
+abbrev collect_asked : Asked
+collect_asked = usual ((0, codes "a") ∷ (1, codes "b") ∷ [])
 
-cpu_named : (first : List ℕ)
-    → names_command (first ∷ codes "collect" ∷ codes "3=a" ∷ codes "-" ∷ []) ≡ Some (codes "collect")
-unfolding clap_on_literals names_command
-cpu_named first = refl
+collect_calls : (first : List ℕ) → Calls (collect_words first) collect_asked
+unfolding clap_on_literals names_command rows_named
+collect_calls first = (refl, refl, refl)
 
-cpu_says : (first : List ℕ)
-    → Says (rows_named (first ∷ codes "collect" ∷ codes "3=a" ∷ codes "-" ∷ []))
-    (record {
-      page = 4096;
-      has_page = false;
-      names = false;
-      json = false;
-      formats = None;
-      keep = None;
-      parcels = false;
-      files = (3, codes "a") ∷ (1, codes "-") ∷ [];
-    })
-unfolding clap_on_literals rows_named
-cpu_says first =
-    record {
-      page = refl;
-      has_page = refl;
-      files = refl;
-      formats = refl;
-      keep = refl;
-      parcels = λ asks h. h.no_parcels refl;
-      json = λ asks h. h.no_json refl;
-      names = λ asks h. h.no_names refl (sym h.formats);
-    }
+pub asked_collect : (first : List ℕ) (result : Result Call CallFault) → IsParseOf (collect_words first) result
+    → IsAsked result collect_asked
+asked_collect first result a = called (collect_words first) collect_asked result (collect_calls first) a
 
-pub asked_cpu : (first : List ℕ) (result : Result Call CallFault)
-    → IsParseOf (first ∷ codes "collect" ∷ codes "3=a" ∷ codes "-" ∷ []) result
-    → IsAsked result
-    (record {
-      page = 4096;
-      has_page = false;
-      names = false;
-      json = false;
-      formats = None;
-      keep = None;
-      parcels = false;
-      files = (3, codes "a") ∷ (1, codes "-") ∷ [];
-    })
-asked_cpu first result a =
-    asks (first ∷ codes "collect" ∷ codes "3=a" ∷ codes "-" ∷ []) (cpu_named first)
-    (record {
-      page = 4096;
-      has_page = false;
-      names = false;
-      json = false;
-      formats = None;
-      keep = None;
-      parcels = false;
-      files = (3, codes "a") ∷ (1, codes "-") ∷ [];
-    }) result (cpu_accepted first) (cpu_says first) a
+abbrev cpu_words : (first : List ℕ) → List Text
+cpu_words first = first ∷ codes "collect" ∷ codes "3=a" ∷ codes "-" ∷ []
 
-flags_accepted : (first : List ℕ)
-    → IsAccepted (first ∷ codes "collect" ∷ codes "--json" ∷ codes "--names" ∷ codes "a" ∷ [])
-unfolding clap_on_literals
-flags_accepted first = refl
+abbrev cpu_asked : Asked
+cpu_asked = usual ((3, codes "a") ∷ (1, codes "-") ∷ [])
 
-flags_named : (first : List ℕ)
-    → names_command (first ∷ codes "collect" ∷ codes "--json" ∷ codes "--names" ∷ codes "a" ∷ [])
-    ≡ Some (codes "collect")
-unfolding clap_on_literals names_command
-flags_named first = refl
+cpu_calls : (first : List ℕ) → Calls (cpu_words first) cpu_asked
+unfolding clap_on_literals names_command rows_named
+cpu_calls first = (refl, refl, refl)
 
-flags_says : (first : List ℕ)
-    → Says (rows_named (first ∷ codes "collect" ∷ codes "--json" ∷ codes "--names" ∷ codes "a" ∷ []))
-    (record {
-      page = 4096;
-      has_page = false;
-      names = true;
-      json = true;
-      formats = None;
-      keep = None;
-      parcels = false;
-      files = (0, codes "a") ∷ [];
-    })
-unfolding clap_on_literals rows_named
-flags_says first =
-    record {
-      page = refl;
-      has_page = refl;
-      files = refl;
-      formats = refl;
-      keep = refl;
-      parcels = λ asks h. h.no_parcels refl;
-      json = λ asks h. h.json refl;
-      names = λ asks h. h.names refl;
-    }
+pub asked_cpu : (first : List ℕ) (result : Result Call CallFault) → IsParseOf (cpu_words first) result
+    → IsAsked result cpu_asked
+asked_cpu first result a = called (cpu_words first) cpu_asked result (cpu_calls first) a
 
-pub asked_flags : (first : List ℕ) (result : Result Call CallFault)
-    → IsParseOf (first ∷ codes "collect" ∷ codes "--json" ∷ codes "--names" ∷ codes "a" ∷ []) result
-    → IsAsked result
-    (record {
-      page = 4096;
-      has_page = false;
-      names = true;
-      json = true;
-      formats = None;
-      keep = None;
-      parcels = false;
-      files = (0, codes "a") ∷ [];
-    })
-asked_flags first result a =
-    asks (first ∷ codes "collect" ∷ codes "--json" ∷ codes "--names" ∷ codes "a" ∷ []) (flags_named first)
-    (record {
-      page = 4096;
-      has_page = false;
-      names = true;
-      json = true;
-      formats = None;
-      keep = None;
-      parcels = false;
-      files = (0, codes "a") ∷ [];
-    }) result (flags_accepted first) (flags_says first) a
+abbrev flags_words : (first : List ℕ) → List Text
+flags_words first = first ∷ codes "collect" ∷ codes "--json" ∷ codes "--names" ∷ codes "a" ∷ []
 
-page_accepted : (first : List ℕ) → IsAccepted (first ∷ codes "collect" ∷ codes "--page" ∷ codes "8192" ∷ codes "a" ∷ [])
-unfolding clap_on_literals
-page_accepted first = refl
+abbrev flags_asked : Asked
+flags_asked = record (usual ((0, codes "a") ∷ [])) { names = true; json = true }
 
-page_named : (first : List ℕ)
-    → names_command (first ∷ codes "collect" ∷ codes "--page" ∷ codes "8192" ∷ codes "a" ∷ []) ≡ Some (codes "collect")
-unfolding clap_on_literals names_command
-page_named first = refl
+flags_calls : (first : List ℕ) → Calls (flags_words first) flags_asked
+unfolding clap_on_literals names_command rows_named
+flags_calls first = (refl, refl, refl)
 
-page_says : (first : List ℕ)
-    → Says (rows_named (first ∷ codes "collect" ∷ codes "--page" ∷ codes "8192" ∷ codes "a" ∷ []))
-    (record {
-      page = 8192;
-      has_page = true;
-      names = false;
-      json = false;
-      formats = None;
-      keep = None;
-      parcels = false;
-      files = (0, codes "a") ∷ [];
-    })
-unfolding clap_on_literals rows_named
-page_says first =
-    record {
-      page = refl;
-      has_page = refl;
-      files = refl;
-      formats = refl;
-      keep = refl;
-      parcels = λ asks h. h.no_parcels refl;
-      json = λ asks h. h.no_json refl;
-      names = λ asks h. h.no_names refl (sym h.formats);
-    }
+pub asked_flags : (first : List ℕ) (result : Result Call CallFault) → IsParseOf (flags_words first) result
+    → IsAsked result flags_asked
+asked_flags first result a = called (flags_words first) flags_asked result (flags_calls first) a
 
-pub asked_page : (first : List ℕ) (result : Result Call CallFault)
-    → IsParseOf (first ∷ codes "collect" ∷ codes "--page" ∷ codes "8192" ∷ codes "a" ∷ []) result
-    → IsAsked result
-    (record {
-      page = 8192;
-      has_page = true;
-      names = false;
-      json = false;
-      formats = None;
-      keep = None;
-      parcels = false;
-      files = (0, codes "a") ∷ [];
-    })
-asked_page first result a =
-    asks (first ∷ codes "collect" ∷ codes "--page" ∷ codes "8192" ∷ codes "a" ∷ []) (page_named first)
-    (record {
-      page = 8192;
-      has_page = true;
-      names = false;
-      json = false;
-      formats = None;
-      keep = None;
-      parcels = false;
-      files = (0, codes "a") ∷ [];
-    }) result (page_accepted first) (page_says first) a
+abbrev page_words : (first : List ℕ) → List Text
+page_words first = first ∷ codes "collect" ∷ codes "--page" ∷ codes "8192" ∷ codes "a" ∷ []
 
-formats_accepted : (first : List ℕ)
-    → IsAccepted (first ∷ codes "collect" ∷ codes "a" ∷ codes "--formats" ∷ codes "d" ∷ codes "b" ∷ [])
-unfolding clap_on_literals
-formats_accepted first = refl
+abbrev page_asked : Asked
+page_asked = record (usual ((0, codes "a") ∷ [])) { page = Some 8192 }
 
-formats_named : (first : List ℕ)
-    → names_command (first ∷ codes "collect" ∷ codes "a" ∷ codes "--formats" ∷ codes "d" ∷ codes "b" ∷ [])
-    ≡ Some (codes "collect")
-unfolding clap_on_literals names_command
-formats_named first = refl
+page_calls : (first : List ℕ) → Calls (page_words first) page_asked
+unfolding clap_on_literals names_command rows_named
+page_calls first = (refl, refl, refl)
 
-formats_says : (first : List ℕ)
-    → Says (rows_named (first ∷ codes "collect" ∷ codes "a" ∷ codes "--formats" ∷ codes "d" ∷ codes "b" ∷ []))
-    (record {
-      page = 4096;
-      has_page = false;
-      names = true;
-      json = false;
-      formats = Some (codes "d");
-      keep = None;
-      parcels = false;
-      files = (0, codes "a") ∷ (1, codes "b") ∷ [];
-    })
-unfolding clap_on_literals rows_named
-formats_says first =
-    record {
-      page = refl;
-      has_page = refl;
-      files = refl;
-      formats = refl;
-      keep = refl;
-      parcels = λ asks h. h.no_parcels refl;
-      json = λ asks h. h.no_json refl;
-      names =
-          λ asks h. h.named_formats (let is : asks.formats ≡ Some (codes "d") = sym h.formats in ap is_some is);
-    }
+pub asked_page : (first : List ℕ) (result : Result Call CallFault) → IsParseOf (page_words first) result
+    → IsAsked result page_asked
+asked_page first result a = called (page_words first) page_asked result (page_calls first) a
 
-pub asked_formats : (first : List ℕ) (result : Result Call CallFault)
-    → IsParseOf (first ∷ codes "collect" ∷ codes "a" ∷ codes "--formats" ∷ codes "d" ∷ codes "b" ∷ []) result
-    → IsAsked result
-    (record {
-      page = 4096;
-      has_page = false;
-      names = true;
-      json = false;
-      formats = Some (codes "d");
-      keep = None;
-      parcels = false;
-      files = (0, codes "a") ∷ (1, codes "b") ∷ [];
-    })
-asked_formats first result a =
-    asks (first ∷ codes "collect" ∷ codes "a" ∷ codes "--formats" ∷ codes "d" ∷ codes "b" ∷ []) (formats_named first)
-    (record {
-      page = 4096;
-      has_page = false;
-      names = true;
-      json = false;
-      formats = Some (codes "d");
-      keep = None;
-      parcels = false;
-      files = (0, codes "a") ∷ (1, codes "b") ∷ [];
-    }) result (formats_accepted first) (formats_says first) a
+abbrev formats_words : (first : List ℕ) → List Text
+formats_words first = first ∷ codes "collect" ∷ codes "a" ∷ codes "--formats" ∷ codes "d" ∷ codes "b" ∷ []
 
-keep_accepted : (first : List ℕ)
-    → IsAccepted (first ∷ codes "collect" ∷ codes "--keep" ∷ codes "k" ∷ codes "--json" ∷ codes "a" ∷ [])
-unfolding clap_on_literals
-keep_accepted first = refl
+abbrev formats_asked : Asked
+formats_asked = record (usual ((0, codes "a") ∷ (1, codes "b") ∷ [])) { names = true; formats = Some (codes "d") }
 
-keep_named : (first : List ℕ)
-    → names_command (first ∷ codes "collect" ∷ codes "--keep" ∷ codes "k" ∷ codes "--json" ∷ codes "a" ∷ [])
-    ≡ Some (codes "collect")
-unfolding clap_on_literals names_command
-keep_named first = refl
+formats_calls : (first : List ℕ) → Calls (formats_words first) formats_asked
+unfolding clap_on_literals names_command rows_named
+formats_calls first = (refl, refl, refl)
 
-keep_says : (first : List ℕ)
-    → Says (rows_named (first ∷ codes "collect" ∷ codes "--keep" ∷ codes "k" ∷ codes "--json" ∷ codes "a" ∷ []))
-    (record {
-      page = 4096;
-      has_page = false;
-      names = false;
-      json = true;
-      formats = None;
-      keep = Some (codes "k");
-      parcels = false;
-      files = (0, codes "a") ∷ [];
-    })
-unfolding clap_on_literals rows_named
-keep_says first =
-    record {
-      page = refl;
-      has_page = refl;
-      files = refl;
-      formats = refl;
-      keep = refl;
-      parcels = λ asks h. h.no_parcels refl;
-      json = λ asks h. h.json refl;
-      names = λ asks h. h.no_names refl (sym h.formats);
-    }
+pub asked_formats : (first : List ℕ) (result : Result Call CallFault) → IsParseOf (formats_words first) result
+    → IsAsked result formats_asked
+asked_formats first result a = called (formats_words first) formats_asked result (formats_calls first) a
 
-pub asked_keep : (first : List ℕ) (result : Result Call CallFault)
-    → IsParseOf (first ∷ codes "collect" ∷ codes "--keep" ∷ codes "k" ∷ codes "--json" ∷ codes "a" ∷ []) result
-    → IsAsked result
-    (record {
-      page = 4096;
-      has_page = false;
-      names = false;
-      json = true;
-      formats = None;
-      keep = Some (codes "k");
-      parcels = false;
-      files = (0, codes "a") ∷ [];
-    })
-asked_keep first result a =
-    asks (first ∷ codes "collect" ∷ codes "--keep" ∷ codes "k" ∷ codes "--json" ∷ codes "a" ∷ []) (keep_named first)
-    (record {
-      page = 4096;
-      has_page = false;
-      names = false;
-      json = true;
-      formats = None;
-      keep = Some (codes "k");
-      parcels = false;
-      files = (0, codes "a") ∷ [];
-    }) result (keep_accepted first) (keep_says first) a
+abbrev keep_words : (first : List ℕ) → List Text
+keep_words first = first ∷ codes "collect" ∷ codes "--keep" ∷ codes "k" ∷ codes "--json" ∷ codes "a" ∷ []
 
-parcels_accepted : (first : List ℕ) → IsAccepted (first ∷ codes "collect" ∷ codes "--parcels" ∷ codes "a" ∷ [])
-unfolding clap_on_literals
-parcels_accepted first = refl
+abbrev keep_asked : Asked
+keep_asked = record (usual ((0, codes "a") ∷ [])) { json = true; keep = Some (codes "k") }
 
-parcels_named : (first : List ℕ)
-    → names_command (first ∷ codes "collect" ∷ codes "--parcels" ∷ codes "a" ∷ []) ≡ Some (codes "collect")
-unfolding clap_on_literals names_command
-parcels_named first = refl
+keep_calls : (first : List ℕ) → Calls (keep_words first) keep_asked
+unfolding clap_on_literals names_command rows_named
+keep_calls first = (refl, refl, refl)
 
-parcels_says : (first : List ℕ)
-    → Says (rows_named (first ∷ codes "collect" ∷ codes "--parcels" ∷ codes "a" ∷ []))
-    (record {
-      page = 4096;
-      has_page = false;
-      names = false;
-      json = false;
-      formats = None;
-      keep = None;
-      parcels = true;
-      files = (0, codes "a") ∷ [];
-    })
-unfolding clap_on_literals rows_named
-parcels_says first =
-    record {
-      page = refl;
-      has_page = refl;
-      files = refl;
-      formats = refl;
-      keep = refl;
-      parcels = λ asks h. h.parcels refl;
-      json = λ asks h. h.no_json refl;
-      names = λ asks h. h.no_names refl (sym h.formats);
-    }
+pub asked_keep : (first : List ℕ) (result : Result Call CallFault) → IsParseOf (keep_words first) result
+    → IsAsked result keep_asked
+asked_keep first result a = called (keep_words first) keep_asked result (keep_calls first) a
 
-pub asked_parcels : (first : List ℕ) (result : Result Call CallFault)
-    → IsParseOf (first ∷ codes "collect" ∷ codes "--parcels" ∷ codes "a" ∷ []) result
-    → IsAsked result
-    (record {
-      page = 4096;
-      has_page = false;
-      names = false;
-      json = false;
-      formats = None;
-      keep = None;
-      parcels = true;
-      files = (0, codes "a") ∷ [];
-    })
-asked_parcels first result a =
-    asks (first ∷ codes "collect" ∷ codes "--parcels" ∷ codes "a" ∷ []) (parcels_named first)
-    (record {
-      page = 4096;
-      has_page = false;
-      names = false;
-      json = false;
-      formats = None;
-      keep = None;
-      parcels = true;
-      files = (0, codes "a") ∷ [];
-    }) result (parcels_accepted first) (parcels_says first) a
+abbrev parcels_words : (first : List ℕ) → List Text
+parcels_words first = first ∷ codes "collect" ∷ codes "--parcels" ∷ codes "a" ∷ []
+
+abbrev parcels_asked : Asked
+parcels_asked = record (usual ((0, codes "a") ∷ [])) { parcels = true }
+
+parcels_calls : (first : List ℕ) → Calls (parcels_words first) parcels_asked
+unfolding clap_on_literals names_command rows_named
+parcels_calls first = (refl, refl, refl)
+
+pub asked_parcels : (first : List ℕ) (result : Result Call CallFault) → IsParseOf (parcels_words first) result
+    → IsAsked result parcels_asked
+asked_parcels first result a = called (parcels_words first) parcels_asked result (parcels_calls first) a
 
 high_named : (first : List ℕ) → names_command (first ∷ codes "collect" ∷ codes "256=a" ∷ []) ≡ Some (codes "collect")
 unfolding clap_on_literals names_command

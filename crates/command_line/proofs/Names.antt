@@ -2,7 +2,7 @@
 use Rattle.std.proofs.Common.{◌≡◌, ℕ, List, ◌∷◌, [], Option, Some, None, codes, ap, sym, arith}
 
 -- the first letter of a name, if there is one
-abbrev first_letter : Option (List ℕ) → ℕ
+abbrev pub first_letter : Option (List ℕ) → ℕ
 first_letter None = 0
 first_letter (Some []) = 0
 first_letter (Some (letter ∷ letters)) = letter

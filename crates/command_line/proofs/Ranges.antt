@@ -1,7 +1,7 @@
 -- What `collect` is asked for is in range.
 use Rattle.std.proofs.Common.{◌≡◌, ℕ, suc, ◌+◌, ◌-◌, ◌<◌, ◌≤◌, Bool, true, false, if◌then◌else◌, List, [], ◌∷◌, length}
 use Rattle.std.proofs.Common.{codes, drop, map, take, All, Option, None, Some, refl, ap, subst, arith}
-use Rattle.std.specs.Prelude.{option_and_then, option_map}
+use Rattle.std.specs.Prelude.{IfSome, option_and_then, option_map}
 use Rattle.std.proofs.lemmas.List.{get_or-map, length-map}
 use Rattle.std.proofs.lemmas.List.Elements.{All-nil, All-cons}
 use Rattle.std.proofs.lemmas.Bool.Decides.{nat_tests}
@@ -9,7 +9,7 @@ use Rattle.std.specs.List.{position as first_place}
 use Rattle.clap.specs.Words.{Row, all_of, first_of}
 use Rattle.command_line.specs.Calls.{AsksFor, IsInRange, asked_of, file_seen}
 use Rattle.command_line.specs.FileWords.{file_list, file_split, file_word, file_words, is_equals, is_number, number_in}
-use Rattle.command_line.specs.FileWords.{page_word, with_one_input}
+use Rattle.command_line.specs.FileWords.{number_word, with_one_input}
 use Rattle.command_line.specs.declared.call.CollectCall.{CollectCall}
 use Rattle.command_line.specs.declared.call.CpuFile.{CpuFile}
 use Rattle.command_line.specs.declared.words.TheConstants.{MIN_PAGE, MAX_PAGE}
@@ -18,9 +18,16 @@ use Rattle.trace_model.specs.declared.limits.TheConstants.{MAX_CPUS}
 number_bounds : (low high : ℕ) (text : List ℕ) (n : ℕ) → number_in low high text ≡ Some n → (low ≤ n) × (n ≤ high)
 number_bounds low high text n is = grind (arith, nat_tests)
 
-page_bounds : (word : Option (List ℕ)) (n : ℕ) → page_word word ≡ Some n → (MIN_PAGE ≤ n) × (n ≤ MAX_PAGE)
-page_bounds None n is = grind (arith, nat_tests)
-page_bounds (Some text) n is = number_bounds MIN_PAGE MAX_PAGE text n is
+same_number : (read : Option ℕ) (n : ℕ) → option_map (λ number. Some number) read ≡ Some (Some n) → read ≡ Some n
+same_number None n is = absurd (cc)
+same_number (Some m) n is = cc
+
+word_bounds : (low high : ℕ) (word : Option (List ℕ)) (said : Option ℕ) → number_word low high word ≡ Some said
+    → IfSome said (λ n. (low ≤ n) × (n ≤ high))
+word_bounds low high word None is = tt
+word_bounds low high None (Some n) is = absurd (cc)
+word_bounds low high (Some text) (Some n) is =
+    number_bounds low high text n (same_number (number_in low high text) n is)
 
 split_bound : (position : ℕ) (word : List ℕ) (at : Option ℕ) (file : ℕ × List ℕ)
     → file_split position word at ≡ Some file
@@ -97,11 +104,9 @@ seen_bound files all k d inside =
 
 pub asked_in_range : (rows : List Row) (call : CollectCall) → AsksFor rows (asked_of call) → IsInRange call
 asked_in_range rows call asks =
-    let page = page_bounds (first_of (codes "page") rows) call.page asks.page in
     let files = listed_bound (all_of (codes "file") rows) (map file_seen call.files.items) asks.files in
     record {
-      smallest = page.0;
-      largest = page.1;
+      page = word_bounds MIN_PAGE MAX_PAGE (first_of (codes "page") rows) call.page asks.page;
       some = omega (arith, files.0, length-map call.files.items file_seen);
       cpus = seen_bound call.files.items files.1;
     }

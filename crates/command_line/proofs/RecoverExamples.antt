@@ -69,7 +69,7 @@ recover_says : (first : List ℕ)
     → Says (rows_named (first ∷ codes "recover" ∷ codes "3=a" ∷ codes "b" ∷ []))
     (record { json = false; keep = None; files = codes "3=a" ∷ codes "b" ∷ [] })
 unfolding clap_on_literals rows_named
-recover_says first = record { files = refl; json = λ asks h. h.no_json refl; keep = λ asks h. sym h.keep }
+recover_says first = record { files = refl; json = λ asks h. h.json.1 refl; keep = λ asks h. sym h.keep }
 
 pub asked_recover : (first : List ℕ) (result : Result Call CallFault)
     → IsParseOf (first ∷ codes "recover" ∷ codes "3=a" ∷ codes "b" ∷ []) result
@@ -94,7 +94,7 @@ keep_says : (first : List ℕ)
     → Says (rows_named (first ∷ codes "recover" ∷ codes "--json" ∷ codes "-" ∷ codes "--keep" ∷ codes "k" ∷ []))
     (record { json = true; keep = Some (codes "k"); files = codes "-" ∷ [] })
 unfolding clap_on_literals rows_named
-keep_says first = record { files = refl; json = λ asks h. h.json refl; keep = λ asks h. sym h.keep }
+keep_says first = record { files = refl; json = λ asks h. h.json.0 refl; keep = λ asks h. sym h.keep }
 
 pub asked_to_keep : (first : List ℕ) (result : Result Call CallFault)
     → IsParseOf (first ∷ codes "recover" ∷ codes "--json" ∷ codes "-" ∷ codes "--keep" ∷ codes "k" ∷ []) result

@@ -5,7 +5,7 @@ use Rattle.std.specs.Char.{is_ascii_digit}
 use Rattle.std.specs.List.{list_all, position as first_place}
 use Rattle.std.specs.Str.Parse.{digits_value}
 use Rattle.trace_model.specs.declared.limits.TheConstants.{MAX_CPUS}
-use Rattle.command_line.specs.declared.words.TheConstants.{DEFAULT_PAGE, MAX_FILES, MIN_PAGE, MAX_PAGE}
+use Rattle.command_line.specs.declared.words.TheConstants.{MAX_FILES}
 
 -- the text is a number in decimal digits, one at least
 abbrev pub is_number : List ℕ → Bool
@@ -39,10 +39,10 @@ file_split position word (Some at) =
 abbrev pub file_word : (position : ℕ) (word : List ℕ) → Option (ℕ × List ℕ)
 file_word position word = file_split position word (first_place is_equals word)
 
--- the bytes of a page: those that `--page` says, if they are in its range, and else the usual ones
-abbrev pub page_word : Option (List ℕ) → Option ℕ
-page_word None = Some DEFAULT_PAGE
-page_word (Some text) = number_in MIN_PAGE MAX_PAGE text
+-- what an option says that has a number from `low` to `high`: this number, or that the option isn't given
+abbrev pub number_word : (low high : ℕ) → Option (List ℕ) → Option (Option ℕ)
+number_word low high None = Some None
+number_word low high (Some text) = option_map (λ number. Some number) (number_in low high text)
 
 -- the CPUs and paths of all FILEs, from this position on, if each has them
 abbrev pub file_words : (position : ℕ) (words : List (List ℕ)) → Option (List (ℕ × List ℕ))

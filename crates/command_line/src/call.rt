@@ -4,6 +4,7 @@ ghost use Rattle.clap.specs.Words.{kind_of};
 ghost use Rattle.command_line.specs.CommandLine.{fault_of_kind};
 ghost use Rattle.command_line.specs.declared.call.CallFault.TheVariants.{NoMemory};
 
+use crate::words::DEFAULT_PAGE;
 use clap::Error;
 use clap::error::ErrorKind;
 use std::alloc::{AllocError, AllocFailed};
@@ -21,10 +22,8 @@ pub struct CpuFile<'a> {
 /// What `collect` is asked for.
 #[derive(Debug, Drop)]
 pub struct CollectCall<'a> {
-    /// How many bytes a page of a raw file has.
-    pub page: usize,
-    /// Whether the command line says so.
-    pub has_page: bool,
+    /// How many bytes a page of a raw file has, if the command line says so.
+    pub page: Option<u32>,
     /// Whether the process and the event of a record are printed.
     pub names: bool,
     /// Whether each line is an object.
@@ -37,6 +36,23 @@ pub struct CollectCall<'a> {
     pub parcels: bool,
     /// The files, one at least.
     pub files: Vec<CpuFile<'a>>,
+}
+
+impl<'a> CollectCall<'a> {
+    ghost use Rattle.std.specs.Prelude.{◌≡◌, ◌≤◌};
+    ghost use Rattle.command_line.specs.Calls.{IsInRange, page_bytes};
+    ghost use Rattle.command_line.specs.declared.words.TheConstants.{MIN_PAGE};
+
+    /// How many bytes a page of a raw file has, as the command line says, or else [`DEFAULT_PAGE`].
+    pub fn page_bytes(&self) -> u32
+        ensures bytes { result ≡ page_bytes self.now.page }
+        ensures in_range { IsInRange self.now → MIN_PAGE ≤ result }
+    {
+        match self.page {
+            Some(bytes) => bytes,
+            None => DEFAULT_PAGE,
+        }
+    }
 }
 
 /// What `recover` is asked for.

@@ -1,11 +1,11 @@
 //! What the matches of `collect` ask for.
-ghost use Rattle.std.specs.Prelude.{◌≡◌, Some, None, Err, IfOk, codes, false, is_some, map, option_map, true};
+ghost use Rattle.std.specs.Prelude.{◌≡◌, Some, None, Err, IfOk, codes, false, map, option_map, true};
 ghost use Rattle.clap.specs.Words.{first_of, found_of, one_of, rows_of};
-ghost use Rattle.command_line.specs.Calls.{AreUnread, AsksFor, asked_of, file_seen, files_matched, page_matched};
+ghost use Rattle.command_line.specs.Calls.{AreUnread, AsksFor, asked_of, file_seen, files_matched, number_matched};
 ghost use Rattle.command_line.specs.FileWords.{count_inputs, file_list};
 
 use crate::call::{CallFault, CollectCall, CpuFile};
-use crate::words::{cpu_file, is_input, page_size};
+use crate::words::{MAX_PAGE, MIN_PAGE, cpu_file, is_input, number_said};
 use clap::ArgMatches;
 use std::alloc::Global;
 use trace_model::MAX_CPUS;
@@ -47,11 +47,11 @@ fn files_of<'a>(alloc: Global, words: &[&'a str]) -> Result<Vec<CpuFile<'a>>, Ca
     Ok(files)
 }
 
-// The bytes of a page that the matches ask for.
-fn matched_page(found: &ArgMatches<'_>) -> Option<u32>
-    ensures { result ≡ page_matched (rows_of (found_of found.now)) }
+// The number that the matches have for the option of this name, from `low` to `high`, if it is given.
+fn matched_number(found: &ArgMatches<'_>, name: &str, low: u32, high: u32) -> Option<Option<u32>>
+    ensures { result ≡ number_matched name.now low high (rows_of (found_of found.now)) }
 {
-    page_size(found.get_str("page"))
+    number_said(low, high, found.get_str(name))
 }
 
 // The files that they name.
@@ -73,13 +73,6 @@ pub(crate) fn matched_text<'a>(found: &ArgMatches<'a>, name: &str) -> Option<&'a
     found.get_str(name)
 }
 
-// Whether the option of this name is given.
-fn is_matched(found: &ArgMatches<'_>, name: &str) -> bool
-    ensures { result ≡ is_some (first_of name.now (rows_of (found_of found.now))) }
-{
-    matched_text(found, name).is_some()
-}
-
 // Whether the flag of this name is given.
 pub(crate) fn matched_flag(found: &ArgMatches<'_>, name: &str) -> bool
     ensures given { one_of name.now (rows_of (found_of found.now)) ≡ Some (codes "true") → result ≡ true }
@@ -96,14 +89,13 @@ pub(crate) fn collect_call<'a>(
     ensures asked { IfOk result (λ call. AsksFor (rows_of (found_of found.now)) (asked_of call)) }
     ensures unread { result ≡ Err CallFault.Usage → AreUnread (rows_of (found_of found.now)) }
 {
-    let Some(page) = matched_page(found) else {
+    let Some(page) = matched_number(found, "page", MIN_PAGE, MAX_PAGE) else {
         return Err(CallFault::Usage);
     };
     let files = matched_files(alloc, found)?;
     let formats = matched_text(found, "formats");
     Ok(CollectCall {
-        page: page as usize,
-        has_page: is_matched(found, "page"),
+        page,
         names: matched_flag(found, "names") || formats.is_some(),
         json: matched_flag(found, "json"),
         formats,

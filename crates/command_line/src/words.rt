@@ -2,7 +2,7 @@
 ghost use Rattle.std.specs.Prelude.{◌≡◌, None, MatchOption, option_map};
 ghost use Rattle.std.specs.List.{position as first_place};
 ghost use Rattle.command_line.specs.FileWords.{IsSplitAt, file_word, is_equals, is_input as is_input_path};
-ghost use Rattle.command_line.specs.FileWords.{is_number as is_number_text, number_in as number_in_text, page_word};
+ghost use Rattle.command_line.specs.FileWords.{is_number as is_number_text, number_in as number_in_text, number_word};
 ghost use Rattle.command_line.specs.Calls.{file_seen};
 
 use crate::call::CpuFile;
@@ -80,12 +80,15 @@ pub(crate) fn is_input(path: &str) -> bool
     matches!(path.as_bytes(), [b'-'])
 }
 
-/// The bytes of a page, by what `--page` says.
-pub(crate) fn page_size(text: Option<&str>) -> Option<u32>
-    ensures { result ≡ page_word (option_map (λ t. t.now) text.entry) }
+/// The number of an option, from `low` to `high`, by what the option says, if it is given.
+pub(crate) fn number_said(low: u32, high: u32, text: Option<&str>) -> Option<Option<u32>>
+    ensures { result ≡ number_word low high (option_map (λ t. t.now) text.entry) }
 {
     match text {
-        Some(text) => number_in(MIN_PAGE, MAX_PAGE, text),
-        None => Some(DEFAULT_PAGE),
+        Some(text) => match number_in(low, high, text) {
+            Some(number) => Some(Some(number)),
+            None => None,
+        },
+        None => Some(None),
     }
 }

@@ -1,7 +1,7 @@
 //! The line of a fault.
 ghost use Rattle.std.specs.Prelude.{◌≡◌, ◌++◌, codes};
 ghost use Rattle.std.specs.Fmt.{decimal};
-ghost use Rattle.text_values.specs.Putting.{has_failed, Puts};
+ghost use Rattle.text_values.specs.Putting.{Puts};
 ghost use Rattle.fleet_text.specs.Faults.{word_fault_name, image_fault_name, parcel_fault_name, piece_fault_name};
 ghost use Rattle.fleet_text.specs.Faults.{refused_by_parcels, refused_parcel, refused_mark, trouble_text, fault_line};
 ghost use Rattle.fleet_text.specs.Faults.{numbered_cpu, is_no_memory, is_memory_fault, is_memory_refusal};
@@ -14,7 +14,7 @@ use page_numbers::ParcelFault;
 use parcel_streams::{PieceFault, StreamId};
 use record_words::WordFault;
 use stream_collector::{AddFault, MarkFault};
-use text_values::TextBuffer;
+use text_values::Out;
 use trace_model::{CpuId, RecordNo};
 
 /// Why nothing is made of the next piece of an input.
@@ -57,230 +57,163 @@ impl PieceTrouble {
 }
 
 /// Puts a word with a number in parentheses.
-fn put_word<W: Sink>(buffer: &mut TextBuffer, writer: &mut W, word: &[u8], number: usize)
-    requires { has_failed buffer.old ≡ W.failed writer.old }
-    ensures tied { has_failed buffer.new ≡ W.failed writer.new }
-    ensures put { Puts (word.now ++ decimal number ++ codes ")")
-        buffer.old (W.contents writer.old) (W.failed writer.old)
-        buffer.new (W.contents writer.new) (W.failed writer.new) }
+fn put_word<W: Sink>(out: &mut Out<'_, W>, word: &[u8], number: usize)
+    ensures { Puts (word.now ++ decimal number ++ codes ")") out.old out.new }
 {
-    put_numbered(buffer, writer, word, number as u64);
-    buffer.put(writer, b")");
+    put_numbered(out, word, number as u64);
+    out.put(b")");
 }
 
 /// Puts the name of a word's fault.
-fn put_word_fault<W: Sink>(buffer: &mut TextBuffer, writer: &mut W, fault: WordFault)
-    requires { has_failed buffer.old ≡ W.failed writer.old }
-    ensures tied { has_failed buffer.new ≡ W.failed writer.new }
-    ensures put { Puts (word_fault_name fault)
-        buffer.old (W.contents writer.old) (W.failed writer.old)
-        buffer.new (W.contents writer.new) (W.failed writer.new) }
+fn put_word_fault<W: Sink>(out: &mut Out<'_, W>, fault: WordFault)
+    ensures { Puts (word_fault_name fault) out.old out.new }
 {
     match fault {
-        WordFault::Cut(at) => put_word(buffer, writer, b"Cut(", at),
-        WordFault::BadLength(at) => put_word(buffer, writer, b"BadLength(", at),
-        WordFault::TimeOverflow(at) => put_word(buffer, writer, b"TimeOverflow(", at),
+        WordFault::Cut(at) => put_word(out, b"Cut(", at),
+        WordFault::BadLength(at) => put_word(out, b"BadLength(", at),
+        WordFault::TimeOverflow(at) => put_word(out, b"TimeOverflow(", at),
     }
 }
 
 /// Puts the name of an image's fault.
-fn put_image_fault<W: Sink>(buffer: &mut TextBuffer, writer: &mut W, fault: ImageFault)
-    requires { has_failed buffer.old ≡ W.failed writer.old }
-    ensures tied { has_failed buffer.new ≡ W.failed writer.new }
-    ensures put { Puts (image_fault_name fault)
-        buffer.old (W.contents writer.old) (W.failed writer.old)
-        buffer.new (W.contents writer.new) (W.failed writer.new) }
+fn put_image_fault<W: Sink>(out: &mut Out<'_, W>, fault: ImageFault)
+    ensures { Puts (image_fault_name fault) out.old out.new }
 {
     match fault {
-        ImageFault::TooShort => buffer.put(writer, b"TooShort"),
-        ImageFault::BadSize => buffer.put(writer, b"BadSize"),
-        ImageFault::BadCount => buffer.put(writer, b"BadCount"),
+        ImageFault::TooShort => out.put(b"TooShort"),
+        ImageFault::BadSize => out.put(b"BadSize"),
+        ImageFault::BadCount => out.put(b"BadCount"),
         ImageFault::Word(fault) => {
-            buffer.put(writer, b"Word(");
-            put_word_fault(buffer, writer, fault);
-            buffer.put(writer, b")");
+            out.put(b"Word(");
+            put_word_fault(out, fault);
+            out.put(b")");
         }
-        ImageFault::NoMemory => buffer.put(writer, b"NoMemory"),
+        ImageFault::NoMemory => out.put(b"NoMemory"),
     }
 }
 
 /// Puts the name of a parcel's fault.
-fn put_parcel_fault<W: Sink>(buffer: &mut TextBuffer, writer: &mut W, fault: ParcelFault)
-    requires { has_failed buffer.old ≡ W.failed writer.old }
-    ensures tied { has_failed buffer.new ≡ W.failed writer.new }
-    ensures put { Puts (parcel_fault_name fault)
-        buffer.old (W.contents writer.old) (W.failed writer.old)
-        buffer.new (W.contents writer.new) (W.failed writer.new) }
+fn put_parcel_fault<W: Sink>(out: &mut Out<'_, W>, fault: ParcelFault)
+    ensures { Puts (parcel_fault_name fault) out.old out.new }
 {
     match fault {
         ParcelFault::Image(fault) => {
-            buffer.put(writer, b"Image(");
-            put_image_fault(buffer, writer, fault);
-            buffer.put(writer, b")");
+            out.put(b"Image(");
+            put_image_fault(out, fault);
+            out.put(b")");
         }
-        ParcelFault::NumberOverflow => buffer.put(writer, b"NumberOverflow"),
-        ParcelFault::MissedTooMany => buffer.put(writer, b"MissedTooMany"),
-        ParcelFault::MissedDiffers => buffer.put(writer, b"MissedDiffers"),
-        ParcelFault::BadCpu => buffer.put(writer, b"BadCpu"),
-        ParcelFault::NoMemory => buffer.put(writer, b"NoMemory"),
+        ParcelFault::NumberOverflow => out.put(b"NumberOverflow"),
+        ParcelFault::MissedTooMany => out.put(b"MissedTooMany"),
+        ParcelFault::MissedDiffers => out.put(b"MissedDiffers"),
+        ParcelFault::BadCpu => out.put(b"BadCpu"),
+        ParcelFault::NoMemory => out.put(b"NoMemory"),
     }
 }
 
 /// Puts the name of a piece's fault.
-fn put_piece_fault<W: Sink>(buffer: &mut TextBuffer, writer: &mut W, fault: PieceFault)
-    requires { has_failed buffer.old ≡ W.failed writer.old }
-    ensures tied { has_failed buffer.new ≡ W.failed writer.new }
-    ensures put { Puts (piece_fault_name fault)
-        buffer.old (W.contents writer.old) (W.failed writer.old)
-        buffer.new (W.contents writer.new) (W.failed writer.new) }
+fn put_piece_fault<W: Sink>(out: &mut Out<'_, W>, fault: PieceFault)
+    ensures { Puts (piece_fault_name fault) out.old out.new }
 {
     match fault {
-        PieceFault::NotPacked => buffer.put(writer, b"NotPacked"),
-        PieceFault::Cut => buffer.put(writer, b"Cut"),
-        PieceFault::BadVersion => buffer.put(writer, b"BadVersion"),
-        PieceFault::BadLength => buffer.put(writer, b"BadLength"),
-        PieceFault::BadSum => buffer.put(writer, b"BadSum"),
-        PieceFault::BadKind => buffer.put(writer, b"BadKind"),
+        PieceFault::NotPacked => out.put(b"NotPacked"),
+        PieceFault::Cut => out.put(b"Cut"),
+        PieceFault::BadVersion => out.put(b"BadVersion"),
+        PieceFault::BadLength => out.put(b"BadLength"),
+        PieceFault::BadSum => out.put(b"BadSum"),
+        PieceFault::BadKind => out.put(b"BadKind"),
         PieceFault::Parcel(fault) => {
-            buffer.put(writer, b"Parcel(");
-            put_parcel_fault(buffer, writer, fault);
-            buffer.put(writer, b")");
+            out.put(b"Parcel(");
+            put_parcel_fault(out, fault);
+            out.put(b")");
         }
-        PieceFault::Loose => buffer.put(writer, b"Loose"),
-        PieceFault::BadMark => buffer.put(writer, b"BadMark"),
-        PieceFault::NoMemory => buffer.put(writer, b"NoMemory"),
+        PieceFault::Loose => out.put(b"Loose"),
+        PieceFault::BadMark => out.put(b"BadMark"),
+        PieceFault::NoMemory => out.put(b"NoMemory"),
     }
 }
 
 /// Puts a word, a CPU of a stream and a number of it.
 fn put_number_of<W: Sink>(
-    buffer: &mut TextBuffer,
-    writer: &mut W,
+    out: &mut Out<'_, W>,
     word: &[u8],
     stream: StreamId,
     cpu: CpuId,
     number: RecordNo,
 )
-    requires { has_failed buffer.old ≡ W.failed writer.old }
-    ensures tied { has_failed buffer.new ≡ W.failed writer.new }
-    ensures put { Puts (word.now ++ numbered_cpu stream.0 cpu.0 number.0)
-        buffer.old (W.contents writer.old) (W.failed writer.old)
-        buffer.new (W.contents writer.new) (W.failed writer.new) }
+    ensures { Puts (word.now ++ numbered_cpu stream.0 cpu.0 number.0) out.old out.new }
 {
-    buffer.put(writer, word);
-    put_cpu(buffer, writer, stream, cpu);
-    put_numbered(buffer, writer, b" ", number.0);
+    out.put(word);
+    put_cpu(out, stream, cpu);
+    put_numbered(out, b" ", number.0);
 }
 
 /// Puts why a collector refuses a parcel.
-fn put_collected<W: Sink>(
-    buffer: &mut TextBuffer,
-    writer: &mut W,
-    stream: StreamId,
-    fault: collector::AddFault,
-)
-    requires { has_failed buffer.old ≡ W.failed writer.old }
-    ensures tied { has_failed buffer.new ≡ W.failed writer.new }
-    ensures put { Puts (refused_by_parcels stream.0 fault)
-        buffer.old (W.contents writer.old) (W.failed writer.old)
-        buffer.new (W.contents writer.new) (W.failed writer.new) }
+fn put_collected<W: Sink>(out: &mut Out<'_, W>, stream: StreamId, fault: collector::AddFault)
+    ensures { Puts (refused_by_parcels stream.0 fault) out.old out.new }
 {
     match fault {
         collector::AddFault::Clash(cpu, number) => {
-            put_number_of(buffer, writer, b"Clash ", stream, cpu, number);
+            put_number_of(out, b"Clash ", stream, cpu, number);
         }
         collector::AddFault::TakenAndMissing(cpu, number) => {
-            put_number_of(buffer, writer, b"TakenAndMissing ", stream, cpu, number);
+            put_number_of(out, b"TakenAndMissing ", stream, cpu, number);
         }
-        collector::AddFault::NoMemory => buffer.put(writer, b"NoMemory"),
+        collector::AddFault::NoMemory => out.put(b"NoMemory"),
     }
 }
 
 /// Puts why a parcel is refused.
-fn put_refused_parcel<W: Sink>(
-    buffer: &mut TextBuffer,
-    writer: &mut W,
-    stream: StreamId,
-    fault: AddFault,
-)
-    requires { has_failed buffer.old ≡ W.failed writer.old }
-    ensures tied { has_failed buffer.new ≡ W.failed writer.new }
-    ensures put { Puts (refused_parcel stream.0 fault)
-        buffer.old (W.contents writer.old) (W.failed writer.old)
-        buffer.new (W.contents writer.new) (W.failed writer.new) }
+fn put_refused_parcel<W: Sink>(out: &mut Out<'_, W>, stream: StreamId, fault: AddFault)
+    ensures { Puts (refused_parcel stream.0 fault) out.old out.new }
 {
     match fault {
         AddFault::BeyondEnd(cpu, number) => {
-            put_number_of(buffer, writer, b"BeyondEnd ", stream, cpu, number);
+            put_number_of(out, b"BeyondEnd ", stream, cpu, number);
         }
-        AddFault::Refused(fault) => put_collected(buffer, writer, stream, fault),
+        AddFault::Refused(fault) => put_collected(out, stream, fault),
     }
 }
 
 /// Puts why a mark is refused.
-fn put_refused_mark<W: Sink>(
-    buffer: &mut TextBuffer,
-    writer: &mut W,
-    stream: StreamId,
-    cpu: CpuId,
-    fault: MarkFault,
-)
-    requires { has_failed buffer.old ≡ W.failed writer.old }
-    ensures tied { has_failed buffer.new ≡ W.failed writer.new }
-    ensures put { Puts (refused_mark stream.0 cpu.0 fault)
-        buffer.old (W.contents writer.old) (W.failed writer.old)
-        buffer.new (W.contents writer.new) (W.failed writer.new) }
+fn put_refused_mark<W: Sink>(out: &mut Out<'_, W>, stream: StreamId, cpu: CpuId, fault: MarkFault)
+    ensures { Puts (refused_mark stream.0 cpu.0 fault) out.old out.new }
 {
     match fault {
         MarkFault::OtherEnd(number) => {
-            put_number_of(buffer, writer, b"OtherEnd ", stream, cpu, number);
+            put_number_of(out, b"OtherEnd ", stream, cpu, number);
         }
         MarkFault::BeyondEnd(number) => {
-            put_number_of(buffer, writer, b"BeyondEnd ", stream, cpu, number);
+            put_number_of(out, b"BeyondEnd ", stream, cpu, number);
         }
         MarkFault::NotFinal(number) => {
-            put_number_of(buffer, writer, b"NotFinal ", stream, cpu, number);
+            put_number_of(out, b"NotFinal ", stream, cpu, number);
         }
-        MarkFault::NoMemory => buffer.put(writer, b"NoMemory"),
+        MarkFault::NoMemory => out.put(b"NoMemory"),
     }
 }
 
 /// Puts why nothing is made of a piece.
-fn put_trouble<W: Sink>(buffer: &mut TextBuffer, writer: &mut W, trouble: PieceTrouble)
-    requires { has_failed buffer.old ≡ W.failed writer.old }
-    ensures tied { has_failed buffer.new ≡ W.failed writer.new }
-    ensures put { Puts (trouble_text trouble)
-        buffer.old (W.contents writer.old) (W.failed writer.old)
-        buffer.new (W.contents writer.new) (W.failed writer.new) }
+fn put_trouble<W: Sink>(out: &mut Out<'_, W>, trouble: PieceTrouble)
+    ensures { Puts (trouble_text trouble) out.old out.new }
 {
     match trouble {
-        PieceTrouble::Unread(fault) => put_piece_fault(buffer, writer, fault),
+        PieceTrouble::Unread(fault) => put_piece_fault(out, fault),
         PieceTrouble::Refused(stream, _, PieceRefusal::Parcel(fault)) => {
-            put_refused_parcel(buffer, writer, stream, fault);
+            put_refused_parcel(out, stream, fault);
         }
         PieceTrouble::Refused(stream, cpu, PieceRefusal::Mark(fault)) => {
-            put_refused_mark(buffer, writer, stream, cpu, fault);
+            put_refused_mark(out, stream, cpu, fault);
         }
     }
 }
 
 /// Puts the line that says why nothing is made of a piece, with how many bytes and pieces of its input are before it.
-pub fn put_fault<W: Sink>(
-    buffer: &mut TextBuffer,
-    writer: &mut W,
-    at: u64,
-    index: u64,
-    trouble: PieceTrouble,
-)
-    requires { has_failed buffer.old ≡ W.failed writer.old }
-    ensures tied { has_failed buffer.new ≡ W.failed writer.new }
-    ensures put { Puts (fault_line at index trouble)
-        buffer.old (W.contents writer.old) (W.failed writer.old)
-        buffer.new (W.contents writer.new) (W.failed writer.new) }
+pub fn put_fault<W: Sink>(out: &mut Out<'_, W>, at: u64, index: u64, trouble: PieceTrouble)
+    ensures { Puts (fault_line at index trouble) out.old out.new }
 {
-    buffer.put(writer, b"stream: ");
-    put_trouble(buffer, writer, trouble);
-    put_numbered(buffer, writer, b" at ", at);
-    put_numbered(buffer, writer, b" piece ", index);
-    buffer.put(writer, b"\n");
+    out.put(b"stream: ");
+    put_trouble(out, trouble);
+    put_numbered(out, b" at ", at);
+    put_numbered(out, b" piece ", index);
+    out.put(b"\n");
 }

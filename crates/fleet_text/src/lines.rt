@@ -2,7 +2,7 @@
 ghost use Rattle.std.specs.Prelude.{◌≡◌, ◌++◌, map, flat_map};
 ghost use Rattle.std.specs.Fmt.{decimal};
 ghost use Rattle.text_model.specs.Text.{hex_text};
-ghost use Rattle.text_values.specs.Putting.{has_failed, Puts};
+ghost use Rattle.text_values.specs.Putting.{Puts};
 ghost use Rattle.fleet_collector.specs.Lines.{line_seen};
 ghost use Rattle.fleet_text.specs.Runs.{run_seen};
 ghost use Rattle.fleet_text.specs.Printing.{id_text, cpu_text, json_cpu, record_line, kind_name, run_line};
@@ -12,127 +12,85 @@ use capture_text::Form;
 use command_io::Sink;
 use fleet_collector::FleetLine;
 use parcel_streams::StreamId;
-use text_values::TextBuffer;
+use text_values::Out;
 use trace_model::CpuId;
 
 /// Puts a number after a text.
-pub(crate) fn put_numbered<W: Sink>(
-    buffer: &mut TextBuffer,
-    writer: &mut W,
-    before: &[u8],
-    number: u64,
-)
-    requires { has_failed buffer.old ≡ W.failed writer.old }
-    ensures tied { has_failed buffer.new ≡ W.failed writer.new }
-    ensures put { Puts (before.now ++ decimal number)
-        buffer.old (W.contents writer.old) (W.failed writer.old)
-        buffer.new (W.contents writer.new) (W.failed writer.new) }
+pub(crate) fn put_numbered<W: Sink>(out: &mut Out<'_, W>, before: &[u8], number: u64)
+    ensures { Puts (before.now ++ decimal number) out.old out.new }
 {
-    buffer.put(writer, before);
-    buffer.put_number(writer, number);
+    out.put(before);
+    out.put_number(number);
 }
 
 /// Puts a stream's id.
 #[tactic(auto, unfolding(crate::specs::Printing::id_text))]
-fn put_id<W: Sink>(buffer: &mut TextBuffer, writer: &mut W, stream: StreamId)
-    requires { has_failed buffer.old ≡ W.failed writer.old }
-    ensures tied { has_failed buffer.new ≡ W.failed writer.new }
-    ensures put { Puts (id_text stream.0)
-        buffer.old (W.contents writer.old) (W.failed writer.old)
-        buffer.new (W.contents writer.new) (W.failed writer.new) }
+fn put_id<W: Sink>(out: &mut Out<'_, W>, stream: StreamId)
+    ensures { Puts (id_text stream.0) out.old out.new }
 {
-    buffer.put_hex(writer, &stream.0.to_be_bytes());
+    out.put_hex(&stream.0.to_be_bytes());
 }
 
 /// Puts a CPU of a stream.
-pub fn put_cpu<W: Sink>(buffer: &mut TextBuffer, writer: &mut W, stream: StreamId, cpu: CpuId)
-    requires { has_failed buffer.old ≡ W.failed writer.old }
-    ensures tied { has_failed buffer.new ≡ W.failed writer.new }
-    ensures put { Puts (cpu_text stream.0 cpu.0)
-        buffer.old (W.contents writer.old) (W.failed writer.old)
-        buffer.new (W.contents writer.new) (W.failed writer.new) }
+pub fn put_cpu<W: Sink>(out: &mut Out<'_, W>, stream: StreamId, cpu: CpuId)
+    ensures { Puts (cpu_text stream.0 cpu.0) out.old out.new }
 {
-    put_id(buffer, writer, stream);
-    put_numbered(buffer, writer, b":", u64::from(cpu.0));
+    put_id(out, stream);
+    put_numbered(out, b":", u64::from(cpu.0));
 }
 
 /// Puts a CPU of a stream as members of an object.
-pub fn put_json_cpu<W: Sink>(buffer: &mut TextBuffer, writer: &mut W, stream: StreamId, cpu: CpuId)
-    requires { has_failed buffer.old ≡ W.failed writer.old }
-    ensures tied { has_failed buffer.new ≡ W.failed writer.new }
-    ensures put { Puts (json_cpu stream.0 cpu.0)
-        buffer.old (W.contents writer.old) (W.failed writer.old)
-        buffer.new (W.contents writer.new) (W.failed writer.new) }
+pub fn put_json_cpu<W: Sink>(out: &mut Out<'_, W>, stream: StreamId, cpu: CpuId)
+    ensures { Puts (json_cpu stream.0 cpu.0) out.old out.new }
 {
-    buffer.put(writer, b"\"stream\":\"");
-    put_id(buffer, writer, stream);
-    put_numbered(buffer, writer, b"\",\"cpu\":", u64::from(cpu.0));
+    out.put(b"\"stream\":\"");
+    put_id(out, stream);
+    put_numbered(out, b"\",\"cpu\":", u64::from(cpu.0));
 }
 
 /// Puts the payload in hexadecimal, `-` if it is empty.
-fn put_payload<W: Sink>(buffer: &mut TextBuffer, writer: &mut W, bytes: &[u8])
-    requires { has_failed buffer.old ≡ W.failed writer.old }
-    ensures tied { has_failed buffer.new ≡ W.failed writer.new }
-    ensures put { Puts (hex_text bytes.now)
-        buffer.old (W.contents writer.old) (W.failed writer.old)
-        buffer.new (W.contents writer.new) (W.failed writer.new) }
+fn put_payload<W: Sink>(out: &mut Out<'_, W>, bytes: &[u8])
+    ensures { Puts (hex_text bytes.now) out.old out.new }
 {
     if bytes.is_empty() {
-        buffer.put(writer, b"-");
+        out.put(b"-");
     } else {
-        buffer.put_hex(writer, bytes);
+        out.put_hex(bytes);
     }
 }
 
 /// Puts a record's line as text.
-fn put_text_line<W: Sink>(buffer: &mut TextBuffer, writer: &mut W, line: &FleetLine<'_>)
-    requires { has_failed buffer.old ≡ W.failed writer.old }
-    ensures tied { has_failed buffer.new ≡ W.failed writer.new }
-    ensures put { Puts (record_line Form.Text (line_seen line.now))
-        buffer.old (W.contents writer.old) (W.failed writer.old)
-        buffer.new (W.contents writer.new) (W.failed writer.new) }
+fn put_text_line<W: Sink>(out: &mut Out<'_, W>, line: &FleetLine<'_>)
+    ensures { Puts (record_line Form.Text (line_seen line.now)) out.old out.new }
 {
-    put_cpu(buffer, writer, line.stream, line.cpu);
-    put_numbered(buffer, writer, b" ", line.number.0);
-    put_numbered(buffer, writer, b" ", line.moment.0);
-    buffer.put(writer, b" ");
-    put_payload(buffer, writer, line.bytes);
-    buffer.put(writer, b"\n");
+    put_cpu(out, line.stream, line.cpu);
+    put_numbered(out, b" ", line.number.0);
+    put_numbered(out, b" ", line.moment.0);
+    out.put(b" ");
+    put_payload(out, line.bytes);
+    out.put(b"\n");
 }
 
 /// Puts a record's line as JSON.
-fn put_json_line<W: Sink>(buffer: &mut TextBuffer, writer: &mut W, line: &FleetLine<'_>)
-    requires { has_failed buffer.old ≡ W.failed writer.old }
-    ensures tied { has_failed buffer.new ≡ W.failed writer.new }
-    ensures put { Puts (record_line Form.Json (line_seen line.now))
-        buffer.old (W.contents writer.old) (W.failed writer.old)
-        buffer.new (W.contents writer.new) (W.failed writer.new) }
+fn put_json_line<W: Sink>(out: &mut Out<'_, W>, line: &FleetLine<'_>)
+    ensures { Puts (record_line Form.Json (line_seen line.now)) out.old out.new }
 {
-    buffer.put(writer, b"{");
-    put_json_cpu(buffer, writer, line.stream, line.cpu);
-    put_numbered(buffer, writer, b",\"number\":", line.number.0);
-    put_numbered(buffer, writer, b",\"time\":", line.moment.0);
-    buffer.put(writer, b",\"data\":\"");
-    buffer.put_hex(writer, line.bytes);
-    buffer.put(writer, b"\"}\n");
+    out.put(b"{");
+    put_json_cpu(out, line.stream, line.cpu);
+    put_numbered(out, b",\"number\":", line.number.0);
+    put_numbered(out, b",\"time\":", line.moment.0);
+    out.put(b",\"data\":\"");
+    out.put_hex(line.bytes);
+    out.put(b"\"}\n");
 }
 
 /// Puts a record's line.
-pub(crate) fn put_line<W: Sink>(
-    buffer: &mut TextBuffer,
-    writer: &mut W,
-    form: Form,
-    line: &FleetLine<'_>,
-)
-    requires { has_failed buffer.old ≡ W.failed writer.old }
-    ensures tied { has_failed buffer.new ≡ W.failed writer.new }
-    ensures put { Puts (record_line form (line_seen line.now))
-        buffer.old (W.contents writer.old) (W.failed writer.old)
-        buffer.new (W.contents writer.new) (W.failed writer.new) }
+pub(crate) fn put_line<W: Sink>(out: &mut Out<'_, W>, form: Form, line: &FleetLine<'_>)
+    ensures { Puts (record_line form (line_seen line.now)) out.old out.new }
 {
     match form {
-        Form::Text => put_text_line(buffer, writer, line),
-        Form::Json => put_json_line(buffer, writer, line),
+        Form::Text => put_text_line(out, line),
+        Form::Json => put_json_line(out, line),
     }
 }
 
@@ -149,91 +107,54 @@ fn kind_name(kind: RunKind) -> &'static [u8]
 }
 
 /// Puts the line of a run as text.
-fn put_text_run<W: Sink>(buffer: &mut TextBuffer, writer: &mut W, kind: RunKind, run: &FleetRun)
-    requires { has_failed buffer.old ≡ W.failed writer.old }
-    ensures tied { has_failed buffer.new ≡ W.failed writer.new }
-    ensures put { Puts (run_line Form.Text kind (run_seen run.now))
-        buffer.old (W.contents writer.old) (W.failed writer.old)
-        buffer.new (W.contents writer.new) (W.failed writer.new) }
+fn put_text_run<W: Sink>(out: &mut Out<'_, W>, kind: RunKind, run: &FleetRun)
+    ensures { Puts (run_line Form.Text kind (run_seen run.now)) out.old out.new }
 {
-    buffer.put(writer, kind_name(kind));
-    buffer.put(writer, b" ");
-    put_cpu(buffer, writer, run.stream, run.cpu);
-    put_numbered(buffer, writer, b" ", run.first.0);
-    put_numbered(buffer, writer, b"-", run.last.0);
-    buffer.put(writer, b"\n");
+    out.put(kind_name(kind));
+    out.put(b" ");
+    put_cpu(out, run.stream, run.cpu);
+    put_numbered(out, b" ", run.first.0);
+    put_numbered(out, b"-", run.last.0);
+    out.put(b"\n");
 }
 
 /// Puts the line of a run as JSON.
-fn put_json_run<W: Sink>(buffer: &mut TextBuffer, writer: &mut W, kind: RunKind, run: &FleetRun)
-    requires { has_failed buffer.old ≡ W.failed writer.old }
-    ensures tied { has_failed buffer.new ≡ W.failed writer.new }
-    ensures put { Puts (run_line Form.Json kind (run_seen run.now))
-        buffer.old (W.contents writer.old) (W.failed writer.old)
-        buffer.new (W.contents writer.new) (W.failed writer.new) }
+fn put_json_run<W: Sink>(out: &mut Out<'_, W>, kind: RunKind, run: &FleetRun)
+    ensures { Puts (run_line Form.Json kind (run_seen run.now)) out.old out.new }
 {
-    buffer.put(writer, b"{");
-    put_json_cpu(buffer, writer, run.stream, run.cpu);
-    buffer.put(writer, b",\"");
-    buffer.put(writer, kind_name(kind));
-    put_numbered(buffer, writer, b"\":[", run.first.0);
-    put_numbered(buffer, writer, b",", run.last.0);
-    buffer.put(writer, b"]}\n");
+    out.put(b"{");
+    put_json_cpu(out, run.stream, run.cpu);
+    out.put(b",\"");
+    out.put(kind_name(kind));
+    put_numbered(out, b"\":[", run.first.0);
+    put_numbered(out, b",", run.last.0);
+    out.put(b"]}\n");
 }
 
 /// Puts the line of a run.
-fn put_run<W: Sink>(
-    buffer: &mut TextBuffer,
-    writer: &mut W,
-    form: Form,
-    kind: RunKind,
-    run: &FleetRun,
-)
-    requires { has_failed buffer.old ≡ W.failed writer.old }
-    ensures tied { has_failed buffer.new ≡ W.failed writer.new }
-    ensures put { Puts (run_line form kind (run_seen run.now))
-        buffer.old (W.contents writer.old) (W.failed writer.old)
-        buffer.new (W.contents writer.new) (W.failed writer.new) }
+fn put_run<W: Sink>(out: &mut Out<'_, W>, form: Form, kind: RunKind, run: &FleetRun)
+    ensures { Puts (run_line form kind (run_seen run.now)) out.old out.new }
 {
     match form {
-        Form::Text => put_text_run(buffer, writer, kind, run),
-        Form::Json => put_json_run(buffer, writer, kind, run),
+        Form::Text => put_text_run(out, kind, run),
+        Form::Json => put_json_run(out, kind, run),
     }
 }
 
 /// Puts the lines of records.
-pub(crate) fn put_lines<W: Sink>(
-    buffer: &mut TextBuffer,
-    writer: &mut W,
-    form: Form,
-    lines: &[FleetLine<'_>],
-)
-    requires { has_failed buffer.old ≡ W.failed writer.old }
-    ensures tied { has_failed buffer.new ≡ W.failed writer.new }
-    ensures put { Puts (flat_map (record_line form) (map line_seen lines.now))
-        buffer.old (W.contents writer.old) (W.failed writer.old)
-        buffer.new (W.contents writer.new) (W.failed writer.new) }
+pub(crate) fn put_lines<W: Sink>(out: &mut Out<'_, W>, form: Form, lines: &[FleetLine<'_>])
+    ensures { Puts (flat_map (record_line form) (map line_seen lines.now)) out.old out.new }
 {
     for line in lines {
-        put_line(buffer, writer, form, line);
+        put_line(out, form, line);
     }
 }
 
 /// Puts the lines of runs of one kind.
-pub(crate) fn put_runs<W: Sink>(
-    buffer: &mut TextBuffer,
-    writer: &mut W,
-    form: Form,
-    kind: RunKind,
-    runs: &[FleetRun],
-)
-    requires { has_failed buffer.old ≡ W.failed writer.old }
-    ensures tied { has_failed buffer.new ≡ W.failed writer.new }
-    ensures put { Puts (flat_map (run_line form kind) (map run_seen runs.now))
-        buffer.old (W.contents writer.old) (W.failed writer.old)
-        buffer.new (W.contents writer.new) (W.failed writer.new) }
+pub(crate) fn put_runs<W: Sink>(out: &mut Out<'_, W>, form: Form, kind: RunKind, runs: &[FleetRun])
+    ensures { Puts (flat_map (run_line form kind) (map run_seen runs.now)) out.old out.new }
 {
     for run in runs {
-        put_run(buffer, writer, form, kind, run);
+        put_run(out, form, kind, run);
     }
 }

@@ -7,7 +7,7 @@ use capture_text::Form;
 use command_io::Sink;
 use fleet_collector::{Fleet, FleetLine};
 use std::alloc::Global;
-use text_values::TextBuffer;
+use text_values::Out;
 use trace_model::NoMemory;
 
 /// What is printed of a fleet: its records, and the runs of its numbers that are missing, unknown, undelivered or
@@ -22,8 +22,8 @@ pub struct Listed<'a> {
 }
 
 impl<'a> Listed<'a> {
-    ghost use Rattle.std.specs.Prelude.{◌≡◌, IfOk};
-    ghost use Rattle.text_values.specs.Putting.{has_failed, Puts};
+    ghost use Rattle.std.specs.Prelude.{IfOk};
+    ghost use Rattle.text_values.specs.Putting.{Puts};
     ghost use Rattle.fleet_text.specs.Listed.{shown_of, shown_text, IsFleetShown};
 
     /// What is printed of this fleet. Nothing that is done with it takes memory.
@@ -41,23 +41,13 @@ impl<'a> Listed<'a> {
     }
 
     /// Puts the lines of the records by time, and those of the runs, by kind, stream, CPU and number.
-    pub fn put<W: Sink>(&self, buffer: &mut TextBuffer, writer: &mut W, form: Form)
-        requires { has_failed buffer.old ≡ W.failed writer.old }
-        ensures tied { has_failed buffer.new ≡ W.failed writer.new }
-        ensures put { Puts (shown_text form (shown_of self.now))
-            buffer.old (W.contents writer.old) (W.failed writer.old)
-            buffer.new (W.contents writer.new) (W.failed writer.new) }
+    pub fn put<W: Sink>(&self, out: &mut Out<'_, W>, form: Form)
+        ensures { Puts (shown_text form (shown_of self.now)) out.old out.new }
     {
-        put_lines(buffer, writer, form, &self.lines);
-        put_runs(buffer, writer, form, RunKind::Missing, &self.missing);
-        put_runs(buffer, writer, form, RunKind::Unknown, &self.unknown);
-        put_runs(
-            buffer,
-            writer,
-            form,
-            RunKind::Undelivered,
-            &self.undelivered,
-        );
-        put_runs(buffer, writer, form, RunKind::Forgotten, &self.forgotten);
+        put_lines(out, form, &self.lines);
+        put_runs(out, form, RunKind::Missing, &self.missing);
+        put_runs(out, form, RunKind::Unknown, &self.unknown);
+        put_runs(out, form, RunKind::Undelivered, &self.undelivered);
+        put_runs(out, form, RunKind::Forgotten, &self.forgotten);
     }
 }

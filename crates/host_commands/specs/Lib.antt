@@ -1,4 +1,5 @@
 pub mod Feeds
 pub mod Formats
+pub mod Keeps
 pub mod Messages
 pub mod Watches

@@ -1,21 +1,22 @@
 //! The command `collect` over captures.
-ghost use Rattle.std.specs.Prelude.{◌≡◌, ◌<◌, false, if◌then◌else◌, map, All, IfOk};
+ghost use Rattle.std.specs.Prelude.{◌≡◌, ◌<◌, ◌≤◌, false, if◌then◌else◌, map, All, IfOk};
 ghost use Rattle.command_io.specs.Ends.{has_failed};
 ghost use Rattle.parcel_streams.specs.source.Readers.{peeked_reader};
-ghost use Rattle.command_line.specs.Calls.{IsInRange};
+ghost use Rattle.command_line.specs.Calls.{IsInRange, page_bytes};
+ghost use Rattle.command_line.specs.declared.words.TheConstants.{MIN_PAGE};
 ghost use Rattle.trace_dat.specs.Contents.{format_seen};
 ghost use Rattle.host_commands.specs.Formats.{format_read};
 
 use crate::form::form_of;
 use crate::formats::{FormatText, formats_below};
-use crate::inputs::{Reader, Trial, name_of, open_output, trial_of};
-use crate::message::{FileMessage, Trouble};
-use capture::files::{FileFault, Input};
+use crate::inputs::{Reader, Trial, open_output, trial_of};
+use crate::message::Trouble;
+use crate::telling::tell_ending;
+use capture::files::Input;
 use capture_text::Form;
-use collect_command::{Collected, Collecting, Ending, collect_to};
-use command_io::WRITE_FAILED;
-use command_line::{CollectCall, CpuFile};
-use trace_dat::{Cause, Format};
+use collect_command::{Collected, Collecting, collect_to};
+use command_line::CollectCall;
+use trace_dat::Format;
 
 /// The formats below the folder that is named, if one is.
 fn given_formats<'b>(
@@ -48,30 +49,6 @@ fn lent<'a>(rt: &HostRuntime, texts: &'a [FormatText]) -> Result<Vec<Format<'a>>
     Ok(formats)
 }
 
-/// What is the matter with a malformed file.
-fn trouble_of(fault: FileFault) -> Trouble {
-    match fault {
-        FileFault::Format(fault) if fault.cause == Cause::Compressed => Trouble::Compressed,
-        _ => Trouble::Malformed,
-    }
-}
-
-/// Says on standard error what the ending leaves to be said there.
-fn tell_ending(rt: &HostRuntime, files: &[CpuFile<'_>], ending: Ending) {
-    let (trouble, input) = match ending {
-        Ending::NotRead(input) => (Trouble::Unread, input),
-        Ending::Malformed { input, fault } => (trouble_of(fault), input),
-        Ending::NotWritten => {
-            let _ = eprintln!(rt; "{WRITE_FAILED}");
-            return;
-        }
-        _ => return,
-    };
-    let name = name_of(files, input);
-    let message = FileMessage { trouble, name };
-    let _ = eprintln!(rt; "{message}");
-}
-
 /// Says on standard error how many instances aren't listed, if there are any.
 fn tell_instances(rt: &HostRuntime, instances: u64) {
     if instances > 0 {
@@ -81,14 +58,16 @@ fn tell_instances(rt: &HostRuntime, instances: u64) {
 
 /// How the files are listed.
 fn collecting_of<'a>(asked: &CollectCall<'_>, formats: &'a [Format<'a>]) -> Collecting<'a>
+    requires { IsInRange asked.now }
     ensures form { result.form ≡ (if asked.now.json then Form.Json else Form.Text) }
-    ensures page { result.page ≡ asked.now.page }
+    ensures page { result.page ≡ page_bytes asked.now.page }
+    ensures in_range { MIN_PAGE ≤ result.page }
     ensures names { result.names ≡ asked.now.names }
     ensures formats { result.formats.now ≡ formats.now }
 {
     Collecting {
         form: form_of(asked.json),
-        page: asked.page,
+        page: asked.page_bytes() as usize,
         names: asked.names,
         formats,
     }
@@ -126,6 +105,5 @@ pub(crate) fn collect_captures<'b>(
 {
     let Collected { ending, instances } = list(rt, asked, inputs, is_watched)?;
     tell_instances(rt, instances);
-    tell_ending(rt, &asked.files, ending);
-    Ok(ending.status())
+    Ok(tell_ending(rt, &asked.files, ending))
 }

@@ -6,10 +6,10 @@ ghost use Rattle.parcel_streams.specs.source.Readers.{peeked_unread};
 
 use crate::captures::collect_captures;
 use crate::inputs::{Reader, Trial, open_inputs};
-use crate::kept::is_kept_in;
+use crate::keep::{KEEP_IS_READ, keep_is_read};
 use crate::streams::collect_pieces;
+use crate::telling::{refuse, tell_trial};
 use capture::files::Input;
-use command_io::{END_FAILED, Std, USAGE, print_memory_line};
 use command_line::CollectCall;
 use std::io::IsTerminal;
 
@@ -21,8 +21,6 @@ const MIXED: &str = "tracering: some files are streams of parcels and others are
 const NOT_FOR_CAPTURES: &str = "tracering: --keep and --parcels are for streams of parcels";
 
 const NOT_FOR_STREAMS: &str = "tracering: --page, --names and --formats are for captures";
-
-pub(crate) const KEEP_IS_READ: &str = "tracering: the file of --keep is read";
 
 /// Whether each input begins as a stream of parcels does, or has no byte: it is a stream without a piece then.
 fn are_streams(inputs: &[Input<Reader<'_>>]) -> bool
@@ -49,32 +47,15 @@ fn are_captures(inputs: &[Input<Reader<'_>>]) -> bool
     true
 }
 
-/// Whether a file is both read and written.
-fn keep_is_read(rt: &HostRuntime, asked: &CollectCall<'_>) -> bool {
-    match asked.keep {
-        Some(kept) => asked
-            .files
-            .iter()
-            .any(|file| is_kept_in(rt, file.path, kept)),
-        None => false,
-    }
-}
-
 /// What is wrong with the options, whatever the files have.
 fn wrong_options(rt: &HostRuntime, asked: &CollectCall<'_>) -> Option<&'static str> {
     if asked.keep.is_some() && asked.parcels {
         return Some(BOTH);
     }
-    if keep_is_read(rt, asked) {
+    if keep_is_read(rt, &asked.files, asked.keep) {
         return Some(KEEP_IS_READ);
     }
     None
-}
-
-/// Says on standard error why nothing is done.
-pub(crate) fn refuse(rt: &HostRuntime, sentence: &str) -> u8 {
-    let _ = eprintln!(rt; "{sentence}");
-    USAGE
 }
 
 /// Lists the files, and gives the exit status.
@@ -91,7 +72,7 @@ fn list<'b>(rt: &HostRuntime, asked: &CollectCall<'b>) -> Result<u8, Trial<'b>>
     let is_for_streams = asked.keep.is_some() || asked.parcels;
     let is_capture = are_captures(&inputs);
     if are_streams(&inputs) && (is_for_streams || !is_capture) {
-        if asked.has_page || asked.names {
+        if asked.page.is_some() || asked.names {
             return Ok(refuse(rt, NOT_FOR_STREAMS));
         }
         return collect_pieces(rt, asked, inputs, is_unseen);
@@ -109,12 +90,5 @@ fn list<'b>(rt: &HostRuntime, asked: &CollectCall<'b>) -> Result<u8, Trial<'b>>
 pub fn collect(rt: &HostRuntime, asked: &CollectCall<'_>) -> u8
     requires { IsInRange asked.now }
 {
-    match list(rt, asked) {
-        Ok(status) => status,
-        Err(Trial::File(message)) => {
-            let _ = eprintln!(rt; "{message}");
-            END_FAILED
-        }
-        Err(Trial::NoMemory) => print_memory_line(&mut Std::new(rt.stdout())),
-    }
+    tell_trial(rt, list(rt, asked))
 }

@@ -95,14 +95,6 @@ pub(crate) fn open_inputs<'a, 'b>(
     Ok(inputs)
 }
 
-/// The name of the input of this index.
-pub(crate) fn name_of<'b>(files: &[CpuFile<'b>], input: usize) -> &'b str {
-    match files.get(input) {
-        Some(file) => file.path,
-        None => "",
-    }
-}
-
 /// Standard output, which reports how far it is if that is wanted.
 pub(crate) fn open_output(
     rt: &HostRuntime,

@@ -1,5 +1,5 @@
-//! The listing commands over files of the host: which files the words of `collect` and `recover` name, what is printed of
-//! them, and what is said of a file that can't be read.
+//! The listing commands over files of the host: which files the words of `collect` and `recover` name, what is printed
+//! of them, and what is said of a file that can't be read.
 #![tactic(auto)]
 
 mod captures;
@@ -8,13 +8,14 @@ mod feed;
 mod form;
 mod formats;
 mod inputs;
-mod kept;
+mod keep;
 mod message;
+mod named;
 mod progress;
 mod regions;
 mod same;
 mod streams;
-mod unkept;
+mod telling;
 
 pub use choose::collect;
 pub use regions::recover;

@@ -8,6 +8,8 @@ pub enum Trouble {
     Unopened,
     /// It can't be read to its end.
     Unread,
+    /// It can't be written to its end.
+    Unwritten,
     /// It is a file of trace-cmd whose pages are compressed.
     Compressed,
     /// It has another fault, whose line is printed.
@@ -34,6 +36,7 @@ impl<'a> fmt::Display for FileMessage<'a> {
         match self.trouble {
             Trouble::Unopened => write!(f, "tracering: cannot open {name}"),
             Trouble::Unread => write!(f, "tracering: cannot read {name}"),
+            Trouble::Unwritten => write!(f, "tracering: cannot write {name}"),
             Trouble::Compressed => write!(
                 f,
                 "tracering: {name} is compressed: \

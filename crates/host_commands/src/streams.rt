@@ -5,15 +5,14 @@ ghost use Rattle.parcel_streams.specs.source.Readers.{peeked_reader, source_of};
 ghost use Rattle.collect_command.specs.streams.Reading.{IsFresh};
 
 use crate::form::form_of;
-use crate::inputs::{Reader, Trial, name_of, open_output, trial_of};
-use crate::message::{FileMessage, Trouble};
-use crate::unkept::Unkept;
+use crate::inputs::{Reader, Trial, open_output};
+use crate::keep::open_keep;
+use crate::telling::{tell_ending, tell_outcome};
 use capture::files::Input;
-use collect_command::streams::{Collected, Ending, collect_streams, print_pieces};
-use command_io::{Std, WRITE_FAILED};
-use command_line::{CollectCall, CpuFile};
+use collect_command::streams::{collect_streams, print_pieces};
+use collect_command::{Ending, Outcome};
+use command_line::CollectCall;
 use parcel_streams::source::PieceReader;
-use std::fs;
 
 /// Readers of the inputs' pieces.
 fn readers_of<'a>(
@@ -38,53 +37,22 @@ fn readers_of<'a>(
     Ok(readers)
 }
 
-/// Says on standard error what the ending leaves to be said there.
-fn tell_ending(rt: &HostRuntime, files: &[CpuFile<'_>], ending: Ending) {
-    let (trouble, input) = match ending {
-        Ending::NotRead(input) => (Trouble::Unread, input),
-        Ending::Malformed(input) => (Trouble::Malformed, input),
-        Ending::NotWritten => {
-            let _ = eprintln!(rt; "{WRITE_FAILED}");
-            return;
-        }
-        _ => return,
-    };
-    let name = name_of(files, input);
-    let message = FileMessage { trouble, name };
-    let _ = eprintln!(rt; "{message}");
-}
-
 /// Lists streams, keeps what is new in the file that is named, if one is, and gives how that ends.
 fn list<'b>(
     rt: &HostRuntime,
     asked: &CollectCall<'b>,
     readers: Vec<PieceReader<Reader<'_>>>,
     is_watched: bool,
-) -> Result<Collected, Trial<'b>>
+) -> Result<Outcome, Trial<'b>>
     requires sound { All (λ reader. has_failed (peeked_reader (source_of reader)) ≡ false) readers.items }
     requires fresh { All (λ reader. IsFresh reader) readers.items }
 {
     let mut readers = readers;
-    let form = form_of(asked.json);
     let mut output = open_output(rt, is_watched);
-    let Some(path) = asked.keep else {
-        let mut keep = Unkept;
-        return Ok(collect_streams(
-            rt.alloc(),
-            form,
-            readers.as_mut_slice(),
-            &mut keep,
-            &mut output,
-        ));
-    };
-    let file = match fs::create(rt, path) {
-        Ok(file) => file,
-        Err(error) => return Err(trial_of(error, Trouble::Unopened, path)),
-    };
-    let mut keep = Std::new(file);
+    let mut keep = open_keep(rt, asked.keep)?;
     Ok(collect_streams(
         rt.alloc(),
-        form,
+        form_of(asked.json),
         readers.as_mut_slice(),
         &mut keep,
         &mut output,
@@ -123,13 +91,8 @@ pub(crate) fn collect_pieces<'b>(
     let readers = readers_of(rt, inputs)?;
     if asked.parcels {
         let ending = print(rt, asked, readers, is_watched);
-        tell_ending(rt, &asked.files, ending);
-        return Ok(ending.status());
+        return Ok(tell_ending(rt, &asked.files, ending));
     }
-    let collected = list(rt, asked, readers, is_watched)?;
-    if let (Some(name), false) = (asked.keep, collected.is_kept) {
-        let _ = eprintln!(rt; "tracering: cannot write {name}");
-    }
-    tell_ending(rt, &asked.files, collected.ending);
-    Ok(collected.status())
+    let outcome = list(rt, asked, readers, is_watched)?;
+    Ok(tell_outcome(rt, &asked.files, asked.keep, outcome))
 }

@@ -10,7 +10,10 @@ use Rattle.std.proofs.KnownBytes.{Appends-trans}
 use Rattle.command_io.specs.CommandRun.{AppendsPrefix}
 use Rattle.text_values.specs.Digits.{pair_of, pairs_of}
 use Rattle.text_values.specs.declared.buffer.TextBuffer.{TextBuffer}
-use Rattle.text_values.specs.Putting.{waiting, HasPut}
+use Rattle.command_io.specs.declared.ends.Sink.{Ghosts}
+use Rattle.text_values.specs.declared.output.Out.{Out}
+use Rattle.text_values.specs.Waiting.{waiting, HasSent}
+use Rattle.text_values.specs.Putting.{Start, writer_of, contents_of, has_failed, HasPut}
 
 if_done : {E P : Type 0} (result : Result (Unit {0}) E) (failed : Bool) → OnOk result P
     → (failed ≡ true) ↔ IsErr result → failed ≡ false → P
@@ -26,7 +29,7 @@ if_cut (Err e) failed part fault cut = part
 pub written_out : {E : Type 0} (result : Result (Unit {0}) E) (start before after : Option (List ℕ)) (was failed : Bool)
     (text sent : List ℕ) (old new : TextBuffer) → was ≡ false → waiting new ≡ [] → sent ≡ waiting old
     → OnOk result (Appends before after sent) → OnErr result (AppendsPrefix before after sent)
-    → (failed ≡ true) ↔ IsErr result → HasPut start before was text old → HasPut start after failed text new
+    → (failed ≡ true) ↔ IsErr result → HasSent start before was text old → HasSent start after failed text new
 written_out result start before after was failed text sent old new going none same done not_done fault has =
     let all : failed ≡ false → Appends before after (waiting old) =
     λ sound. subst (Appends before after) same (if_done result failed done fault sound) in
@@ -50,7 +53,7 @@ written_out result start before after was failed text sent old new going none sa
 
 -- nothing is written any more
 pub still_failed : (start contents : Option (List ℕ)) (failed : Bool) (text : List ℕ) (old new : TextBuffer)
-    → failed ≡ true → HasPut start contents failed text old → HasPut start contents failed text new
+    → failed ≡ true → HasSent start contents failed text old → HasSent start contents failed text new
 still_failed start contents failed text old new cut has = record {
   going_on = λ sound. absurd (let no : true ≡ false = sym cut ∙ sound in cc);
   cut_off = has.cut_off;
@@ -58,8 +61,8 @@ still_failed start contents failed text old new cut has = record {
 
 -- more is added to what waits
 pub added : (start contents : Option (List ℕ)) (failed : Bool) (text bytes : List ℕ) (old new : TextBuffer)
-    → waiting new ≡ waiting old ++ bytes → HasPut start contents failed text old
-    → HasPut start contents failed (text ++ bytes) new
+    → waiting new ≡ waiting old ++ bytes → HasSent start contents failed text old
+    → HasSent start contents failed (text ++ bytes) new
 added start contents failed text bytes old new more has = record {
   going_on = λ sound. let so_far = has.going_on sound in (
     so_far.0,
@@ -99,3 +102,16 @@ digits_more so_far piece more rest all n front back is =
 pub ok_fact : {A E P : Type 0} (result : Result A E) → IsOk result → OnOk result P → P
 ok_fact (Ok x) is p = p
 ok_fact (Err e) is p = absurd (let no = is in cc)
+
+-- ---- through a writer with a buffer
+
+-- bytes more wait
+pub more_waits : {W : Type 0} {g : Ghosts W} (start : Start) (text bytes : List ℕ) (old new : Out W g)
+    → new.writer.ghost_name ≡ old.writer.ghost_name → writer_of new ≡ writer_of old
+    → waiting new.buffer.now ≡ waiting old.buffer.now ++ bytes → HasPut start text old
+    → HasPut start (text ++ bytes) new
+more_waits {W} {g} start text bytes old new same_writer same more has = record {
+  writer_is = same_writer ∙ has.writer_is;
+  sent = subst (λ (w : W). HasSent start.contents (g.contents w) (g.failed w) (text ++ bytes) new.buffer.now) (sym same)
+      (added start.contents (contents_of old) (has_failed old) text bytes old.buffer.now new.buffer.now more has.sent);
+}

@@ -1,28 +1,40 @@
--- What was put into a buffer, and where it is.
-use Rattle.std.specs.Prelude.{◌≡◌, ℕ, ◌++◌, Bool, true, false, List, take, Option}
-use Rattle.std.specs.Io.KnownBytes.{Appends}
-use Rattle.command_io.specs.CommandRun.{AppendsPrefix}
-use Rattle.text_values.specs.declared.buffer.TextBuffer.{TextBuffer}
+-- What was put into a writer with a buffer before it.
+use Rattle.std.specs.Prelude.{◌≡◌, ℕ, ◌++◌, Bool, List, Option}
+use Rattle.command_io.specs.declared.ends.Sink.{Ghosts}
+use Rattle.text_values.specs.declared.output.Out.{Out}
+use Rattle.text_values.specs.Waiting.{HasSent}
 
--- what is in the buffer
-abbrev pub waiting : TextBuffer → List ℕ
-waiting buffer = take buffer.filled buffer.bytes.items
+-- Where a text begins: what the writer had taken before it, and which writer it is, by the name of its borrow.
+pub record Start : Type 0 where
+  pub contents : Option (List ℕ)
+  pub writer : ℕ
 
--- whether a write has failed
-abbrev pub has_failed : TextBuffer → Bool
-has_failed buffer = buffer.failed
+module _ {W : Type 0} {g : Ghosts W} where
+  -- the writer
+  abbrev pub writer_of : Out W g → W
+  writer_of out = out.writer.now
 
--- The text was put since the writer's contents were `start`; now they are `contents`, and a write of it has failed or
--- not. If not, a first part of the text is written, and the rest is in the buffer. If one has, a beginning of the text
--- is written, and not all.
-pub record HasPut (start contents : Option (List ℕ)) (failed : Bool) (text : List ℕ) (buffer : TextBuffer)
-    : Type 0 where
-  pub going_on : failed ≡ false → (sent : List ℕ) × (text ≡ sent ++ waiting buffer) × Appends start contents sent
-  pub cut_off : failed ≡ true → AppendsPrefix start contents text
+  -- what the writer has taken, and whether a write has failed
+  abbrev pub contents_of : Out W g → Option (List ℕ)
+  contents_of out = g.contents out.writer.now
 
--- These bytes were put after whatever was put before. Before, the buffer was `old`, and the writer had `contents`, and
--- had failed or not; now they are the three that follow.
-abbrev pub Puts : List ℕ → (old : TextBuffer) (contents : Option (List ℕ)) (failed : Bool)
-    → (new : TextBuffer) (contents_now : Option (List ℕ)) (failed_now : Bool) → Type 0
-Puts bytes old contents failed new contents_now failed_now = (start : Option (List ℕ)) (text : List ℕ)
-    → HasPut start contents failed text old → HasPut start contents_now failed_now (text ++ bytes) new
+  abbrev pub has_failed : Out W g → Bool
+  has_failed out = g.failed out.writer.now
+
+  -- a text that is put from here on
+  abbrev pub start_of : Out W g → Start
+  start_of out = record { contents = contents_of out; writer = out.writer.ghost_name }
+
+  -- it has the writer of this start
+  abbrev pub HasWriter : Start → Out W g → Type 0
+  HasWriter start out = out.writer.ghost_name ≡ start.writer
+
+  -- The text was put since `start`. As long as no write has failed, a first part of it is written, and the rest waits;
+  -- once one has, a beginning of it is written, and not all.
+  pub record HasPut (start : Start) (text : List ℕ) (out : Out W g) : Type 0 where
+    pub writer_is : HasWriter start out
+    pub sent : HasSent start.contents (contents_of out) (has_failed out) text out.buffer.now
+
+  -- these bytes were put after whatever was put before
+  abbrev pub Puts : List ℕ → (old new : Out W g) → Type 0
+  Puts bytes old new = (start : Start) (text : List ℕ) → HasPut start text old → HasPut start (text ++ bytes) new

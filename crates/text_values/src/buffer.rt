@@ -1,22 +1,15 @@
-//! A buffer between the pieces of a text and the writer that takes it.
+//! The memory before a writer, in which a text waits.
 ghost use Rattle.std.specs.Prelude.{◌≡◌, ◌≤◌, ◌*◌, length};
 ghost use Rattle.text_values.specs.Digits.{pairs_of};
 ghost use Rattle.text_values.specs.declared.buffer.TheConstants.{BUFFER_BYTES};
 
-use command_io::{OutputFault, Sink, write_all};
+use command_io::{Sink, write_all};
 use hex::encode_to_slice;
-use itoa::write_digits;
 use std::alloc::Global;
 use trace_model::NoMemory;
 
 /// How many bytes a buffer holds.
-pub const BUFFER_BYTES: usize = 65536;
-
-/// How many bytes have digits that fill the buffer.
-const HEX_PIECE: usize = BUFFER_BYTES / 2;
-
-/// How many digits a number of 64 bits has at most.
-const MAX_DIGITS: usize = 20;
+pub(crate) const BUFFER_BYTES: usize = 65536;
 
 /// Writes the digits of bytes, which fill the place for them.
 fn write_pairs(bytes: &[u8], place: &mut [u8])
@@ -26,10 +19,8 @@ fn write_pairs(bytes: &[u8], place: &mut [u8])
     let _fits = encode_to_slice(bytes, place);
 }
 
-/// What was put and not yet written, and whether a write has failed. After a write that failed nothing more is
+/// The memory in which a text waits, and whether a write of it has failed. After a write that failed nothing more is
 /// written.
-///
-/// All calls of a buffer are given the same writer, and nothing else writes to it in between.
 #[derive(Debug, Drop)]
 pub struct TextBuffer {
     bytes: Vec<u8>,
@@ -40,20 +31,12 @@ pub struct TextBuffer {
 }
 
 impl TextBuffer {
-    ghost use Rattle.std.specs.Prelude.{◌≡◌, ◌≤◌, ◌+◌, ◌*◌, ◌↔◌, ◌++◌, ℕ, List, [], Option, true, false, length, IfOk};
-    ghost use Rattle.std.specs.Prelude.{OnOk, OnErr, IsErr};
-    ghost use Rattle.std.specs.Io.KnownBytes.{Appends};
-    ghost use Rattle.std.specs.Fmt.{decimal};
-    ghost use Rattle.command_io.specs.CommandRun.{AppendsPrefix};
+    ghost use Rattle.std.specs.Prelude.{◌≡◌, ◌≤◌, ◌+◌, ◌*◌, ◌++◌, ℕ, List, [], Option, false, length};
     ghost use Rattle.text_values.specs.Digits.{pairs_of};
-    ghost use Rattle.text_values.specs.Putting.{waiting, has_failed, HasPut, Puts};
+    ghost use Rattle.text_values.specs.Waiting.{waiting, has_failed, HasSent};
 
-    /// An empty buffer, before anything is put. No other call takes memory.
-    pub fn new(alloc: Global) -> Result<TextBuffer, NoMemory>
-        ensures sound { IfOk result (λ buffer. has_failed buffer ≡ false) }
-        ensures empty { IfOk result (λ buffer. (contents : Option (List ℕ)) →
-            HasPut contents contents false [] buffer) }
-    {
+    /// A buffer. No other call takes memory.
+    pub fn new(alloc: Global) -> Result<TextBuffer, NoMemory> {
         Ok(TextBuffer {
             bytes: vec![in alloc; 0u8; BUFFER_BYTES]?,
             filled: 0,
@@ -61,8 +44,24 @@ impl TextBuffer {
         })
     }
 
+    /// Forgets what it had.
+    pub(crate) fn clear(&mut self)
+        ensures empty { waiting self.new ≡ [] }
+        ensures sound { has_failed self.new ≡ false }
+    {
+        self.filled = 0;
+        self.failed = false;
+    }
+
+    /// Whether a write has failed.
+    pub(crate) fn has_failed(&self) -> bool
+        ensures { result ≡ has_failed self.now }
+    {
+        self.failed
+    }
+
     /// How many bytes more it holds.
-    fn room(&self) -> usize
+    pub(crate) fn room(&self) -> usize
         ensures { result + self.now.filled ≡ BUFFER_BYTES }
     {
         BUFFER_BYTES - self.filled
@@ -76,7 +75,7 @@ impl TextBuffer {
     }
 
     /// Puts bytes that there is room for.
-    fn add(&mut self, bytes: &[u8])
+    pub(crate) fn add(&mut self, bytes: &[u8])
         requires { self.old.filled + length bytes.now ≤ BUFFER_BYTES }
         ensures waits { waiting self.new ≡ waiting self.old ++ bytes.now }
         ensures failed { has_failed self.new ≡ has_failed self.old }
@@ -87,7 +86,7 @@ impl TextBuffer {
     }
 
     /// Puts the digits of bytes, for which there is room.
-    fn add_hex(&mut self, bytes: &[u8])
+    pub(crate) fn add_hex(&mut self, bytes: &[u8])
         requires { self.old.filled + 2 * length bytes.now ≤ BUFFER_BYTES }
         ensures waits { waiting self.new ≡ waiting self.old ++ pairs_of bytes.now }
         ensures failed { has_failed self.new ≡ has_failed self.old }
@@ -98,108 +97,17 @@ impl TextBuffer {
     }
 
     /// Writes what waits, and empties the buffer.
-    fn write_out<W: Sink>(&mut self, writer: &mut W)
+    pub(crate) fn write_out<W: Sink>(&mut self, writer: &mut W)
         requires { has_failed self.old ≡ W.failed writer.old }
         ensures tied { has_failed self.new ≡ W.failed writer.new }
         ensures empty { self.new.filled ≡ 0 }
         ensures put { (start : Option (List ℕ)) (text : List ℕ) →
-            HasPut start (W.contents writer.old) (W.failed writer.old) text self.old →
-            HasPut start (W.contents writer.new) (W.failed writer.new) text self.new }
+            HasSent start (W.contents writer.old) (W.failed writer.old) text self.old →
+            HasSent start (W.contents writer.new) (W.failed writer.new) text self.new }
     {
         if !self.failed {
             self.failed = write_all(writer, self.text()).is_err();
         }
         self.filled = 0;
-    }
-
-    /// Puts bytes that there is no room for.
-    fn put_more<W: Sink>(&mut self, writer: &mut W, bytes: &[u8])
-        requires { has_failed self.old ≡ W.failed writer.old }
-        ensures tied { has_failed self.new ≡ W.failed writer.new }
-        ensures put { Puts bytes.now self.old (W.contents writer.old) (W.failed writer.old)
-            self.new (W.contents writer.new) (W.failed writer.new) }
-    {
-        let mut rest = bytes;
-        while !rest.is_empty() {
-            let (piece, more) = rest.split_at(rest.len().min(BUFFER_BYTES));
-            self.write_out(writer);
-            self.add(piece);
-            rest = more;
-        }
-    }
-
-    /// Puts bytes.
-    pub fn put<W: Sink>(&mut self, writer: &mut W, bytes: &[u8])
-        requires { has_failed self.old ≡ W.failed writer.old }
-        ensures tied { has_failed self.new ≡ W.failed writer.new }
-        ensures put { Puts bytes.now self.old (W.contents writer.old) (W.failed writer.old)
-            self.new (W.contents writer.new) (W.failed writer.new) }
-    {
-        if bytes.len() <= self.room() {
-            self.add(bytes);
-        } else {
-            self.put_more(writer, bytes);
-        }
-    }
-
-    /// Puts a number in decimal.
-    pub fn put_number<W: Sink>(&mut self, writer: &mut W, number: u64)
-        requires { has_failed self.old ≡ W.failed writer.old }
-        ensures tied { has_failed self.new ≡ W.failed writer.new }
-        ensures put { Puts (decimal number) self.old (W.contents writer.old) (W.failed writer.old)
-            self.new (W.contents writer.new) (W.failed writer.new) }
-    {
-        let mut digits = [0; MAX_DIGITS];
-        let start = write_digits(number, &mut digits, MAX_DIGITS);
-        self.put(writer, &digits[start..]);
-    }
-
-    /// Puts the digits of bytes that there is no room for.
-    fn put_more_hex<W: Sink>(&mut self, writer: &mut W, bytes: &[u8])
-        requires { has_failed self.old ≡ W.failed writer.old }
-        ensures tied { has_failed self.new ≡ W.failed writer.new }
-        ensures put { Puts (pairs_of bytes.now) self.old (W.contents writer.old) (W.failed writer.old)
-            self.new (W.contents writer.new) (W.failed writer.new) }
-    {
-        let mut rest = bytes;
-        while !rest.is_empty() {
-            let (piece, more) = rest.split_at(rest.len().min(HEX_PIECE));
-            self.write_out(writer);
-            self.add_hex(piece);
-            rest = more;
-        }
-    }
-
-    /// Puts two lower-case hexadecimal digits for each byte.
-    pub fn put_hex<W: Sink>(&mut self, writer: &mut W, bytes: &[u8])
-        requires { has_failed self.old ≡ W.failed writer.old }
-        ensures tied { has_failed self.new ≡ W.failed writer.new }
-        ensures put { Puts (pairs_of bytes.now) self.old (W.contents writer.old) (W.failed writer.old)
-            self.new (W.contents writer.new) (W.failed writer.new) }
-    {
-        if bytes.len() <= self.room() / 2 {
-            self.add_hex(bytes);
-        } else {
-            self.put_more_hex(writer, bytes);
-        }
-    }
-
-    /// Writes what waits. After a write that failed a beginning of what was put is written, and not all.
-    pub fn finish<W: Sink>(self, writer: &mut W) -> Result<(), OutputFault>
-        requires { has_failed self ≡ W.failed writer.old }
-        ensures all { (start : Option (List ℕ)) (text : List ℕ) →
-            HasPut start (W.contents writer.old) (W.failed writer.old) text self →
-            OnOk result (Appends start (W.contents writer.new) text) }
-        ensures prefix { (start : Option (List ℕ)) (text : List ℕ) →
-            HasPut start (W.contents writer.old) (W.failed writer.old) text self →
-            OnErr result (AppendsPrefix start (W.contents writer.new) text) }
-        ensures fault { (W.failed writer.new ≡ true) ↔ IsErr result }
-    {
-        let mut buffer = self;
-        buffer.write_out(writer);
-        if buffer.failed {
-            return Err(OutputFault);
-        }
-        Ok(())
     }
 }

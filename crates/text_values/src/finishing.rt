@@ -1,39 +1,32 @@
-//! The end of a text that goes through a buffer.
-ghost use Rattle.std.specs.Prelude.{◌≡◌, ◌++◌, ℕ, List, Option};
+//! The end of a text that is put piece by piece.
+ghost use Rattle.std.specs.Prelude.{◌++◌, ℕ, List};
 ghost use Rattle.command_io.specs.Written.{IsTextWritten};
 ghost use Rattle.command_io.specs.declared.command.TheConstants.{MEMORY_LINE as memory_line};
-ghost use Rattle.text_values.specs.Putting.{has_failed, HasPut};
+ghost use Rattle.text_values.specs.Putting.{Start, contents_of, has_failed, HasWriter, HasPut};
 
-use crate::buffer::TextBuffer;
+use crate::output::Out;
 use command_io::{MEMORY_LINE, Sink};
 
-/// Writes what is still in the buffer. The answer is `wanted`, or `not_written` if a write failed.
-pub fn finish<W: Sink, E: Copy>(buffer: TextBuffer, writer: &mut W, wanted: E, not_written: E) -> E
-    requires { has_failed buffer ≡ W.failed writer.old }
-    ensures { (start : Option (List ℕ)) (text : List ℕ)
-        → HasPut start (W.contents writer.old) (W.failed writer.old) text buffer
-        → IsTextWritten not_written start (W.contents writer.new) (W.failed writer.new) text wanted result }
+/// Writes what still waits. The answer is `wanted`, or `not_written` if a write failed.
+pub fn finish<W: Sink, E: Copy>(out: &mut Out<'_, W>, wanted: E, not_written: E) -> E
+    ensures writer { (start : Start) (text : List ℕ) → HasPut start text out.old → HasWriter start out.new }
+    ensures written { (start : Start) (text : List ℕ) → HasPut start text out.old
+        → IsTextWritten not_written start.contents (contents_of out.new) (has_failed out.new) text
+        wanted result }
 {
-    match buffer.finish(writer) {
+    match out.finish() {
         Ok(()) => wanted,
         Err(_) => not_written,
     }
 }
 
 /// Reports that memory was refused, after what was put. The answer is `no_memory`, or `not_written` if a write failed.
-pub fn finish_memory<W: Sink, E: Copy>(
-    buffer: TextBuffer,
-    writer: &mut W,
-    no_memory: E,
-    not_written: E,
-) -> E
-    requires { has_failed buffer ≡ W.failed writer.old }
-    ensures { (start : Option (List ℕ)) (text : List ℕ)
-        → HasPut start (W.contents writer.old) (W.failed writer.old) text buffer
-        → IsTextWritten not_written start (W.contents writer.new) (W.failed writer.new) (text ++ memory_line) no_memory
-        result }
+pub fn finish_memory<W: Sink, E: Copy>(out: &mut Out<'_, W>, no_memory: E, not_written: E) -> E
+    ensures writer { (start : Start) (text : List ℕ) → HasPut start text out.old → HasWriter start out.new }
+    ensures written { (start : Start) (text : List ℕ) → HasPut start text out.old
+        → IsTextWritten not_written start.contents (contents_of out.new) (has_failed out.new)
+        (text ++ memory_line) no_memory result }
 {
-    let mut buffer = buffer;
-    buffer.put(writer, &MEMORY_LINE);
-    finish(buffer, writer, no_memory, not_written)
+    out.put(&MEMORY_LINE);
+    finish(out, no_memory, not_written)
 }

@@ -4,8 +4,10 @@
 
 mod buffer;
 mod finishing;
+mod output;
 mod values;
 
 pub use buffer::TextBuffer;
 pub use finishing::{finish, finish_memory};
+pub use output::Out;
 pub use values::{drop_if_refused, put_number, put_payload};

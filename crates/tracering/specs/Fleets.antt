@@ -1,4 +1,5 @@
 -- The words of the contracts of `fleets`; those of one stream are in `Streams`.
+pub use Rattle.fleet_collector.specs.Changes.{MarksStream}
 pub use Rattle.fleet_collector.specs.Fleet.{AllHaveKnownCpus, HasKnownCpus, KeepsOthers, known_of, stream_at}
 pub use Rattle.fleet_collector.specs.Told.{IsFleetOf}
 pub use Rattle.fleet_collector.specs.Pieces.{AddsPiece, HasKnownCpu, IsRefusal}

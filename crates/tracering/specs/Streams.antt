@@ -14,6 +14,7 @@ pub use Rattle.trace_model.specs.Runs.{AreRuns}
 -- what a call does
 pub use Rattle.stream_collector.specs.Faults.{IsForgotten, IsNotAdded, IsWithinEnd}
 pub use Rattle.stream_collector.specs.Forgetting.{AllAccounted, GivesUpBelow, HasBound, IsBoundFault, IsForgetFault}
+pub use Rattle.stream_collector.specs.Forgetting.{RaisesBound}
 pub use Rattle.stream_collector.specs.Frontier.{IsCut, IsForgottenBefore, IsFrontier}
 pub use Rattle.stream_collector.specs.GivenUp.{AllGivenUp, GivesUp, IsUndeliveredFault}
 pub use Rattle.stream_collector.specs.Marking.{HasEnd, IsEndFault, IsNotOpen}

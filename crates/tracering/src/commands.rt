@@ -1,10 +1,8 @@
 //! The commands of the program `tracering`, over any sources and sinks.
 pub use capture::files::{Captured, CpuCapture, FileFault, Input, InputFault, Unread, read_inputs};
-pub use collect_command::recovery::{Ending as RecoverEnding, Outcome as Recovering, recover_to};
-pub use collect_command::streams::{
-    Collected as CollectedStreams, Ending as StreamsEnding, collect_streams, print_pieces,
-};
-pub use collect_command::{Collected, Collecting, Ending, collect_to};
+pub use collect_command::recovery::recover_to;
+pub use collect_command::streams::{collect_streams, print_pieces};
+pub use collect_command::{Collected, Collecting, Ending, Outcome, collect_to};
 pub use command_io::{
     DONE, END_FAILED, NO_MEMORY, REFUSED, Sink, Source, Std, THREAD_LINE, USAGE, message_for,
 };

@@ -1,53 +1,42 @@
 -- How pieces are added to a fleet, and the bytes of those that are new are kept.
-use Rattle.std.specs.Prelude.{◌≡◌, ◌⊎◌, ℕ, Bool, List, [], ◌∷◌, ◌++◌, length, Option, ⊤}
+use Rattle.std.specs.Prelude.{◌≡◌, ◌⊎◌, ℕ, List, [], ◌∷◌, ◌++◌, length, ⊤}
 use Rattle.parcel_streams.specs.Pieces.{Packed, AreAllPieces, bytes_of_pieces}
 use Rattle.parcel_streams.specs.Answers.{pieces_seen}
 use Rattle.parcel_streams.specs.declared.piece.Piece.{Piece}
 use Rattle.stream_collector.specs.Stream.{Stream}
 use Rattle.fleet_collector.specs.Pieces.{IsRefusal}
-use Rattle.text_values.specs.declared.buffer.TextBuffer.{TextBuffer}
+use Rattle.command_io.specs.declared.ends.Sink.{Ghosts}
+use Rattle.text_values.specs.declared.output.Out.{Out}
+use Rattle.text_values.specs.Putting.{Start}
 use Rattle.collect_command.specs.streams.Reading.{capped, IsOrigin}
 use Rattle.collect_command.specs.streams.Gathering.{Gathers, HasGathered}
 use Rattle.ring_region.specs.declared.regions.Region.{Region}
-use Rattle.collect_command.specs.declared.recovery.gather.Gatherer.{Gatherer}
 use Rattle.collect_command.specs.declared.recovery.gather.Stop.{Stop}
 use Rattle.collect_command.specs.declared.recovery.gather.Stop.TheVariants.{Refused, NoMemory}
 use Rattle.collect_command.specs.declared.recovery.gather.StoppedAt.{StoppedAt}
 use Rattle.collect_command.specs.recovery.Telling.{IsToldBy, AreToldBy}
 
--- A fleet, and the buffer through which the bytes of new pieces go to a sink; and what is seen of that sink.
-pub record Gathering : Type 0 where
+-- A fleet, and where the bytes of new pieces are put.
+pub record Gathering (K : Type 0) (g : Ghosts K) : Type 0 where
   pub fleet : List (ℕ × Stream)
-  pub buffer : TextBuffer
-  pub contents : Option (List ℕ)
-  pub failed : Bool
+  pub out : Out K g
 
-abbrev pub gathering_of : {K : Type 0} → (K → Option (List ℕ)) → (K → Bool) → Gatherer → K → Gathering
-gathering_of contents failed gatherer keep = record {
-  fleet = gatherer.fleet;
-  buffer = gatherer.kept;
-  contents = contents keep;
-  failed = failed keep;
-}
+module _ {K : Type 0} {g : Ghosts K} where
+  abbrev pub gathering_of : List (ℕ × Stream) → Out K g → Gathering K g
+  gathering_of fleet out = record { fleet = fleet; out = out }
 
--- the buffer knows whether a write has failed
-abbrev pub IsTied : Gathering → Type 0
-IsTied at = at.buffer.failed ≡ at.failed
+  -- these pieces were added since nothing was there, and the bytes of those that were new were put
+  abbrev pub Has : (start : Start) → Gathering K g → List Piece → Type 0
+  Has start at pieces = HasGathered start at.out at.fleet pieces
 
--- these pieces were added since nothing was there, and the bytes of those that were new were put
-abbrev pub Has : (start : Option (List ℕ)) → Gathering → List Piece → Type 0
-Has start at pieces = HasGathered start at.contents at.failed at.buffer at.fleet pieces
+  -- one piece was added, and its bytes were put if it was new
+  abbrev pub AddsOne : Piece → (old new : Gathering K g) → Type 0
+  AddsOne piece old new = Gathers piece old.fleet old.out new.fleet new.out
 
--- one piece was added, and its bytes were put if it was new
-abbrev pub AddsOne : Piece → (old new : Gathering) → Type 0
-AddsOne piece old new =
-    Gathers piece old.fleet old.buffer old.contents old.failed new.fleet new.buffer new.contents new.failed
-
--- These pieces were added after whatever was added before. Each is one that can be read again.
-pub record AddsAll (pieces : List Piece) (old new : Gathering) : Type 0 where
-  pub sound : AreAllPieces (pieces_seen pieces)
-  pub adds : (start : Option (List ℕ)) (before : List Piece) → Has start old before
-      → Has start new (before ++ pieces)
+  -- These pieces were added after whatever was added before. Each is one that can be read again.
+  pub record AddsAll (pieces : List Piece) (old new : Gathering K g) : Type 0 where
+    pub sound : AreAllPieces (pieces_seen pieces)
+    pub adds : (start : Start) (before : List Piece) → Has start old before → Has start new (before ++ pieces)
 
 -- ---- where it stops
 
@@ -63,7 +52,8 @@ IsStop pieces piece fleet (Refused index at stream cpu refusal) =
     AreCounted pieces index at × IsOrigin piece stream cpu × IsRefusal fleet piece refusal
 
 -- Of these pieces some were added, and the next one wasn't.
-pub record StopsAmong (pieces : List Piece) (old new : Gathering) (stop : Stop) : Type 0 where
+pub record StopsAmong {K : Type 0} {g : Ghosts K} (pieces : List Piece) (old new : Gathering K g) (stop : Stop)
+    : Type 0 where
   pub front : List Piece
   pub piece : Piece
   pub behind : List Piece
@@ -81,25 +71,27 @@ IsRegionStop region pieces fleet (Refused index at stream cpu refusal) =
     × AreCounted pieces index at × IsOrigin piece stream cpu × IsRefusal fleet piece refusal
 
 -- all pieces that a region states were added
-pub record AddsRegion (region : Region) (old new : Gathering) : Type 0 where
+pub record AddsRegion {K : Type 0} {g : Ghosts K} (region : Region) (old new : Gathering K g) : Type 0 where
   pub pieces : List Piece
   pub told : IsToldBy region (pieces_seen pieces)
   pub adds : AddsAll pieces old new
 
 -- or some of them, and the next one wasn't
-pub record StopsInRegion (region : Region) (old new : Gathering) (stop : Stop) : Type 0 where
+pub record StopsInRegion {K : Type 0} {g : Ghosts K} (region : Region) (old new : Gathering K g) (stop : Stop)
+    : Type 0 where
   pub pieces : List Piece
   pub adds : AddsAll pieces old new
   pub why : IsRegionStop region pieces new.fleet stop
 
 -- all pieces that these regions state were added
-pub record AddsRegions (regions : List Region) (old new : Gathering) : Type 0 where
+pub record AddsRegions {K : Type 0} {g : Ghosts K} (regions : List Region) (old new : Gathering K g) : Type 0 where
   pub pieces : List Piece
   pub told : AreToldBy regions pieces
   pub adds : AddsAll pieces old new
 
 -- or all those of the first regions, and some of the next one's
-pub record StopsInRegions (regions : List Region) (old new : Gathering) (stopped : StoppedAt) : Type 0 where
+pub record StopsInRegions {K : Type 0} {g : Ghosts K} (regions : List Region) (old new : Gathering K g)
+    (stopped : StoppedAt) : Type 0 where
   pub front : List Region
   pub this : Region
   pub behind : List Region

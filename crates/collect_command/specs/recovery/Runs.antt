@@ -1,7 +1,6 @@
 -- What a run of `recover` does with its inputs and its sinks.
 use Rattle.std.specs.Prelude.{◌≡◌, ◌⊎◌, ℕ, All, Bool, true, false, List, [], ◌∷◌, ◌++◌, length, Option}
 use Rattle.command_io.specs.Written.{IsTextWritten}
-use Rattle.command_io.specs.declared.command.TheConstants.{MEMORY_LINE}
 use Rattle.parcel_streams.specs.Pieces.{AreAllPieces}
 use Rattle.parcel_streams.specs.Answers.{pieces_seen}
 use Rattle.parcel_streams.specs.declared.piece.Piece.{Piece}
@@ -10,14 +9,16 @@ use Rattle.capture_text.specs.declared.form.Form.{Form}
 use Rattle.fleet_text.specs.Listed.{Shown, IsFleetShown, shown_text}
 use Rattle.fleet_text.specs.Faults.{fault_line, is_memory_refusal}
 use Rattle.fleet_text.specs.declared.fault.PieceTrouble.TheVariants.{Refused as RefusedPiece}
+use Rattle.collect_command.specs.Runs.{IsMemoryLine}
 use Rattle.collect_command.specs.streams.Gathering.{IsGathered}
 use Rattle.ring_region.specs.declared.regions.Region.{Region}
-use Rattle.collect_command.specs.declared.recovery.ending.Outcome.{Outcome}
-use Rattle.collect_command.specs.declared.recovery.ending.Ending.{Ending}
-use Rattle.collect_command.specs.declared.recovery.ending.Ending.TheVariants.{Done, Damaged, Malformed, NoMemory, NotRead}
-use Rattle.collect_command.specs.declared.recovery.ending.Ending.TheVariants.{TooLong, NotWritten}
+use Rattle.collect_command.specs.declared.ending.Outcome.{Outcome}
+use Rattle.collect_command.specs.declared.ending.Ending.{Ending}
+use Rattle.collect_command.specs.declared.ending.Ending.TheVariants.{Done, Damaged, Malformed, NotRead, TooLong}
+use Rattle.collect_command.specs.declared.ending.Ending.TheVariants.{NotWritten}
 use Rattle.collect_command.specs.declared.recovery.read.Unread.{Unread}
-use Rattle.collect_command.specs.declared.recovery.read.Unread.TheVariants.{Read, TooLong as TooMany, Fault, NoMemory as NoRoom}
+use Rattle.collect_command.specs.declared.recovery.read.Unread.TheVariants.{Read, TooLong as TooMany, Fault}
+use Rattle.collect_command.specs.declared.recovery.read.Unread.TheVariants.{NoMemory as NoRoom}
 use Rattle.collect_command.specs.declared.recovery.read.Stopped.{Stopped}
 use Rattle.collect_command.specs.declared.recovery.gather.Stop.{Stop}
 use Rattle.collect_command.specs.declared.recovery.gather.Stop.TheVariants.{Refused, NoMemory as NoRoomLeft}
@@ -26,10 +27,6 @@ use Rattle.collect_command.specs.recovery.Reading.{AreRead, StopsReading}
 use Rattle.collect_command.specs.recovery.Telling.{AreToldBy}
 use Rattle.collect_command.specs.recovery.Gathering.{IsRegionStop}
 use Rattle.collect_command.specs.recovery.Lines.{damaged_lines, region_line}
-
--- the line for refused memory alone
-abbrev pub IsMemoryLine : (contents after : Option (List ℕ)) (failed : Bool) → Ending → Type 0
-IsMemoryLine contents after failed ending = IsTextWritten NotWritten contents after failed MEMORY_LINE NoMemory ending
 
 -- ---- a listing
 

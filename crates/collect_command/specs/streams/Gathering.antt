@@ -12,8 +12,9 @@ use Rattle.fleet_collector.specs.declared.refusal.PieceRefusal.{PieceRefusal}
 use Rattle.fleet_collector.specs.Pieces.{AddsPiece, IsRefusal}
 use Rattle.fleet_collector.specs.Told.{IsFleetOf}
 use Rattle.capture_text.specs.declared.form.Form.{Form}
-use Rattle.text_values.specs.declared.buffer.TextBuffer.{TextBuffer}
-use Rattle.text_values.specs.Putting.{HasPut, Puts}
+use Rattle.command_io.specs.declared.ends.Sink.{Ghosts}
+use Rattle.text_values.specs.declared.output.Out.{Out}
+use Rattle.text_values.specs.Putting.{Start, HasPut, Puts}
 use Rattle.fleet_text.specs.Pieces.{piece_line}
 use Rattle.collect_command.specs.streams.Reading.{Placed, piece_length}
 
@@ -33,39 +34,36 @@ pub data AreAdded : List Piece → List (ℕ × Stream) → (kept : List Packed)
 
 -- ---- one piece
 
--- A piece was added to a fleet, and its bytes were put if it was new.
-pub record Gathers (piece : Piece) (old : List (ℕ × Stream)) (b : TextBuffer) (contents : Option (List ℕ))
-    (failed : Bool)
-    (new : List (ℕ × Stream)) (b' : TextBuffer) (contents' : Option (List ℕ)) (failed' : Bool) : Type 0 where
-  pub added : Added
-  pub adds : AddsPiece old new piece added
-  pub put : Puts (bytes_of_pieces (kept_of piece added)) b contents failed b' contents' failed'
+module _ {K : Type 0} {g : Ghosts K} where
+  -- A piece was added to a fleet, and its bytes were put if it was new.
+  pub record Gathers (piece : Piece) (old : List (ℕ × Stream)) (out : Out K g) (new : List (ℕ × Stream))
+      (out_now : Out K g) : Type 0 where
+    pub added : Added
+    pub adds : AddsPiece old new piece added
+    pub put : Puts (bytes_of_pieces (kept_of piece added)) out out_now
 
--- it was refused, and all stays
-pub record Refuses (piece : Piece) (refusal : PieceRefusal) (old : List (ℕ × Stream)) (b : TextBuffer)
-    (contents : Option (List ℕ)) (failed : Bool) (new : List (ℕ × Stream)) (b' : TextBuffer)
-    (contents' : Option (List ℕ)) (failed' : Bool) : Type 0 where
-  pub refused : IsRefusal old piece refusal
-  pub fleet_stays : new ≡ old
-  pub buffer_stays : b' ≡ b
-  pub contents_stay : contents' ≡ contents
-  pub sound_stays : failed' ≡ failed
+  -- it was refused, and all stays
+  pub record Refuses (piece : Piece) (refusal : PieceRefusal) (old : List (ℕ × Stream)) (out : Out K g)
+      (new : List (ℕ × Stream)) (out_now : Out K g) : Type 0 where
+    pub refused : IsRefusal old piece refusal
+    pub fleet_stays : new ≡ old
+    pub out_stays : out_now ≡ out
 
--- a line was put for it
-pub record PrintsPiece (placed : Placed) (form : Form) (b : TextBuffer) (contents : Option (List ℕ)) (failed : Bool)
-    (form' : Form) (b' : TextBuffer) (contents' : Option (List ℕ)) (failed' : Bool) : Type 0 where
-  pub form_stays : form' ≡ form
-  pub put : Puts (piece_line form placed.input placed.at (piece_length placed.piece) (piece_seen placed.piece))
-      b contents failed b' contents' failed'
+  -- a line was put for it
+  pub record PrintsPiece (placed : Placed) (form : Form) (out : Out K g) (form_now : Form) (out_now : Out K g)
+      : Type 0 where
+    pub form_stays : form_now ≡ form
+    pub put : Puts (piece_line form placed.input placed.at (piece_length placed.piece) (piece_seen placed.piece))
+        out out_now
 
 -- ---- all pieces
 
 -- These pieces were added to an empty fleet, and those that were new were put.
-pub record HasGathered (start contents : Option (List ℕ)) (failed : Bool) (buffer : TextBuffer)
-    (fleet : List (ℕ × Stream)) (pieces : List Piece) : Type 0 where
+pub record HasGathered {K : Type 0} {g : Ghosts K} (start : Start) (out : Out K g) (fleet : List (ℕ × Stream))
+    (pieces : List Piece) : Type 0 where
   pub kept : List Packed
   pub added : AreAdded pieces fleet kept
-  pub put : HasPut start contents failed (bytes_of_pieces kept) buffer
+  pub put : HasPut start (bytes_of_pieces kept) out
 
 -- the pieces without their places
 abbrev pub pieces_in : List Placed → List Piece

@@ -10,9 +10,9 @@ use Rattle.capture_text.specs.declared.form.Form.{Form}
 use Rattle.fleet_text.specs.Listed.{Shown, IsFleetShown, shown_text}
 use Rattle.fleet_text.specs.Faults.{fault_line, is_no_memory}
 use Rattle.parcel_streams.specs.declared.source.reader.PieceReader.{PieceReader}
-use Rattle.collect_command.specs.declared.streams.ending.Collected.{Collected}
-use Rattle.collect_command.specs.declared.streams.ending.Ending.{Ending}
-use Rattle.collect_command.specs.declared.streams.ending.Ending.TheVariants.{Done, Malformed, NoMemory, NotRead, NotWritten}
+use Rattle.collect_command.specs.declared.ending.Outcome.{Outcome}
+use Rattle.collect_command.specs.declared.ending.Ending.{Ending}
+use Rattle.collect_command.specs.declared.ending.Ending.TheVariants.{Done, Malformed, NoMemory, NotRead, NotWritten}
 use Rattle.collect_command.specs.declared.streams.read.Stop.{Stop}
 use Rattle.collect_command.specs.declared.streams.read.Stop.TheVariants.{Read, Piece as PieceStop}
 use Rattle.collect_command.specs.declared.streams.read.Stopped.{Stopped}
@@ -64,40 +64,40 @@ module _ {R : Type 0} (remaining : R → Option (List ℕ)) (has_failed : R → 
   -- the first line. What was new is kept, in the order of the inputs.
   pub record ListsAll (form : Form) (old new : List (PieceReader R)) (keep keep_after : Option (List ℕ))
       (keep_failed : Bool)
-      (contents after : Option (List ℕ)) (failed : Bool) (collected : Collected) : Type 0 where
+      (contents after : Option (List ℕ)) (failed : Bool) (outcome : Outcome) : Type 0 where
     pub pieces : List Placed
     pub are_whole : AreWhole remaining has_failed 0 old new pieces
     pub fleet : List (ℕ × Stream)
-    pub gathered : IsGathered keep keep_after keep_failed (pieces_in pieces) fleet collected.is_kept
-    pub told : IsListed form fleet contents after failed collected.ending
-        ⊎ IsMemoryLine contents after failed [] collected.ending
+    pub gathered : IsGathered keep keep_after keep_failed (pieces_in pieces) fleet outcome.is_kept
+    pub told : IsListed form fleet contents after failed outcome.ending
+        ⊎ IsMemoryLine contents after failed [] outcome.ending
 
   -- An input wasn't read to its end, and why is all that is written. What was new before is kept.
   pub record ListsNone (old new : List (PieceReader R)) (keep keep_after : Option (List ℕ)) (keep_failed : Bool)
-      (contents after : Option (List ℕ)) (failed : Bool) (collected : Collected) : Type 0 where
+      (contents after : Option (List ℕ)) (failed : Bool) (outcome : Outcome) : Type 0 where
     pub stopped : Stopped
     pub fleet : List (ℕ × Stream)
     pub stops : StopsInputs remaining has_failed Adds IsRefused old new [] fleet stopped
     pub gathered : IsGathered keep keep_after keep_failed
-        (pieces_in (stops.pieces ++ placed stopped.input 0 stops.here.pieces)) fleet collected.is_kept
-    pub told : TellsStop stopped.input stopped.stop contents after failed [] collected.ending
+        (pieces_in (stops.pieces ++ placed stopped.input 0 stops.here.pieces)) fleet outcome.is_kept
+    pub told : TellsStop stopped.input stopped.stop contents after failed [] outcome.ending
 
   -- Memory was refused before anything was read.
   pub record ReadsNone (old new : List (PieceReader R)) (keep keep_after : Option (List ℕ)) (keep_failed : Bool)
-      (contents after : Option (List ℕ)) (failed : Bool) (collected : Collected) : Type 0 where
+      (contents after : Option (List ℕ)) (failed : Bool) (outcome : Outcome) : Type 0 where
     pub not_read : new ≡ old
     pub not_kept : keep_after ≡ keep
     pub keep_sound : keep_failed ≡ false
-    pub is_kept : collected.is_kept ≡ true
-    pub told : IsMemoryLine contents after failed [] collected.ending
+    pub is_kept : outcome.is_kept ≡ true
+    pub told : IsMemoryLine contents after failed [] outcome.ending
 
   -- What a run that lists does.
   abbrev pub IsStreamRun : (form : Form) (old new : List (PieceReader R)) (keep keep_after : Option (List ℕ))
-      (keep_failed : Bool) (contents after : Option (List ℕ)) (failed : Bool) → Collected → Type 0
-  IsStreamRun form old new keep keep_after keep_failed contents after failed collected =
-      ListsAll form old new keep keep_after keep_failed contents after failed collected
-      ⊎ ListsNone old new keep keep_after keep_failed contents after failed collected
-      ⊎ ReadsNone old new keep keep_after keep_failed contents after failed collected
+      (keep_failed : Bool) (contents after : Option (List ℕ)) (failed : Bool) → Outcome → Type 0
+  IsStreamRun form old new keep keep_after keep_failed contents after failed outcome =
+      ListsAll form old new keep keep_after keep_failed contents after failed outcome
+      ⊎ ListsNone old new keep keep_after keep_failed contents after failed outcome
+      ⊎ ReadsNone old new keep keep_after keep_failed contents after failed outcome
 
   -- ---- a line for each piece
 

@@ -1,12 +1,12 @@
 //! A fleet of all pieces that the regions state, and the pieces that are new.
-ghost use Rattle.std.specs.Prelude.{◌≡◌, ◌<◌, false, [], All, IfOk, IfErr, OnOk, ℕ, List, Option};
+ghost use Rattle.std.specs.Prelude.{◌≡◌, ◌<◌, All, IfOk, IfErr, OnOk};
 ghost use Rattle.trace_model.specs.declared.limits.TheConstants.{MAX_CPUS};
 ghost use Rattle.parcel_streams.specs.Pieces.{IsPiece, bytes_of_piece};
 ghost use Rattle.parcel_streams.specs.Answers.{piece_seen};
 ghost use Rattle.fleet_collector.specs.Pieces.{IsRefusal};
 ghost use Rattle.collect_command.specs.streams.Reading.{IsOrigin};
 ghost use Rattle.collect_command.specs.recovery.Telling.{MayBeTold};
-ghost use Rattle.collect_command.specs.recovery.Gathering.{gathering_of, IsTied, Has, AddsOne, AddsAll, StopsAmong, AddsRegion};
+ghost use Rattle.collect_command.specs.recovery.Gathering.{gathering_of, AddsOne, AddsAll, StopsAmong, AddsRegion};
 ghost use Rattle.collect_command.specs.recovery.Gathering.{StopsInRegion, AddsRegions, StopsInRegions};
 
 use command_io::Sink;
@@ -15,31 +15,8 @@ use parcel_streams::{Mark, Piece, StreamId, pack_mark, pack_parcel};
 use ring_region::Region;
 use std::alloc::Global;
 use stream_collector::Added;
-use text_values::TextBuffer;
+use text_values::Out;
 use trace_model::{CpuId, NoMemory};
-
-/// What gathers pieces in a fleet. The bytes of each that is new go to a writer, through a buffer.
-#[derive(Drop)]
-pub(crate) struct Gatherer {
-    pub(crate) fleet: Fleet,
-    pub(crate) kept: TextBuffer,
-}
-
-impl Gatherer {
-    /// Nothing was gathered.
-    pub(crate) fn new(alloc: Global) -> Result<Gatherer, NoMemory>
-        ensures none { IfOk result (λ gatherer. gatherer.fleet ≡ []) }
-        ensures sound { IfOk result (λ gatherer. gatherer.kept.failed ≡ false) }
-        ensures empty { IfOk result (λ gatherer. (contents : Option (List ℕ)) → Has contents
-            (record { fleet = gatherer.fleet; buffer = gatherer.kept; contents = contents; failed = false }) []) }
-    {
-        let kept = TextBuffer::new(alloc)?;
-        Ok(Gatherer {
-            fleet: Fleet::new(alloc),
-            kept,
-        })
-    }
-}
 
 /// Why not all pieces are added.
 #[derive(Clone, Copy, Debug, PartialEq, Eq)]
@@ -99,23 +76,18 @@ fn pack(alloc: Global, piece: &Piece) -> Result<(Vec<u8>, Piece), NoMemory>
 fn add_piece<K: Sink>(
     piece: Piece,
     bytes: &[u8],
-    gatherer: &mut Gatherer,
-    keep: &mut K,
+    fleet: &mut Fleet,
+    out: &mut Out<'_, K>,
 ) -> Result<(), PieceRefusal>
-    requires tied { IsTied (gathering_of K.contents K.failed gatherer.old keep.old) }
     requires told { MayBeTold piece }
     requires bytes { bytes.now ≡ bytes_of_piece (piece_seen piece) }
-    ensures tied { IsTied (gathering_of K.contents K.failed gatherer.new keep.new) }
-    ensures added { OnOk result (AddsOne piece
-        (gathering_of K.contents K.failed gatherer.old keep.old)
-        (gathering_of K.contents K.failed gatherer.new keep.new)) }
-    ensures refused { IfErr result (λ refusal. IsRefusal gatherer.new.fleet piece refusal) }
-    ensures unchanged { IfErr result (λ _. gathering_of K.contents K.failed gatherer.new keep.new
-        ≡ gathering_of K.contents K.failed gatherer.old keep.old) }
+    ensures added { OnOk result (AddsOne piece (gathering_of fleet.old out.old) (gathering_of fleet.new out.new)) }
+    ensures refused { IfErr result (λ refusal. IsRefusal fleet.new piece refusal) }
+    ensures unchanged { IfErr result (λ _. gathering_of fleet.new out.new ≡ gathering_of fleet.old out.old) }
 {
-    match gatherer.fleet.add_piece(piece) {
+    match fleet.add_piece(piece) {
         Ok(Added::New) => {
-            gatherer.kept.put(keep, bytes);
+            out.put(bytes);
             Ok(())
         }
         Ok(Added::Known | Added::Forgotten) => Ok(()),
@@ -127,18 +99,14 @@ fn add_piece<K: Sink>(
 fn add_pieces<K: Sink>(
     alloc: Global,
     pieces: &[Piece],
-    gatherer: &mut Gatherer,
-    keep: &mut K,
+    fleet: &mut Fleet,
+    out: &mut Out<'_, K>,
 ) -> Result<(), Stop>
-    requires tied { IsTied (gathering_of K.contents K.failed gatherer.old keep.old) }
-    requires told { All (λ piece. MayBeTold piece) pieces.now }
-    ensures tied { IsTied (gathering_of K.contents K.failed gatherer.new keep.new) }
+    requires { All (λ piece. MayBeTold piece) pieces.now }
     ensures added { OnOk result (AddsAll pieces.now
-        (gathering_of K.contents K.failed gatherer.old keep.old)
-        (gathering_of K.contents K.failed gatherer.new keep.new)) }
+        (gathering_of fleet.old out.old) (gathering_of fleet.new out.new)) }
     ensures stopped { IfErr result (λ stop. StopsAmong pieces.now
-        (gathering_of K.contents K.failed gatherer.old keep.old)
-        (gathering_of K.contents K.failed gatherer.new keep.new) stop) }
+        (gathering_of fleet.old out.old) (gathering_of fleet.new out.new) stop) }
 {
     let mut index: u64 = 0;
     let mut at: u64 = 0;
@@ -147,7 +115,7 @@ fn add_pieces<K: Sink>(
             return Err(Stop::NoMemory);
         };
         let (stream, cpu) = origin_of(piece);
-        if let Err(refusal) = add_piece(own, &bytes, gatherer, keep) {
+        if let Err(refusal) = add_piece(own, &bytes, fleet, out) {
             return Err(Stop::Refused {
                 index,
                 at,
@@ -166,21 +134,17 @@ fn add_pieces<K: Sink>(
 fn add_region<K: Sink>(
     alloc: Global,
     region: &Region,
-    gatherer: &mut Gatherer,
-    keep: &mut K,
+    fleet: &mut Fleet,
+    out: &mut Out<'_, K>,
 ) -> Result<(), Stop>
-    requires tied { IsTied (gathering_of K.contents K.failed gatherer.old keep.old) }
-    requires known { region.now.header.cpu.0 < MAX_CPUS }
-    ensures tied { IsTied (gathering_of K.contents K.failed gatherer.new keep.new) }
+    requires { region.now.header.cpu.0 < MAX_CPUS }
     ensures added { OnOk result (AddsRegion region.now
-        (gathering_of K.contents K.failed gatherer.old keep.old)
-        (gathering_of K.contents K.failed gatherer.new keep.new)) }
+        (gathering_of fleet.old out.old) (gathering_of fleet.new out.new)) }
     ensures stopped { IfErr result (λ stop. StopsInRegion region.now
-        (gathering_of K.contents K.failed gatherer.old keep.old)
-        (gathering_of K.contents K.failed gatherer.new keep.new) stop) }
+        (gathering_of fleet.old out.old) (gathering_of fleet.new out.new) stop) }
 {
     match region.pieces(alloc) {
-        Ok(pieces) => add_pieces(alloc, &pieces, gatherer, keep),
+        Ok(pieces) => add_pieces(alloc, &pieces, fleet, out),
         Err(NoMemory) => Err(Stop::NoMemory),
     }
 }
@@ -189,22 +153,18 @@ fn add_region<K: Sink>(
 pub(crate) fn add_regions<K: Sink>(
     alloc: Global,
     regions: &[Region],
-    gatherer: &mut Gatherer,
-    keep: &mut K,
+    fleet: &mut Fleet,
+    out: &mut Out<'_, K>,
 ) -> Result<(), StoppedAt>
-    requires tied { IsTied (gathering_of K.contents K.failed gatherer.old keep.old) }
-    requires known { All (λ region. region.header.cpu.0 < MAX_CPUS) regions.now }
-    ensures tied { IsTied (gathering_of K.contents K.failed gatherer.new keep.new) }
+    requires { All (λ region. region.header.cpu.0 < MAX_CPUS) regions.now }
     ensures added { OnOk result (AddsRegions regions.now
-        (gathering_of K.contents K.failed gatherer.old keep.old)
-        (gathering_of K.contents K.failed gatherer.new keep.new)) }
+        (gathering_of fleet.old out.old) (gathering_of fleet.new out.new)) }
     ensures stopped { IfErr result (λ stopped. StopsInRegions regions.now
-        (gathering_of K.contents K.failed gatherer.old keep.old)
-        (gathering_of K.contents K.failed gatherer.new keep.new) stopped) }
+        (gathering_of fleet.old out.old) (gathering_of fleet.new out.new) stopped) }
 {
     let mut input = 0;
     for region in regions {
-        if let Err(stop) = add_region(alloc, region, gatherer, keep) {
+        if let Err(stop) = add_region(alloc, region, fleet, out) {
             return Err(StoppedAt { input, stop });
         }
         input += 1;

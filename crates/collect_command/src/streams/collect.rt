@@ -1,84 +1,86 @@
 //! The command `collect` for streams.
-ghost use Rattle.std.specs.Prelude.{◌≡◌, ◌⊎◌, false, ℕ, List, [], Option, All, IfOk, IfErr, OnOk};
-ghost use Rattle.text_values.specs.Putting.{has_failed, HasPut};
+ghost use Rattle.std.specs.Prelude.{◌≡◌, ◌⊎◌, false, ℕ, List, [], All, IfErr, OnOk};
+ghost use Rattle.text_values.specs.Putting.{Start, contents_of, has_failed, HasWriter, HasPut};
 ghost use Rattle.parcel_streams.specs.source.Readers.{source_of};
 ghost use Rattle.collect_command.specs.streams.Reading.{IsFresh};
-ghost use Rattle.collect_command.specs.streams.Gathering.{HasGathered};
 ghost use Rattle.collect_command.specs.streams.Runs.{IsMemoryLine, TellsStop, IsListed, IsStreamRun, IsPrintRun};
+ghost use Rattle.collect_command.specs.streams.Runs.{PrintsAll, PrintsSome};
 
-use crate::streams::ending::{Collected, Ending};
+use crate::ending::{Ending, Outcome};
+use crate::memory::tell_memory;
 use crate::streams::gather::Gatherer;
 use crate::streams::print::PiecePrinter;
 use crate::streams::read::{Stop, Stopped, read_inputs};
 use capture_text::Form;
-use command_io::{MEMORY_LINE, Sink, Source, write_text};
+use command_io::{Sink, Source};
 use fleet_collector::Fleet;
 use fleet_text::{Listed, put_fault};
 use parcel_streams::source::PieceReader;
 use std::alloc::Global;
-use text_values::{TextBuffer, finish, finish_memory};
+use text_values::{Out, TextBuffer, finish, finish_memory};
 use trace_model::NoMemory;
 
-/// Reports that memory was refused before there was a buffer.
-fn tell_memory<W: Sink>(writer: &mut W) -> Ending
-    requires { W.failed writer.old ≡ false }
-    ensures { IsMemoryLine (W.contents writer.old) (W.contents writer.new) (W.failed writer.new) [] result }
-{
-    write_text(writer, &MEMORY_LINE, Ending::NoMemory, Ending::NotWritten)
-}
-
 /// Reports why an input isn't read to its end, after what was put.
-fn tell_stop<W: Sink>(buffer: TextBuffer, writer: &mut W, stopped: Stopped) -> Ending
-    requires { has_failed buffer ≡ W.failed writer.old }
-    ensures { (start : Option (List ℕ)) (text : List ℕ)
-        → HasPut start (W.contents writer.old) (W.failed writer.old) text buffer
-        → TellsStop stopped.input stopped.stop start (W.contents writer.new) (W.failed writer.new) text result }
+fn tell_stop<W: Sink>(out: &mut Out<'_, W>, stopped: Stopped) -> Ending
+    ensures writer { (start : Start) (text : List ℕ) → HasPut start text out.old → HasWriter start out.new }
+    ensures told { (start : Start) (text : List ℕ) → HasPut start text out.old
+        → TellsStop stopped.input stopped.stop start.contents (contents_of out.new)
+        (has_failed out.new) text result }
 {
     match stopped.stop {
-        Stop::Read => finish(
-            buffer,
-            writer,
-            Ending::NotRead(stopped.input),
-            Ending::NotWritten,
-        ),
+        Stop::Read => finish(out, Ending::NotRead(stopped.input), Ending::NotWritten),
         Stop::Piece { index, at, trouble } => {
             if trouble.is_no_memory() {
-                return finish_memory(buffer, writer, Ending::NoMemory, Ending::NotWritten);
+                return finish_memory(out, Ending::NoMemory, Ending::NotWritten);
             }
-            let mut buffer = buffer;
-            put_fault(&mut buffer, writer, at, index, trouble);
-            finish(
-                buffer,
-                writer,
-                Ending::Malformed(stopped.input),
-                Ending::NotWritten,
-            )
+            put_fault(out, at, index, trouble);
+            finish(out, Ending::Malformed(stopped.input), Ending::NotWritten)
         }
     }
 }
 
 /// Lists what a fleet has. Nothing was put before.
-fn list_fleet<W: Sink>(
+fn list_fleet<W: Sink>(alloc: Global, form: Form, fleet: &Fleet, out: &mut Out<'_, W>) -> Ending
+    ensures writer { (start : Start) (text : List ℕ) → HasPut start text out.old → HasWriter start out.new }
+    ensures listed { (start : Start) → HasPut start [] out.old
+        → IsListed form fleet.now start.contents (contents_of out.new) (has_failed out.new) result
+        ⊎ IsMemoryLine start.contents (contents_of out.new) (has_failed out.new) [] result }
+{
+    match Listed::new(alloc, fleet) {
+        Ok(listed) => {
+            listed.put(out, form);
+            finish(out, Ending::Done, Ending::NotWritten)
+        }
+        Err(NoMemory) => finish_memory(out, Ending::NoMemory, Ending::NotWritten),
+    }
+}
+
+/// Writes what a fleet has, through this buffer.
+fn write_fleet<W: Sink>(
     alloc: Global,
     form: Form,
     fleet: &Fleet,
     buffer: TextBuffer,
     writer: &mut W,
 ) -> Ending
-    requires tied { has_failed buffer ≡ W.failed writer.old }
-    ensures { (start : Option (List ℕ))
-        → HasPut start (W.contents writer.old) (W.failed writer.old) [] buffer
-        → IsListed form fleet.now start (W.contents writer.new) (W.failed writer.new) result
-        ⊎ IsMemoryLine start (W.contents writer.new) (W.failed writer.new) [] result }
+    requires { W.failed writer.old ≡ false }
+    ensures { IsListed form fleet.now (W.contents writer.old) (W.contents writer.new) (W.failed writer.new) result
+        ⊎ IsMemoryLine (W.contents writer.old) (W.contents writer.new) (W.failed writer.new) [] result }
 {
-    match Listed::new(alloc, fleet) {
-        Ok(listed) => {
-            let mut buffer = buffer;
-            listed.put(&mut buffer, writer, form);
-            finish(buffer, writer, Ending::Done, Ending::NotWritten)
-        }
-        Err(NoMemory) => finish_memory(buffer, writer, Ending::NoMemory, Ending::NotWritten),
-    }
+    let mut buffer = buffer;
+    let mut out = Out::new(&mut buffer, writer);
+    list_fleet(alloc, form, fleet, &mut out)
+}
+
+/// Writes why an input isn't read to its end, through this buffer.
+fn write_stop<W: Sink>(buffer: TextBuffer, writer: &mut W, stopped: Stopped) -> Ending
+    requires { W.failed writer.old ≡ false }
+    ensures { TellsStop stopped.input stopped.stop (W.contents writer.old) (W.contents writer.new)
+        (W.failed writer.new) [] result }
+{
+    let mut buffer = buffer;
+    let mut out = Out::new(&mut buffer, writer);
+    tell_stop(&mut out, stopped)
 }
 
 /// Lists a fleet, if all inputs were read to their ends, or reports why one wasn't.
@@ -90,34 +92,24 @@ fn end_run<W: Sink>(
     buffer: TextBuffer,
     writer: &mut W,
 ) -> Ending
-    requires tied { has_failed buffer ≡ W.failed writer.old }
-    ensures listed { OnOk read ((start : Option (List ℕ))
-        → HasPut start (W.contents writer.old) (W.failed writer.old) [] buffer
-        → IsListed form fleet.now start (W.contents writer.new) (W.failed writer.new) result
-        ⊎ IsMemoryLine start (W.contents writer.new) (W.failed writer.new) [] result) }
-    ensures told { IfErr read (λ stopped. (start : Option (List ℕ)) (text : List ℕ)
-        → HasPut start (W.contents writer.old) (W.failed writer.old) text buffer
-        → TellsStop stopped.input stopped.stop start (W.contents writer.new) (W.failed writer.new) text result) }
+    requires { W.failed writer.old ≡ false }
+    ensures listed { OnOk read (IsListed form fleet.now (W.contents writer.old) (W.contents writer.new)
+        (W.failed writer.new) result
+        ⊎ IsMemoryLine (W.contents writer.old) (W.contents writer.new) (W.failed writer.new) [] result) }
+    ensures told { IfErr read (λ stopped. TellsStop stopped.input stopped.stop (W.contents writer.old)
+        (W.contents writer.new) (W.failed writer.new) [] result) }
 {
     match read {
-        Ok(()) => list_fleet(alloc, form, fleet, buffer, writer),
-        Err(stopped) => tell_stop(buffer, writer, stopped),
+        Ok(()) => write_fleet(alloc, form, fleet, buffer, writer),
+        Err(stopped) => write_stop(buffer, writer, stopped),
     }
 }
 
-/// A gatherer of nothing, and a buffer in which nothing is.
-fn new_gathering(alloc: Global) -> Result<(Gatherer, TextBuffer), NoMemory>
-    ensures kept { IfOk result (λ made. has_failed made.0.kept ≡ false) }
-    ensures none { IfOk result (λ made. made.0.fleet ≡ []) }
-    ensures gathered { IfOk result (λ made. (contents : Option (List ℕ)) →
-        HasGathered contents contents false made.0.kept made.0.fleet []) }
-    ensures sound { IfOk result (λ made. has_failed made.1 ≡ false) }
-    ensures empty { IfOk result (λ made. (contents : Option (List ℕ)) →
-        HasPut contents contents false [] made.1) }
-{
-    let gatherer = Gatherer::new(alloc)?;
+/// Two buffers.
+fn new_buffers(alloc: Global) -> Result<(TextBuffer, TextBuffer), NoMemory> {
+    let kept = TextBuffer::new(alloc)?;
     let buffer = TextBuffer::new(alloc)?;
-    Ok((gatherer, buffer))
+    Ok((kept, buffer))
 }
 
 /// Lists what the pieces of all inputs say together: their records by time, and which numbers are missing, unknown,
@@ -129,7 +121,7 @@ pub fn collect_streams<R: Source, K: Sink, W: Sink>(
     inputs: &mut [PieceReader<R>],
     keep: &mut K,
     writer: &mut W,
-) -> Collected
+) -> Outcome
     requires sound_readers { All (λ reader. R.failed (source_of reader) ≡ false) inputs.old }
     requires fresh { All (λ reader. IsFresh reader) inputs.old }
     requires sound_keep { K.failed keep.old ≡ false }
@@ -138,19 +130,43 @@ pub fn collect_streams<R: Source, K: Sink, W: Sink>(
         (K.contents keep.old) (K.contents keep.new) (K.failed keep.new)
         (W.contents writer.old) (W.contents writer.new) (W.failed writer.new) result }
 {
-    let Ok((gatherer, buffer)) = new_gathering(alloc) else {
+    let Ok((kept, buffer)) = new_buffers(alloc) else {
         let ending = tell_memory(writer);
-        return Collected {
+        return Outcome {
             ending,
             is_kept: true,
         };
     };
-    let mut gatherer = gatherer;
-    let read = read_inputs(alloc, inputs, &mut gatherer, keep);
-    let Gatherer { fleet, kept } = gatherer;
-    let is_kept = kept.finish(keep).is_ok();
-    let ending = end_run(alloc, form, read, &fleet, buffer, writer);
-    Collected { ending, is_kept }
+    let mut kept = kept;
+    let mut gatherer = Gatherer::new(alloc);
+    let mut keeping = Out::new(&mut kept, keep);
+    let read = read_inputs(alloc, inputs, &mut gatherer, &mut keeping);
+    let is_kept = keeping.finish().is_ok();
+    let ending = end_run(alloc, form, read, &gatherer.fleet, buffer, writer);
+    Outcome { ending, is_kept }
+}
+
+/// Puts a line for each piece of all inputs, as it is read, and writes them. Nothing was put before.
+fn put_pieces<R: Source, W: Sink>(
+    alloc: Global,
+    form: Form,
+    inputs: &mut [PieceReader<R>],
+    out: &mut Out<'_, W>,
+) -> Ending
+    requires sound_readers { All (λ reader. R.failed (source_of reader) ≡ false) inputs.old }
+    requires fresh { All (λ reader. IsFresh reader) inputs.old }
+    ensures writer { (start : Start) → HasPut start [] out.old → HasWriter start out.new }
+    ensures printed { (start : Start) → HasPut start [] out.old
+        → PrintsAll R.remaining R.failed form inputs.old inputs.new start.contents (contents_of out.new)
+        (has_failed out.new) result
+        ⊎ PrintsSome R.remaining R.failed form inputs.old inputs.new start.contents (contents_of out.new)
+        (has_failed out.new) result }
+{
+    let mut printer = PiecePrinter { form };
+    match read_inputs(alloc, inputs, &mut printer, out) {
+        Ok(()) => finish(out, Ending::Done, Ending::NotWritten),
+        Err(stopped) => tell_stop(out, stopped),
+    }
 }
 
 /// Prints a line for each piece of all inputs, as it is read.
@@ -169,9 +185,7 @@ pub fn print_pieces<R: Source, W: Sink>(
     let Ok(buffer) = TextBuffer::new(alloc) else {
         return tell_memory(writer);
     };
-    let mut printer = PiecePrinter { buffer, form };
-    match read_inputs(alloc, inputs, &mut printer, writer) {
-        Ok(()) => finish(printer.buffer, writer, Ending::Done, Ending::NotWritten),
-        Err(stopped) => tell_stop(printer.buffer, writer, stopped),
-    }
+    let mut buffer = buffer;
+    let mut out = Out::new(&mut buffer, writer);
+    put_pieces(alloc, form, inputs, &mut out)
 }

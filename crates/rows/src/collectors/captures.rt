@@ -5,6 +5,7 @@ use capture_text::{Form, Printer};
 use command_io::Std;
 use page_numbers::Parcel;
 use std::alloc::Global;
+use text_values::{Out, TextBuffer};
 use trace_model::{CpuId, MAX_CPUS, NoMemory};
 
 impl From<ReadFault> for Refusal {
@@ -34,11 +35,16 @@ fn put_lost(
     capture: &Capture,
     part: Part,
 ) -> Result<(), NoMemory> {
+    let mut buffer = TextBuffer::new(alloc)?;
     let mut writer = Std::new(out);
-    let mut printer = Printer::new(alloc, Form::Text, None)?;
-    printer.put_unknown(&mut writer, capture);
-    printer.put_damaged(&mut writer, capture, &[part]);
-    match printer.finish(&mut writer) {
+    let mut out = Out::new(&mut buffer, &mut writer);
+    let printer = Printer {
+        form: Form::Text,
+        names: None,
+    };
+    printer.put_unknown(&mut out, capture);
+    printer.put_damaged(&mut out, capture, &[part]);
+    match out.finish() {
         Ok(()) => Ok(()),
         Err(_) => Err(NoMemory),
     }

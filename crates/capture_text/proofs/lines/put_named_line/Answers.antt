@@ -7,13 +7,13 @@ use Rattle.text_values.proofs.Chains.{put_as}
 use Rattle.capture_text.proofs.Pieces.{named_pieces}
 use Rattle.capture_text.proofs.lines.put_named_line.Goals as goal
 
-pub returns-clause-put : goal.returns-clause-put
-returns-clause-put g c = λ start text has.
+pub returns : goal.returns
+returns g c = λ start text has.
     let line = c.args.line.now in
     let front =
-    c.put.ensures.put start _ (c.put_named.ensures.put start _ (c.put_numbers.ensures.put start text has)) in
-    put_as start _ _ _ _ _
+    c.put.ensures start _ (c.put_named.ensures start _ (c.put_numbers.ensures start text has)) in
+    put_as start _ _ _
     (named_pieces text (decimal line.cpu.0) (decimal line.number.0) (decimal line.moment.0)
     (named_part (events_of c.args.names.now) line.bytes.now (common_fields_in line.bytes.now))
     (hex_text line.bytes.now))
-    (c.put-2.ensures.put start _ (c.put_payload.ensures.put start _ front))
+    (c.put-2.ensures start _ (c.put_payload.ensures start _ front))

@@ -4,9 +4,7 @@ use Rattle.capture_text.proofs.Damages.{lines_more}
 use Rattle.capture_text.proofs.losses.put_damages.Goals as goal
 
 pub loop-damaged-preserved : goal.loop-damaged-preserved
-loop-damaged-preserved g c = record {
-  tied = c.put_damage.ensures.tied;
-  put = put_same _ _ (lines_more (reported_line c.args.form c.args.parts.now c.args.cpu.0) c.args.pages.now
-      c.loop-damaged.damaged-index _ c.loop-damaged-test.true)
-      (put_then _ _ c.loop-damaged.invariant.put c.put_damage.ensures.put);
-}
+loop-damaged-preserved g c =
+    put_same _ _ (lines_more (reported_line c.args.form c.args.parts.now c.args.cpu.0) c.args.pages.now
+    c.loop-damaged.damaged-index _ c.loop-damaged-test.true)
+    (put_then _ _ c.loop-damaged.invariant c.put_damage.ensures)

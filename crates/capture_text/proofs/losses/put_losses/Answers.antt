@@ -3,9 +3,7 @@ use Rattle.capture_text.proofs.UnknownLosses.{losses_more}
 use Rattle.capture_text.proofs.losses.put_losses.Goals as goal
 
 pub loop-number-preserved : goal.loop-number-preserved
-loop-number-preserved g c = record {
-  tied = c.put_loss.ensures.tied;
-  put = put_same _ _
-      (losses_more c.args.form c.args.cpu.0 c.args.numbers.now c.loop-number.number-index _ c.loop-number-test.true)
-      (put_then _ _ c.loop-number.invariant.put c.put_loss.ensures.put);
-}
+loop-number-preserved g c =
+    put_same _ _
+    (losses_more c.args.form c.args.cpu.0 c.args.numbers.now c.loop-number.number-index _ c.loop-number-test.true)
+    (put_then _ _ c.loop-number.invariant c.put_loss.ensures)

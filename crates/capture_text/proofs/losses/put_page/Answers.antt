@@ -4,13 +4,13 @@ use Rattle.text_values.proofs.Chains.{put_as}
 use Rattle.capture_text.proofs.Pieces.{page_text}
 use Rattle.capture_text.proofs.losses.put_page.Goals as goal
 
-pub returns-clause-put : goal.returns-clause-put
-returns-clause-put g c = λ start text has.
+pub returns : goal.returns
+returns g c = λ start text has.
     let damaged = c.args.damaged.now in
-    let front = c.put_between-3.ensures.put start _
-    (c.put_between-2.ensures.put start _ (c.put_between.ensures.put start text has)) in
-    put_as start _ _ _ _ _
+    let front = c.put_between-3.ensures start _
+    (c.put_between-2.ensures start _ (c.put_between.ensures start text has)) in
+    put_as start _ _ _
     (page_text text (decimal c.args.cpu) (decimal damaged.number.0) (decimal damaged.page) (decimal c.args.offset)
     (reader_fault_text damaged.fault))
-    (c.put-2.ensures.put start _
-    (c.put_fault.ensures.put start _ (c.put.ensures.put start _ (c.put_offset.ensures.put start _ front))))
+    (c.put-2.ensures start _
+    (c.put_fault.ensures start _ (c.put.ensures start _ (c.put_offset.ensures start _ front))))

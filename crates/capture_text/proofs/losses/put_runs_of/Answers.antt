@@ -5,8 +5,8 @@ use Rattle.text_values.specs.Putting.{Puts}
 use Rattle.capture_text.specs.Printing.{run_line}
 use Rattle.capture_text.proofs.losses.put_runs_of.Goals as goal
 
-pub returns-clause-put : goal.returns-clause-put
-returns-clause-put g c =
+pub returns : goal.returns
+returns g c =
     let runs = c.missing-first-items.result in
     let given = c.into_iter-first-iterator.ensures.into_iter_gives in
     let all = YieldsList-end (YieldsList-from_first run_numbers (λ left. left) runs given) c.loop-first.yielded _
@@ -14,7 +14,6 @@ returns-clause-put g c =
       runs,
       c.missing-first-items.ensures,
       subst (λ (rs : List (ℕ × ℕ)). Puts (flat_map (run_line c.args.form c.args.cpu.0) rs)
-          c.args.buffer.now (g.W.Sink.contents c.args.writer.now) (g.W.Sink.failed c.args.writer.now)
-          c.loop-first.buffer (g.W.Sink.contents c.loop-first.writer) (g.W.Sink.failed c.loop-first.writer))
-          all.0 c.loop-first.invariant.put,
+          c.args.out.now c.loop-first.out)
+          all.0 c.loop-first.invariant,
     )

@@ -1,14 +1,11 @@
-use Rattle.std.proofs.Common.{◌≡◌, flat_map}
+use Rattle.std.proofs.Common.{flat_map}
 use Rattle.std.proofs.Common.{map}
 use Rattle.collector.specs.Runs.{run_numbers}
 use Rattle.capture_text.specs.Printing.{run_line}
-use Rattle.text_values.specs.Putting.{has_failed, Puts}
+use Rattle.text_values.specs.Putting.{Puts}
 use Rattle.capture_text.proofs.losses.put_runs_of.Given as goal
 
 abbrev pub invariant-loop-first : goal.invariant-loop-first
-invariant-loop-first g l = record {
-  tied : has_failed l.buffer ≡ g.W.Sink.failed l.writer;
-  put : Puts (flat_map (run_line l.form l.cpu.0) (map run_numbers l.yielded))
-      l.fn.buffer (g.W.Sink.contents l.fn.writer) (g.W.Sink.failed l.fn.writer)
-      l.buffer (g.W.Sink.contents l.writer) (g.W.Sink.failed l.writer);
-}
+invariant-loop-first g l =
+    Puts (flat_map (run_line l.form l.cpu.0) (map run_numbers l.yielded))
+    l.fn.out l.out

@@ -8,11 +8,11 @@ use Rattle.text_values.proofs.Chains.{put_as}
 use Rattle.capture_text.proofs.Pieces.{json_known}
 use Rattle.capture_text.proofs.names.put_json_known.Goals as goal
 
-pub returns-clause-put : goal.returns-clause-put
-returns-clause-put g c = λ start text has.
-    let front = c.put-2.ensures.put start _ (c.put_signed.ensures.put start _ (c.put.ensures.put start text has)) in
-    put_as start _ _ _ _ _
+pub returns : goal.returns
+returns g c = λ start text has.
+    let front = c.put-2.ensures start _ (c.put_signed.ensures start _ (c.put.ensures start text has)) in
+    put_as start _ _ _
     (json_known text _ _ _ _ _ _ (ap signed_decimal (to_z-of_z c.ranges.pid))
     (ap (λ (e : Option Event). json_event c.args.id e) c.event-event.ensures)
     (ap (λ (e : Option Event). json_print e c.args.bytes.now) c.event-event.ensures))
-    (c.put_json_print.ensures.put start _ (c.put_json_event.ensures.put start _ front))
+    (c.put_json_print.ensures start _ (c.put_json_event.ensures start _ front))

@@ -8,11 +8,11 @@ use Rattle.text_values.proofs.Chains.{put_as}
 use Rattle.capture_text.proofs.Pieces.{known}
 use Rattle.capture_text.proofs.names.put_known.Goals as goal
 
-pub returns-clause-put : goal.returns-clause-put
-returns-clause-put g c = λ start text has.
-    put_as start _ _ _ _ _
+pub returns : goal.returns
+returns g c = λ start text has.
+    put_as start _ _ _
     (known text _ _ _ _ _ _ (ap signed_decimal (to_z-of_z c.ranges.pid))
     (ap (λ (e : Option Event). event_or_number c.args.id e) c.event-event.ensures)
     (ap (λ (e : Option Event). print_part e c.args.bytes.now) c.event-event.ensures))
-    (c.put_print.ensures.put start _
-    (c.put_event_or_number.ensures.put start _ (c.put.ensures.put start _ (c.put_signed.ensures.put start text has))))
+    (c.put_print.ensures start _
+    (c.put_event_or_number.ensures start _ (c.put.ensures start _ (c.put_signed.ensures start text has))))

@@ -2,7 +2,6 @@ use Rattle.std.proofs.Common.{List, sym, subst, ◌∙◌}
 use Rattle.capture.specs.declared.files.captured.CpuCapture.{CpuCapture}
 use Rattle.capture.specs.files.Files.{all_formats}
 use Rattle.capture.specs.files.Losses.{overrun_in}
-use Rattle.collect_command.specs.Asking.{asked_by}
 use Rattle.collect_command.specs.Gathered.{AreReadFrom}
 use Rattle.collect_command.specs.Runs.{formats_for}
 use Rattle.collect_command.proofs.PagesOfAll.{pages_captured}
@@ -29,6 +28,6 @@ returns-clause-listed g c files captured =
       captures = all.captures;
       pages_are = all.pages_are;
       count = all.count ∙ captured.cpus_are.count;
-      listed = c.in_ok-ending.ensures.listed (formats_for (asked_by c.args.collecting.now) files) parts all.captures
+      listed = c.in_ok-ending.ensures.listed (formats_for c.args.collecting.now files) parts all.captures
           names read;
     }

@@ -9,53 +9,44 @@ use Rattle.capture_text.specs.Printing.{damaged_lines}
 use Rattle.collect_command.specs.Gathered.{AreReadFrom}
 use Rattle.collect_command.specs.Listings.{all_damaged}
 use Rattle.collect_command.proofs.Captures.{last_read, none_read}
-use Rattle.collect_command.proofs.Printing.{prints_both, prints_none, damaged_more}
+use Rattle.text_values.proofs.Chains.{put_none, put_more, put_same}
+use Rattle.collect_command.proofs.Printing.{damaged_more}
 use Rattle.collect_command.proofs.listing.print_damaged.Goals as goal
 
 pub loop-found-init : goal.loop-found-init
-loop-found-init g c = record {
-  tied = c.requires;
-  put =
-      λ parts captures read.
-      prints_none _ _ _ _ (λ form formats. ap (all_damaged form parts 0) (none_read parts 0 captures read));
-}
+loop-found-init g c = λ parts captures read.
+    put_same _ _ (sym (ap (all_damaged c.args.printer.now.form parts 0) (none_read parts 0 captures read)))
+    (put_none c.args.out.now)
 
 pub loop-found-preserved : goal.loop-found-preserved
-loop-found-preserved g c =
+loop-found-preserved g c = λ parts captures read.
+    let form = c.args.printer.now.form in
     let k = c.loop-found.found-index in
     let cs = c.args.cpus.now in
     let found = c.found-item.result in
     let more : take k cs ++ found ∷ [] ≡ take (k + 1) cs =
     ap (λ (x : CpuCapture). take k cs ++ x ∷ []) c.found-item.is ∙ sym (take_more cs k found c.loop-found-test.true) in
-    record {
-      tied = c.put_damaged.ensures.tied;
-      put = λ parts captures read.
-          let last =
-          last_read parts 0 (take k cs) found captures
-          (subst (λ (xs : List CpuCapture). AreReadFrom parts 0 xs captures) (sym more) read) in
-          let cpu = found.capture.cpu.0 in
-          let own_parts : map measured (parts_of_cpu (0 + length last.others) parts) ≡ c.deref.result.now =
-          sym last.last_read.parts_are ∙ sym c.deref.ensures.value in
-          prints_both (λ form formats. all_damaged form parts 0 last.others)
-          (λ form formats. damaged_lines form c.deref.result.now cpu (damages_from 0 0 last.own)) _ _ _ _ _ _ _ _ _
-          _
-          (c.loop-found.invariant.put parts last.others last.front_read)
-          (c.put_damaged.ensures.put last.own last.last_read.capture_is)
-          (λ form formats.
-          ap (all_damaged form parts 0) last.captures_are ∙ damaged_more form parts 0 last.others last.own
-          ∙ ap
-          (λ (ps : List Part).
-          all_damaged form parts 0 last.others
-          ++ damaged_lines form ps (0 + length last.others) (damages_from 0 0 last.own)) own_parts
-          ∙ ap
-          (λ (n : ℕ).
-          all_damaged form parts 0 last.others
-          ++ damaged_lines form c.deref.result.now n (damages_from 0 0 last.own))
-          (sym last.last_read.cpu_is));
-    }
+    let last =
+    last_read parts 0 (take k cs) found captures
+    (subst (λ (xs : List CpuCapture). AreReadFrom parts 0 xs captures) (sym more) read) in
+    let own_parts : map measured (parts_of_cpu (0 + length last.others) parts) ≡ c.deref.result.now =
+    sym last.last_read.parts_are ∙ sym c.deref.ensures.value in
+    put_more _ _ _ _ _ _
+    (ap (all_damaged form parts 0) last.captures_are ∙ damaged_more form parts 0 last.others last.own
+    ∙ ap
+    (λ (ps : List Part).
+    all_damaged form parts 0 last.others
+    ++ damaged_lines form ps (0 + length last.others) (damages_from 0 0 last.own)) own_parts
+    ∙ ap
+    (λ (n : ℕ).
+    all_damaged form parts 0 last.others
+    ++ damaged_lines form c.deref.result.now n (damages_from 0 0 last.own))
+    (sym last.last_read.cpu_is))
+    (c.loop-found.invariant parts last.others last.front_read)
+    (c.put_damaged.ensures last.own last.last_read.capture_is)
 
-pub returns-clause-put : goal.returns-clause-put
-returns-clause-put g c parts captures read =
-    c.loop-found.invariant.put parts captures
+pub returns : goal.returns
+returns g c parts captures read =
+    c.loop-found.invariant parts captures
     (subst (λ (xs : List CpuCapture). AreReadFrom parts 0 xs captures)
     (sym (take_all c.loop-found.found-index c.args.cpus.now c.loop-found-test.false)) read)

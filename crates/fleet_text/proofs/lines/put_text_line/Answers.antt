@@ -1,12 +1,12 @@
 use Rattle.std.proofs.Common.{append_assoc}
 use Rattle.fleet_text.proofs.lines.put_text_line.Goals as goal
 
-pub returns-clause-put : goal.returns-clause-put
-returns-clause-put g c = λ start text has.
-    let put0 = c.put_cpu.ensures.put start text has in
-    let put1 = c.put_numbered.ensures.put start _ put0 in
-    let put2 = c.put_numbered-2.ensures.put start _ put1 in
-    let put3 = c.put.ensures.put start _ put2 in
-    let put4 = c.put_payload.ensures.put start _ put3 in
-    let put = c.put-2.ensures.put start _ put4 in
+pub returns : goal.returns
+returns g c = λ start text has.
+    let put0 = c.put_cpu.ensures start text has in
+    let put1 = c.put_numbered.ensures start _ put0 in
+    let put2 = c.put_numbered-2.ensures start _ put1 in
+    let put3 = c.put.ensures start _ put2 in
+    let put4 = c.put_payload.ensures start _ put3 in
+    let put = c.put-2.ensures start _ put4 in
     simp append_assoc (simp append_assoc at put)

@@ -2,7 +2,7 @@ use Rattle.std.proofs.Common.{suc, ◌+◌, ◌-◌, ◌^◌, min, List, [], ◌
 use Rattle.std.proofs.Common.{subst}
 use Rattle.parcel_streams.specs.declared.piece.Piece.{Piece}
 use Rattle.fleet_collector.specs.Pieces.{IsRefusal}
-use Rattle.collect_command.specs.recovery.Gathering.{Gathering, gathering_of, AddsOne, AddsAll, AreCounted}
+use Rattle.collect_command.specs.recovery.Gathering.{gathering_of, AddsOne, AddsAll, AreCounted}
 use Rattle.collect_command.proofs.Adds.{adds_more, counted_more, cut_at, next_taken}
 use Rattle.collect_command.proofs.recovery.gather.add_pieces.Goals as goal
 
@@ -26,17 +26,17 @@ returns-in-Err-clause-stopped g c =
     let k = c.loop-piece.piece-index in
     let item = c.piece-item.result in
     let inv = c.loop-piece.invariant in
-    let start = gathering_of g.K.Sink.contents g.K.Sink.failed c.args.gatherer.now c.args.keep.now in
+    let start = gathering_of c.args.fleet.now c.args.out.now in
     record {
       front = take k ps;
       piece = item;
       behind = drop (suc k) ps;
       pieces_are = cut_at ps k item c.loop-piece-test.true c.piece-item.is;
-      adds = subst (λ (at : Gathering). AddsAll (take k ps) start at) (sym c.in-Err.ensures.unchanged) inv.added;
+      adds = subst (AddsAll (take k ps) start) (sym c.in-Err.ensures.unchanged) inv.added;
       why = (
         inv.counted,
         c.origin_of.ensures,
-        subst (λ (p : Piece). IsRefusal c.add_piece.new.gatherer.fleet p c.in-Err.refusal) c.in-Ok.ensures.piece
+        subst (λ (p : Piece). IsRefusal c.add_piece.new.fleet p c.in-Err.refusal) c.in-Ok.ensures.piece
             c.in-Err.ensures.refused,
       );
     }
@@ -47,9 +47,9 @@ loop-piece-preserved g c =
     let k = c.loop-piece.piece-index in
     let item = c.piece-item.result in
     let inv = c.loop-piece.invariant in
-    let start = gathering_of g.K.Sink.contents g.K.Sink.failed c.args.gatherer.now c.args.keep.now in
-    let mid = gathering_of g.K.Sink.contents g.K.Sink.failed c.loop-piece.gatherer c.loop-piece.keep in
-    let now = gathering_of g.K.Sink.contents g.K.Sink.failed c.add_piece.new.gatherer c.add_piece.new.keep in
+    let start = gathering_of c.args.fleet.now c.args.out.now in
+    let mid = gathering_of c.loop-piece.fleet c.loop-piece.out in
+    let now = gathering_of c.add_piece.new.fleet c.add_piece.new.out in
     let next = next_taken ps k item c.loop-piece-test.true c.piece-item.is in
     let one : AddsOne item mid now =
     subst (λ (p : Piece). AddsOne p mid now) c.in-Ok.ensures.piece c.in_default-add_piece.ensures.added in
@@ -61,7 +61,6 @@ loop-piece-preserved g c =
       at_is = c.saturating_add-at.ensures ∙ ap (λ n. min (c.loop-piece.at + n) (2 ^ 64 - 1)) len ∙ more.at_is;
     } in
     record {
-      tied = c.in_default-add_piece.ensures.tied;
       added = subst (λ (xs : List Piece). AddsAll xs start now) next
           (adds_more (take k ps) start mid now item inv.added c.in-Ok.ensures.sound one);
       counted = subst (λ (xs : List Piece). AreCounted xs c.saturating_add-index.result c.saturating_add-at.result) next

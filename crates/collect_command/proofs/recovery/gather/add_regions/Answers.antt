@@ -12,9 +12,9 @@ returns-in-Err-clause-stopped g c =
     let item = c.region-item.result in
     let inv = c.loop-region.invariant in
     let s = c.in-Err.ensures.stopped in
-    let start = gathering_of g.K.Sink.contents g.K.Sink.failed c.args.gatherer.now c.args.keep.now in
-    let mid = gathering_of g.K.Sink.contents g.K.Sink.failed c.loop-region.gatherer c.loop-region.keep in
-    let now = gathering_of g.K.Sink.contents g.K.Sink.failed c.add_region.new.gatherer c.add_region.new.keep in
+    let start = gathering_of c.args.fleet.now c.args.out.now in
+    let mid = gathering_of c.loop-region.fleet c.loop-region.out in
+    let now = gathering_of c.add_region.new.fleet c.add_region.new.out in
     record {
       front = take k rs;
       this = item;
@@ -35,11 +35,10 @@ loop-region-preserved g c =
     let item = c.region-item.result in
     let inv = c.loop-region.invariant in
     let one = c.in_default.ensures.added in
-    let start = gathering_of g.K.Sink.contents g.K.Sink.failed c.args.gatherer.now c.args.keep.now in
-    let mid = gathering_of g.K.Sink.contents g.K.Sink.failed c.loop-region.gatherer c.loop-region.keep in
-    let now = gathering_of g.K.Sink.contents g.K.Sink.failed c.add_region.new.gatherer c.add_region.new.keep in
+    let start = gathering_of c.args.fleet.now c.args.out.now in
+    let mid = gathering_of c.loop-region.fleet c.loop-region.out in
+    let now = gathering_of c.add_region.new.fleet c.add_region.new.out in
     record {
-      tied = c.in_default.ensures.tied;
       input_is = ap (λ n. n + 1) inv.input_is;
       added = subst (λ (xs : List Region). AddsRegions xs start now)
           (next_taken rs k item c.loop-region-test.true c.region-item.is) record {

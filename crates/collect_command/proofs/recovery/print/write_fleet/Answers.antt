@@ -1,0 +1,16 @@
+use Rattle.std.proofs.Common.{rules, ◌⊎◌, ◌∙◌, []}
+use Rattle.text_values.specs.Putting.{start_of, contents_of, has_failed}
+use Rattle.collect_command.specs.Runs.{IsMemoryLine}
+use Rattle.collect_command.specs.recovery.Runs.{IsListed}
+use Rattle.collect_command.proofs.recovery.print.write_fleet.Goals as goal
+
+pub returns : goal.returns
+returns g c =
+    let start = start_of c.new-out.result in
+    let last = c.list_fleet.new.out in
+    let name = c.list_fleet.ensures.writer start [] c.new-out.ensures.empty ∙ c.new-out.ensures.same_writer in
+    let listed : IsListed c.args.form c.args.regions.now c.args.fleet.now start.contents (contents_of last)
+    (has_failed last) c.list_fleet.result
+    ⊎ IsMemoryLine start.contents (contents_of last) (has_failed last) c.list_fleet.result =
+    c.list_fleet.ensures.listed start c.new-out.ensures.empty in
+    search rules

@@ -1,0 +1,11 @@
+use Rattle.std.proofs.Common.{◌≡◌, ℕ, List, ◌++◌, length}
+use Rattle.text_values.specs.Putting.{Start, HasPut}
+use Rattle.text_values.proofs.output.Out.put_more.Given as goal
+
+abbrev pub invariant-loop-rest : goal.invariant-loop-rest
+invariant-loop-rest g l =
+    (start : Start) (text : List ℕ) → HasPut start text l.fn.self
+    → (so_far : List ℕ) × (so_far ++ l.rest ≡ text ++ l.bytes) × HasPut start so_far l.self
+
+abbrev pub decreases-loop-rest : goal.decreases-loop-rest
+decreases-loop-rest g l = length l.rest

@@ -1,0 +1,140 @@
+//! A writer with a buffer before it.
+ghost use Rattle.std.specs.Prelude.{◌≡◌};
+
+use crate::buffer::{BUFFER_BYTES, TextBuffer};
+use command_io::{OutputFault, Sink};
+use itoa::write_digits;
+
+/// How many bytes have digits that fill the buffer.
+const HEX_PIECE: usize = BUFFER_BYTES / 2;
+
+/// How many digits a number of 64 bits has at most.
+const MAX_DIGITS: usize = 20;
+
+/// A writer with a buffer before it, through which a text is put piece by piece. The buffer has failed exactly if the
+/// writer has, and after a write that failed nothing more is written.
+#[derive(Drop)]
+pub struct Out<'w, W: Sink> {
+    writer: &'w mut W,
+    buffer: &'w mut TextBuffer,
+    ghost tied: { buffer.now.failed ≡ W.failed writer.now },
+}
+
+impl<'w, W: Sink> Out<'w, W> {
+    ghost use Rattle.std.specs.Prelude.{◌≡◌, ◌≤◌, ◌*◌, ◌↔◌, ℕ, List, [], true, false, length, OnOk, OnErr, IsErr};
+    ghost use Rattle.std.specs.Io.KnownBytes.{Appends};
+    ghost use Rattle.std.specs.Fmt.{decimal};
+    ghost use Rattle.command_io.specs.CommandRun.{AppendsPrefix};
+    ghost use Rattle.text_values.specs.declared.buffer.TheConstants.{BUFFER_BYTES};
+    ghost use Rattle.text_values.specs.Digits.{pairs_of};
+    ghost use Rattle.text_values.specs.Putting.{Start, writer_of, contents_of, has_failed, start_of};
+    ghost use Rattle.text_values.specs.Putting.{HasWriter, HasPut, Puts};
+
+    /// Nothing is put yet, and what the buffer had is forgotten.
+    pub fn new(buffer: &'w mut TextBuffer, writer: &'w mut W) -> Out<'w, W>
+        requires { W.failed writer.old ≡ false }
+        ensures same_writer { result.writer.ghost_name ≡ writer.entry.ghost_name }
+        ensures writer { writer_of result ≡ writer.old }
+        ensures empty { HasPut (start_of result) [] result }
+    {
+        buffer.clear();
+        Out { writer, buffer }
+    }
+
+    /// Writes what waits, and empties the buffer.
+    fn write_out(&mut self)
+        ensures empty { self.new.buffer.now.filled ≡ 0 }
+        ensures put { (start : Start) (text : List ℕ) → HasPut start text self.old → HasPut start text self.new }
+    {
+        self.buffer.write_out(self.writer);
+    }
+
+    /// Puts bytes that an empty buffer has room for, after what waits is written.
+    fn put_piece(&mut self, bytes: &[u8])
+        requires { length bytes.now ≤ BUFFER_BYTES }
+        ensures { Puts bytes.now self.old self.new }
+    {
+        self.write_out();
+        self.buffer.add(bytes);
+    }
+
+    /// Puts bytes that there is no room for.
+    fn put_more(&mut self, bytes: &[u8])
+        ensures { Puts bytes.now self.old self.new }
+    {
+        let mut rest = bytes;
+        while !rest.is_empty() {
+            let (piece, more) = rest.split_at(rest.len().min(BUFFER_BYTES));
+            self.put_piece(piece);
+            rest = more;
+        }
+    }
+
+    /// Puts bytes.
+    pub fn put(&mut self, bytes: &[u8])
+        ensures { Puts bytes.now self.old self.new }
+    {
+        if bytes.len() <= self.buffer.room() {
+            self.buffer.add(bytes);
+        } else {
+            self.put_more(bytes);
+        }
+    }
+
+    /// Puts a number in decimal.
+    pub fn put_number(&mut self, number: u64)
+        ensures { Puts (decimal number) self.old self.new }
+    {
+        let mut digits = [0; MAX_DIGITS];
+        let start = write_digits(number, &mut digits, MAX_DIGITS);
+        self.put(&digits[start..]);
+    }
+
+    /// Puts the digits of bytes, for which an empty buffer has room, after what waits is written.
+    fn put_hex_piece(&mut self, bytes: &[u8])
+        requires { 2 * length bytes.now ≤ BUFFER_BYTES }
+        ensures { Puts (pairs_of bytes.now) self.old self.new }
+    {
+        self.write_out();
+        self.buffer.add_hex(bytes);
+    }
+
+    /// Puts the digits of bytes that there is no room for.
+    fn put_more_hex(&mut self, bytes: &[u8])
+        ensures { Puts (pairs_of bytes.now) self.old self.new }
+    {
+        let mut rest = bytes;
+        while !rest.is_empty() {
+            let (piece, more) = rest.split_at(rest.len().min(HEX_PIECE));
+            self.put_hex_piece(piece);
+            rest = more;
+        }
+    }
+
+    /// Puts two lower-case hexadecimal digits for each byte.
+    pub fn put_hex(&mut self, bytes: &[u8])
+        ensures { Puts (pairs_of bytes.now) self.old self.new }
+    {
+        if bytes.len() <= self.buffer.room() / 2 {
+            self.buffer.add_hex(bytes);
+        } else {
+            self.put_more_hex(bytes);
+        }
+    }
+
+    /// Writes what waits. After a write that failed a beginning of what was put is written, and not all.
+    pub fn finish(&mut self) -> Result<(), OutputFault>
+        ensures writer { (start : Start) (text : List ℕ) → HasPut start text self.old → HasWriter start self.new }
+        ensures all { (start : Start) (text : List ℕ) → HasPut start text self.old →
+            OnOk result (Appends start.contents (contents_of self.new) text) }
+        ensures prefix { (start : Start) (text : List ℕ) → HasPut start text self.old →
+            OnErr result (AppendsPrefix start.contents (contents_of self.new) text) }
+        ensures fault { (has_failed self.new ≡ true) ↔ IsErr result }
+    {
+        self.write_out();
+        if self.buffer.has_failed() {
+            return Err(OutputFault);
+        }
+        Ok(())
+    }
+}
