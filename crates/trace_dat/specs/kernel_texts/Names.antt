@@ -10,14 +10,15 @@ use Rattle.trace_dat.specs.declared.kernel_texts.names.OwnedEvent.{OwnedEvent}
 use Rattle.trace_dat.specs.declared.kernel_texts.names.EventNames.{EventNames}
 use Rattle.trace_dat.specs.kernel_texts.Lines.{value_in, number_in}
 
--- an event: its system and its own name
+-- an event: its system, its own name, and its format
 pub record Event : Type 0 where
   pub system : List ℕ
   pub name : List ℕ
+  pub format : List ℕ
 
 -- an event without its place in memory
 abbrev pub event_seen : EventName → Event
-event_seen event = record { system = event.system.now; name = event.name.now }
+event_seen event = record { system = event.system.now; name = event.name.now; format = event.format.now }
 
 -- the number of the event that a format describes, if it fits 16 bits
 unfoldable pub id_in : List ℕ → Option ℕ
@@ -28,7 +29,8 @@ id_in text =
 -- the event that a format describes, with its number: both have a line
 unfoldable pub described_in : EventFormat → Option (ℕ × Event)
 described_in format =
-    option_and_then (λ id. option_map (λ name. (id, record { system = format.system; name = name }))
+    option_and_then (λ id. option_map
+    (λ name. (id, record { system = format.system; name = name; format = format.text }))
     (value_in (codes "name: ") format.text)) (id_in format.text)
 
 -- a described event, if its number is this
@@ -46,9 +48,9 @@ abbrev pub event_of : ℕ → List EventFormat → Option Event
 event_of id [] = None
 event_of id (format ∷ formats) = first_of (event_of id formats) (event_under id (described_in format))
 
--- an event that owns its names
+-- an event that owns its texts
 abbrev pub event_held : OwnedEvent → Event
-event_held event = record { system = event.system.items; name = event.name.items }
+event_held event = record { system = event.system.items; name = event.name.items; format = event.format.items }
 
 -- the event that is known by this number
 abbrev pub events_of : EventNames → ℕ → Option Event

@@ -10,13 +10,15 @@ use std::alloc::{AllocError, Global};
 use std::collections::BTreeMap;
 use trace_model::NoMemory;
 
-/// An event: its system and its own name, as `sched` and `sched_switch`.
+/// An event: its system and its own name, as `sched` and `sched_switch`, and its format.
 #[derive(Clone, Copy, Debug)]
 pub struct EventName<'a> {
     /// The name of the system.
     pub system: &'a [u8],
     /// The name of the event.
     pub name: &'a [u8],
+    /// The text of its format.
+    pub format: &'a [u8],
 }
 
 /// The number of the event that a format describes.
@@ -41,27 +43,30 @@ fn event_in<'a>(format: Format<'a>) -> Option<(u16, EventName<'a>)>
         EventName {
             system: format.system,
             name,
+            format: format.text,
         },
     ))
 }
 
-/// An event whose names are its own.
+/// An event whose texts are its own.
 #[derive(Debug, Drop)]
 struct OwnedEvent {
     system: Vec<u8>,
     name: Vec<u8>,
+    format: Vec<u8>,
 }
 
 impl OwnedEvent {
     ghost use Rattle.trace_dat.specs.kernel_texts.Names.{event_seen, event_held};
 
-    /// A copy of an event's names.
+    /// A copy of an event.
     fn of(alloc: Global, event: EventName<'_>) -> Result<OwnedEvent, AllocError>
         ensures { IfOk result (λ owned. event_held owned ≡ event_seen event.entry) }
     {
         Ok(OwnedEvent {
             system: event.system.to_vec(alloc)?,
             name: event.name.to_vec(alloc)?,
+            format: event.format.to_vec(alloc)?,
         })
     }
 
@@ -71,6 +76,7 @@ impl OwnedEvent {
         EventName {
             system: self.system.as_slice(),
             name: self.name.as_slice(),
+            format: self.format.as_slice(),
         }
     }
 }
