@@ -169,18 +169,21 @@ void flight_stamp(void)
     store(FILE_STAMPS, stamps + 2);
 }
 
-// A handler may count meanwhile, and notes that: so it is done again until nothing has changed.
+// Notes how many events a ring refused for each reason. A handler that interrupts this may have noted more by then, and
+// that stays: so what is noted never falls, and has each event whose call returned.
 static void note_refused_by(const struct ring *ring, uint64_t *noted)
 {
-    struct tracering_refused refused, after;
-    do {
-        (void)tracering_refused(&ring->writer, &refused);
-        uint64_t counts[] = {refused.busy, refused.too_deep, refused.too_long, refused.late_moment, refused.crowded,
-            refused.worn};
-        for (size_t reason = 0; reason < SLOT_REASONS; reason++)
-            __atomic_store_n(&noted[reason], counts[reason], __ATOMIC_RELAXED);
-        (void)tracering_refused(&ring->writer, &after);
-    } while (memcmp(&refused, &after, sizeof after) != 0);
+    struct tracering_refused refused;
+    (void)tracering_refused(&ring->writer, &refused);
+    const uint64_t counts[] = {refused.busy, refused.too_deep, refused.too_long, refused.late_moment, refused.crowded,
+        refused.worn};
+    for (size_t reason = 0; reason < SLOT_REASONS; reason++) {
+        uint64_t found = __atomic_load_n(&noted[reason], __ATOMIC_RELAXED);
+        while (found < counts[reason]
+            && !__atomic_compare_exchange_n(&noted[reason], &found, counts[reason], false, __ATOMIC_RELAXED,
+                __ATOMIC_RELAXED))
+            ;
+    }
 }
 
 void flight_note_refused(void)

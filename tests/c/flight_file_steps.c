@@ -1,6 +1,7 @@
 // Goes through a program that records in a flight file, instruction by instruction, and reads the file whenever it has
 // changed: what is there is what a kill at that instruction leaves. `flight_file_steps FOLDER ROUNDS SEED`. At random
-// instructions the program gets a signal, whose handler records too, at the site that is next.
+// instructions the program gets a signal, whose handler records too, at the site that is next. While a handler's event
+// is refused, since each level is in a call, signals are more frequent: handlers then count what was refused amid it.
 #define _GNU_SOURCE
 #include "flight_file_account.h"
 
@@ -12,7 +13,7 @@
 #include <sys/wait.h>
 #include <unistd.h>
 
-enum { THREADS = 2, LEVELS = 2, NAMES = 11, LOOKED = 8192 };
+enum { THREADS = 2, LEVELS = 2, MOST_STANDING = 5, NAMES = 11, LOOKED = 8192 };
 
 static char path[200];
 static uint64_t random_state;
@@ -126,6 +127,14 @@ static int step(pid_t child, int signal)
     return WSTOPSIG(status);
 }
 
+// After how many instructions the next signal comes, by how many events stand.
+static uint64_t next_gap(void)
+{
+    uint64_t standing = truth->begun - truth->returned;
+    bool is_refused = standing > LEVELS && standing <= MOST_STANDING;
+    return next_random() % (is_refused ? 400 : next_random() % 4 ? 4000 : 100);
+}
+
 static void follow(pid_t child)
 {
     int status = 0, stop;
@@ -133,13 +142,13 @@ static void follow(pid_t child)
         (uint64_t)status, 0);
     mapped = tracering_region_open(path, &file_len);
     want(mapped != NULL, "no file", 0, 0);
-    uint64_t left = next_random() % 400;
+    uint64_t left = next_random() % 400; // instructions, to the next signal
     for (int signal = 0; (stop = step(child, signal)) != SIGSTOP;) {
         want(stop == SIGTRAP || stop == SIGUSR1, "another stop", (uint64_t)stop, steps);
         look();
         signal = stop == SIGUSR1 || !left ? SIGUSR1 : 0;
         signals += signal != 0;
-        left = left ? left - 1 : 1 + next_random() % (next_random() % 4 ? 4000 : 100);
+        left = left ? left - 1 : 1 + next_gap();
     }
     want(number64_at(mapped + 8 * FILE_ENDED) == 1, "no end", 0, 0);
     (void)kill(child, SIGKILL);
