@@ -7,5 +7,6 @@ mod names;
 mod record;
 
 pub use counters::{Counters, ring_counters};
+pub use lines::number_of;
 pub use names::{EventName, EventNames};
 pub use record::{CommonFields, common_fields};

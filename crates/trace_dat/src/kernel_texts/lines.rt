@@ -48,8 +48,9 @@ fn with_digit(front: u64, digit: u8) -> Option<u64>
     front.checked_mul(10)?.checked_add(u64::from(digit - b'0'))
 }
 
-/// The number that a text spells.
-pub(crate) fn number_of(text: &[u8]) -> Option<u64>
+/// The number that a text spells in decimal, of one digit at least and of 64 bits at most; None if it has any other
+/// byte.
+pub fn number_of(text: &[u8]) -> Option<u64>
     ensures { result ≡ number_in text.now }
 {
     if text.is_empty() {
