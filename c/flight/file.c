@@ -170,7 +170,7 @@ void flight_stamp(void)
 }
 
 // Notes how many events a ring refused for each reason. A handler that interrupts this may have noted more by then, and
-// that stays: so what is noted never falls, and has each event whose call returned.
+// that stays: so what is noted never falls, and has each refused event whose call returned.
 static void note_refused_by(const struct ring *ring, uint64_t *noted)
 {
     struct tracering_refused refused;

@@ -1,4 +1,4 @@
--- What a call promises that is to raise a bound.
+-- What is promised by a call that raises a bound.
 use Rattle.std.proofs.Common.{◌≡◌, ℕ, ◌≤◌, Ok, refl, arith}
 use Rattle.stream_collector.specs.Marking.{AreWithinEnds}
 use Rattle.stream_collector.specs.Forgetting.{RaisesBound}

@@ -18,8 +18,8 @@ pub record HasBound (old new : Stream) (cpu bound : ℕ) : Type 0 where
   pub others : (other : ℕ) → (other ≡ cpu → ⊥) → marks_at new.marks other ≡ marks_at old.marks other
   pub kept : IsSame new.parcels (without_ended (bounds_of new.marks) old.parcels)
 
--- The CPU's bound is raised to this one, if it is higher, and it isn't above the CPU's end. Nothing changes if it isn't
--- higher, nor on a fault.
+-- The CPU's bound is raised to this one, if this is higher; unless the call fails, this is at most the CPU's end.
+-- Nothing changes if it isn't higher, nor on a fault.
 pub record RaisesBound (old new : Stream) (cpu bound : ℕ) (result : Result Marked MarkFault) : Type 0 where
   pub known : (result ≡ Ok Known) ↔ (bound ≤ bound_of old cpu)
   pub unchanged : result ≡ Ok Known → new ≡ old

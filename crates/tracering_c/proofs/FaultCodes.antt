@@ -54,10 +54,10 @@ pub never_long : {X : Type 0} (frames : List Frame) (result : Result X WriteFaul
     → result ≡ Err fault → (result ≡ Err NoFrame) ↔ (frames ≡ []) → (result ≡ Err NotReserved) ↔ LacksSlot frames
     → ((slot : Slot) → IsTopSlot frames slot → IsOk result)
     → (code : ℤ) → code ≡ fault_code fault → to_z w32 (of_z w32 code) ≡ TOO_LONG → ⊥
-never_long frames result fault is none lacks has code code_is two =
+never_long frames result fault is none lacks has code code_is is_long =
     let long : fault_code fault ≡ TOO_LONG =
-    sym (code_fits fault) ∙ ap (λ (n : ℤ). to_z w32 (of_z w32 n)) (sym code_is) ∙ two in
+    sym (code_fits fault) ∙ ap (λ (n : ℤ). to_z w32 (of_z w32 n)) (sym code_is) ∙ is_long in
     ⊎_elim
-    (λ six. let e : 6 ≡ 2 = ap size_of (sym six ∙ long) in omega (arith, e))
-    (λ seven. let e : 7 ≡ 2 = ap size_of (sym seven ∙ long) in omega (arith, e))
+    (λ no_frame. let e : 6 ≡ 2 = ap size_of (sym no_frame ∙ long) in omega (arith, e))
+    (λ no_record. let e : 7 ≡ 2 = ap size_of (sym no_record ∙ long) in omega (arith, e))
     (code_of_unlent frames result fault is none lacks has)

@@ -78,8 +78,8 @@ abbrev pub closed_nothing : WriterValue → Answer → WriterValue → Bool
 closed_nothing old answer new =
     closes_first old.part.frames && is_gone answer && (new.part.opened == old.part.opened)
 
--- The number of the answer to what is finished: its own for a close that closed nothing, else that of the writer's
--- answer.
+-- The number of the answer to what is finished: NOTHING_CLOSED for a close that closed nothing, else that of the
+-- writer's answer.
 abbrev pub finish_code : WriterValue → Answer → WriterValue → ℤ
 finish_code old answer new = if closed_nothing old answer new then NOTHING_CLOSED else answer_code answer
 

@@ -79,7 +79,7 @@ pub const END: i32 = 31;
 ghost use Rattle.std.specs.Prelude.{◌≡◌};
 ghost use Rattle.tracering_c.specs.Codes.{fault_code, word_code, image_code, parcel_code, add_code, given_code};
 
-/// The number of a refusal: 1 to 7.
+/// The number of a refusal.
 pub fn code_of(fault: WriteFault) -> i32
     ensures { result ≡ fault_code fault }
 {
@@ -94,7 +94,7 @@ pub fn code_of(fault: WriteFault) -> i32
     }
 }
 
-/// The number of a bad word: 23 to 25.
+/// The number of a bad word.
 fn code_of_word(fault: WordFault) -> i32
     ensures { result ≡ word_code fault }
 {
@@ -105,7 +105,7 @@ fn code_of_word(fault: WordFault) -> i32
     }
 }
 
-/// The number of an image's fault: 20 to 25, or that there is no memory.
+/// The number of an image's fault, or that there is no memory.
 fn code_of_image(fault: ImageFault) -> i32
     ensures { result ≡ image_code fault }
 {
@@ -118,7 +118,7 @@ fn code_of_image(fault: ImageFault) -> i32
     }
 }
 
-/// The number of why bytes are no parcel: 20 to 28, or that there is no such CPU or no memory.
+/// The number of why bytes are no parcel, or that there is no such CPU or no memory.
 pub(crate) fn code_of_parcel(fault: ParcelFault) -> i32
     ensures { result ≡ parcel_code fault }
 {

@@ -17,6 +17,7 @@ mod fleet_joining;
 mod fleet_reading;
 pub mod handle;
 pub mod held;
+pub mod laws;
 mod making;
 mod packing;
 mod peeking;
