@@ -7,7 +7,8 @@ use Rattle.std.specs.List.{take_while}
 use Rattle.std.proofs.lemmas.Bool.{cond-true, cond-false}
 use Rattle.std.proofs.lemmas.List.Sums.{take_while-cons}
 use Rattle.event_fields.specs.Texts.{parts_of}
-use Rattle.event_fields.specs.Fields.{PlacedLine, placed, ends_fields, begins_field, field_lines_among, field_lines_at}
+use Rattle.event_fields.specs.Fields.{PlacedLine, with_offsets, ends_fields, begins_field, field_lines_among}
+use Rattle.event_fields.specs.Fields.{field_lines_at}
 use Rattle.event_fields.specs.Fields.{field_lines_of, fields_after, ReadsOn, IsReading}
 use Rattle.event_fields.specs.Lines.{EventField}
 use Rattle.event_fields.specs.declared.fields.FormatError.{FormatError}
@@ -18,9 +19,9 @@ pub ends : (at : ℕ) (text line : List ℕ) (lines : List (List ℕ)) → parts
     → ends_fields line ≡ true → field_lines_at at text ≡ []
 unfolding field_lines_at
 ends at text line lines cut is =
-    ap (λ ls. field_lines_among (placed at ls)) cut
+    ap (λ ls. field_lines_among (with_offsets at ls)) cut
     ∙ ap (filter (λ (l : PlacedLine). begins_field l.1))
-    (take_while-cons (λ (l : PlacedLine). not (ends_fields l.1)) (at, line) (placed (at + length line + 1) lines)
+    (take_while-cons (λ (l : PlacedLine). not (ends_fields l.1)) (at, line) (with_offsets (at + length line + 1) lines)
     ∙ cond-false _ _ _ (ap not is))
 
 -- one line of these lines
@@ -42,13 +43,13 @@ pub one_more : (at : ℕ) (text line rest : List ℕ) → parts_of 10 text ≡ l
     → field_lines_at at text ≡ field_lines_of at line ++ field_lines_at (at + length line + 1) rest
 unfolding field_lines_at
 one_more at text line rest cut is =
-    ap (λ ls. field_lines_among (placed at ls)) cut
-    ∙ among_one at line (placed (at + length line + 1) (parts_of 10 rest)) is
+    ap (λ ls. field_lines_among (with_offsets at ls)) cut
+    ∙ among_one at line (with_offsets (at + length line + 1) (parts_of 10 rest)) is
 
 pub last_one : (at : ℕ) (text line : List ℕ) → parts_of 10 text ≡ line ∷ [] → ends_fields line ≡ false
     → field_lines_at at text ≡ field_lines_of at line ++ []
 unfolding field_lines_at
-last_one at text line cut is = ap (λ ls. field_lines_among (placed at ls)) cut ∙ among_one at line [] is
+last_one at text line cut is = ap (λ ls. field_lines_among (with_offsets at ls)) cut ∙ among_one at line [] is
 
 -- ---- one turn over the lines of a format
 -- what `part_cut` says of a line and of what is after it

@@ -4,6 +4,4 @@ pub mod NumberLists
 pub mod PieceLemmas
 pub mod LineParts
 pub mod FieldNames
-pub mod PrintingLemmas
-pub mod NumberTexts
 pub mod FieldLines

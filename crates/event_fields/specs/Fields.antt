@@ -16,9 +16,9 @@ abbrev pub PlacedLine : Type 0
 PlacedLine = ℕ × List ℕ
 
 -- lines with their offsets, the first of which is this
-abbrev pub placed : ℕ → List (List ℕ) → List PlacedLine
-placed at [] = []
-placed at (line ∷ lines) = (at, line) ∷ placed (at + length line + 1) lines
+abbrev pub with_offsets : ℕ → List (List ℕ) → List PlacedLine
+with_offsets at [] = []
+with_offsets at (line ∷ lines) = (at, line) ∷ with_offsets (at + length line + 1) lines
 
 -- a line after which none speaks of fields
 unfoldable pub ends_fields : List ℕ → Bool
@@ -35,7 +35,7 @@ field_lines_among lines =
 
 -- the lines of a text that are to describe fields, if the text is at this offset
 unfoldable pub field_lines_at : ℕ → List ℕ → List PlacedLine
-field_lines_at at text = field_lines_among (placed at (parts_of 10 text))
+field_lines_at at text = field_lines_among (with_offsets at (parts_of 10 text))
 
 -- how many fields a format may have
 abbrev pub most_fields : ℕ

@@ -3,9 +3,9 @@ pub mod Types
 pub mod Declarations
 pub mod Lines
 pub mod Fields
+pub mod Events
 pub mod Cutting
 pub mod Numbers
 pub mod Values
+pub mod Shown
 pub mod Laws
-pub mod Printing
-pub mod PrintingLaws

@@ -1,6 +1,6 @@
 -- Pieces of a text.
 use Rattle.std.specs.Prelude.{ℕ, ◌+◌, ◌-◌, ◌^◌, ◌==◌, ◌&&◌, ◌||◌, Bool, false, not, List, [], ◌∷◌, length, take, drop}
-use Rattle.std.specs.Prelude.{position, Option, Some, None, nat_lt, nat_eq, if◌then◌else◌}
+use Rattle.std.specs.Prelude.{position, unwrap_or, Option, Some, None, nat_lt, nat_eq, if◌then◌else◌}
 use Rattle.std.specs.Char.{is_ascii_alphabetic, is_ascii_digit}
 use Rattle.std.specs.List.{starts_with, ends_with, list_all, slice_split, before_last, after_last}
 use Rattle.std.specs.Option.{option_and_then, option_map}
@@ -32,6 +32,10 @@ last_of text = after_last (λ b. b == 32) text
 -- the number that a text spells in decimal, if it fits 32 bits
 unfoldable pub number32_in : List ℕ → Option ℕ
 number32_in text = option_and_then (λ n. if nat_lt n (2 ^ 32) then Some n else None) (number_in text)
+
+-- the bytes up to the first zero byte
+abbrev pub text_before_zero : List ℕ → List ℕ
+text_before_zero bytes = take (unwrap_or (position (λ b. b == 0) bytes) (length bytes)) bytes
 
 -- a byte of a name: a letter, a digit or `_`
 abbrev pub is_name_byte : ℕ → Bool

@@ -38,7 +38,7 @@ is_byte_type text =
 
 unfoldable pub is_two_byte_type : List ℕ → Bool
 is_two_byte_type text =
-    is_among (codes "short,short int,signed short,unsigned short,unsigned short int") text
+    is_among (codes "short,short int,signed short,signed short int,unsigned short,unsigned short int") text
     || is_among (codes "s16,u16,__s16,__u16,__le16,__be16,__sum16,int16_t,uint16_t,u_int16_t,ushort,umode_t") text
 
 unfoldable pub is_four_byte_type : List ℕ → Bool
@@ -49,7 +49,8 @@ is_four_byte_type text =
 
 unfoldable pub is_eight_byte_type : List ℕ → Bool
 is_eight_byte_type text =
-    is_among (codes "long,long int,unsigned long,unsigned long int,long long,unsigned long long") text
+    is_among (codes "long,long int,signed long,signed long int,unsigned long,unsigned long int") text
+    || is_among (codes "long long,long long int,signed long long,unsigned long long,unsigned long long int") text
     || is_among (codes "s64,u64,__s64,__u64,__le64,__be64,int64_t,uint64_t,u_int64_t,ulong,size_t,ssize_t") text
     || is_among (codes "loff_t,off_t,sector_t,blkcnt_t,ino_t,pgoff_t,time64_t,ktime_t,dma_addr_t,phys_addr_t") text
 

@@ -1,5 +1,5 @@
 -- The value of a field.
-use Rattle.std.specs.Prelude.{ℕ, ℤ, ◌%◌, ◌==◌, List, length, take, position, unwrap_or, Option, Some, None}
+use Rattle.std.specs.Prelude.{ℕ, ℤ, ◌%◌, ◌==◌, List, length, Option, Some, None}
 use Rattle.std.specs.Prelude.{if◌then◌else◌}
 use Rattle.std.specs.Option.{option_map, option_and_then}
 use Rattle.event_fields.specs.declared.field.Layout.{Layout}
@@ -9,6 +9,7 @@ use Rattle.event_fields.specs.declared.list.Numbers.{Numbers}
 use Rattle.event_fields.specs.declared.value.Value.{Value}
 use Rattle.event_fields.specs.declared.value.Value.TheVariants as values
 use Rattle.event_fields.specs.Cutting.{bytes_of}
+use Rattle.event_fields.specs.Texts.{text_before_zero}
 use Rattle.event_fields.specs.Numbers.{number_seen, number_of, numbers_of, is_signed_kind, byte_count}
 
 -- a value: a number, numbers, a text, or bytes of which nothing else is known
@@ -28,10 +29,6 @@ value_seen (values.Number n) = number (number_seen n)
 value_seen (values.Numbers given) = numbers (numbers_seen given)
 value_seen (values.Text given) = text given.now
 value_seen (values.Bytes given) = bytes given.now
-
--- the bytes up to the first zero byte
-abbrev pub text_before_zero : List ℕ → List ℕ
-text_before_zero given = take (unwrap_or (position (λ b. b == 0) given) (length given)) given
 
 -- the value that bytes are: numbers only if these are a whole number of elements
 abbrev pub value_in : Kind → List ℕ → Option FieldValue

@@ -56,7 +56,7 @@ fn placed(layout: Layout, payload: &[u8]) -> Option<&[u8]>
 
 /// The bytes of a field in the payload of a record; none if they aren't all there.
 #[tactic(auto, unfolding(crate::specs::Cutting::bytes_of))]
-pub fn cut(layout: Layout, payload: &[u8]) -> Option<&[u8]>
+pub(crate) fn field_bytes(layout: Layout, payload: &[u8]) -> Option<&[u8]>
     ensures { option_map (λ found. found.now) result ≡ bytes_of layout payload.now }
 {
     if payload.len() < layout.at as usize + layout.place.own_size() as usize {

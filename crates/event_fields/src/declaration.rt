@@ -4,8 +4,7 @@ ghost use Rattle.std.specs.Option.{option_map};
 ghost use Rattle.event_fields.specs.Declarations.{declaration_seen, declaration_of, typed_in, array_in, direct_in};
 ghost use Rattle.event_fields.specs.Declarations.{elsewhere_in, declaration_in};
 
-use crate::decimal::number32_of;
-use crate::texts::{after, before, cut_at, cut_at_last_space, has_no_bracket, is_name};
+use crate::texts::{after, before, cut_at, cut_at_last_space, has_no_bracket, is_name, number32_of};
 
 /// How the bytes of a field are declared.
 #[derive(Clone, Copy)]
@@ -14,7 +13,7 @@ pub(crate) enum Shape {
     Single,
     /// As an array, with the number of its elements if that is given as a number.
     Array(Option<u32>),
-    /// As elsewhere in the payload.
+    /// As bytes that are elsewhere in the payload.
     Located,
     /// The same, counted from after the field.
     Relative,

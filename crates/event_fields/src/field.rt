@@ -1,7 +1,9 @@
 //! A field of an event, as its format describes it.
 ghost use Rattle.std.specs.Prelude.{◌≡◌};
 ghost use Rattle.event_fields.specs.Cutting.{own_size};
+ghost use Rattle.event_fields.specs.Lines.{field_seen};
 ghost use Rattle.event_fields.specs.Numbers.{byte_count, is_signed_kind};
+ghost use Rattle.event_fields.specs.Shown.{is_shown, numbers_of_kind};
 
 /// Where the bytes of a field are.
 #[derive(Clone, Copy, Debug, PartialEq, Eq)]
@@ -60,9 +62,13 @@ impl NumberKind {
 /// How many bytes a number has.
 #[derive(Clone, Copy, Debug, PartialEq, Eq)]
 pub enum NumberSize {
+    /// 8 bits.
     One,
+    /// 16 bits.
     Two,
+    /// 32 bits.
     Four,
+    /// 64 bits.
     Eight,
 }
 
@@ -93,10 +99,22 @@ pub enum Kind {
     Bytes,
 }
 
+impl Kind {
+    /// Which numbers those of a field are, if it has any.
+    pub fn number_kind(self) -> NumberKind
+        ensures { result ≡ numbers_of_kind self }
+    {
+        match self {
+            Kind::Number(kind) | Kind::Numbers(kind, _) => kind,
+            Kind::Text | Kind::Bytes => NumberKind::Unsigned,
+        }
+    }
+}
+
 /// Where the bytes of a field are, and what they say.
 #[derive(Clone, Copy, Debug, PartialEq, Eq)]
 pub struct Layout {
-    /// Its offset in the payload.
+    /// Its offset in the payload, in bytes.
     pub at: u32,
     /// Where its bytes are.
     pub place: Place,
@@ -111,6 +129,16 @@ pub struct Field {
     pub name: Vec<u8>,
     /// Its place and what it says.
     pub layout: Layout,
+}
+
+impl Field {
+    /// Whether the field is shown: every event has those whose names begin with `common_`, and they aren't.
+    #[tactic(auto, unfolding(crate::specs::Shown::is_shown))]
+    pub fn is_shown(&self) -> bool
+        ensures { result ≡ is_shown (field_seen self.now) }
+    {
+        !self.name.starts_with(b"common_")
+    }
 }
 
 /// A field whose name is lent.

@@ -114,9 +114,11 @@ fn put_line(
     Ok(())
 }
 
-/// The fields of a format, in their order.
+/// The fields of a format, in their order: those of its lines that begin with a tab and `field`, before the first line
+/// `print fmt: `. There are 256 at most, of different names. If a line describes none, or one too many, or one of the
+/// name of another, the format is malformed at that line.
 #[tactic(auto, unfolding(crate::specs::Fields::fields_of))]
-pub fn read_fields(alloc: Global, format: &[u8]) -> Result<Vec<Field>, FormatError>
+pub(crate) fn read_fields(alloc: Global, format: &[u8]) -> Result<Vec<Field>, FormatError>
     ensures { IsReading result (fields_of format.now) }
 {
     let mut fields = Vec::new(alloc);

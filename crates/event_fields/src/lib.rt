@@ -1,10 +1,10 @@
-//! Fields of events: which fields a format has, where the bytes of a field are in a record's payload, which value they
-//! are, and how that value is printed.
+//! Fields of events: which fields a format has, where the bytes of a field are in a record's payload, and which value
+//! they are.
 #![tactic(auto)]
 
 mod cutting;
-mod decimal;
 mod declaration;
+mod events;
 mod field;
 mod fields;
 pub mod laws;
@@ -15,9 +15,9 @@ mod texts;
 mod types;
 mod value;
 
-pub use cutting::cut;
+pub use events::{EventFields, FieldList};
 pub use field::{Field, Kind, Layout, NumberKind, NumberSize, Place};
-pub use fields::{FormatError, read_fields};
 pub use list::Numbers;
-pub use numbers::{FieldNumber, number_in};
+pub use numbers::FieldNumber;
+pub use texts::before_zero;
 pub use value::{Value, value_of};

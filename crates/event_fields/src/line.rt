@@ -5,11 +5,10 @@ ghost use Rattle.event_fields.specs.Declarations.{declaration_seen};
 ghost use Rattle.event_fields.specs.Lines.{lent_seen, number_kind, element_size, single_kind, numbers_kind, array_kind};
 ghost use Rattle.event_fields.specs.Lines.{kind_of, place_of, number_after, sign_in, measures_in, field_of, field_in};
 
-use crate::decimal::number32_of;
 use crate::declaration::{Declared, Shape, declaration_in};
 use crate::field::{Kind, Layout, LentField, NumberKind, NumberSize, Place};
 use crate::numbers::size_for;
-use crate::texts::{after, cut_at};
+use crate::texts::{after, cut_at, number32_of};
 use crate::types::{is_named, is_pointer, type_size};
 
 /// Which numbers those of a type are.

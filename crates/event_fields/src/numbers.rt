@@ -1,5 +1,5 @@
 //! The numbers that a field's bytes are.
-ghost use Rattle.std.specs.Prelude.{◌≡◌, ◌≤◌, ◌<◌, [], ◌∷◌, length, MatchOption};
+ghost use Rattle.std.specs.Prelude.{◌≡◌, ◌≤◌, ◌<◌, ⊤, length, MatchOption};
 ghost use Rattle.std.specs.Option.{option_map};
 ghost use Rattle.event_fields.specs.declared.field.NumberSize.TheVariants.{One, Two, Four, Eight};
 ghost use Rattle.event_fields.specs.Numbers.{number_seen, number_at, number_of, size_for, byte_count};
@@ -85,7 +85,7 @@ pub(crate) fn number_at(bytes: &[u8], size: NumberSize, is_signed: bool) -> Fiel
 /// The size of a number that has `count` bytes: 1, 2, 4 or 8.
 pub(crate) fn size_for(count: usize) -> Option<NumberSize>
     ensures size { result ≡ size_for count }
-    ensures count { MatchOption result (0 ≤ count) (λ size. byte_count size ≡ count) }
+    ensures count { MatchOption result ⊤ (λ size. byte_count size ≡ count) }
 {
     match count {
         1 => Some(NumberSize::One),
@@ -98,7 +98,7 @@ pub(crate) fn size_for(count: usize) -> Option<NumberSize>
 
 /// The number that these bytes are: of 1, 2, 4 or 8 bytes.
 #[tactic(auto, unfolding(crate::specs::Numbers::number_of))]
-pub fn number_in(bytes: &[u8], is_signed: bool) -> Option<FieldNumber>
+pub(crate) fn number_in(bytes: &[u8], is_signed: bool) -> Option<FieldNumber>
     ensures { option_map number_seen result ≡ number_of is_signed bytes.now }
 {
     let size = size_for(bytes.len())?;

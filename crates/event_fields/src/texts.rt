@@ -1,10 +1,12 @@
 //! Pieces of a text.
-ghost use Rattle.std.specs.Prelude.{◌≡◌, ◌==◌, ◌||◌, ◌+◌, ◌-◌, ◌<◌, ◌≤◌, ⊤, not, [], ◌∷◌, length, position};
+ghost use Rattle.std.specs.Prelude.{◌≡◌, ◌==◌, ◌||◌, ◌+◌, ◌-◌, ◌<◌, ⊤, not, [], ◌∷◌, length, position};
 ghost use Rattle.std.specs.Prelude.{MatchOption, IfSome};
 ghost use Rattle.std.specs.Option.{option_map};
 ghost use Rattle.std.specs.List.{list_all, suffix_len};
 ghost use Rattle.event_fields.specs.Texts.{after, before, cut_at, parts_of, front_of, last_of, is_name_byte, is_name};
-ghost use Rattle.event_fields.specs.Texts.{has_no_bracket};
+ghost use Rattle.event_fields.specs.Texts.{has_no_bracket, number32_in, text_before_zero};
+
+use trace_dat::kernel_texts::number_of;
 
 /// What is after a front, if the text begins with it.
 #[tactic(auto, unfolding(crate::specs::Texts::after))]
@@ -28,8 +30,8 @@ pub(crate) fn before<'a>(text: &'a [u8], end: &[u8]) -> Option<&'a [u8]>
     Some(&text[..text.len() - end.len()])
 }
 
-/// The place of the first of this byte.
-fn place_of(text: &[u8], byte: u8) -> Option<usize>
+/// The position of the first of this byte.
+fn position_of(text: &[u8], byte: u8) -> Option<usize>
     ensures place { result ≡ position (λ b. b == byte) text.now }
     ensures within { IfSome result (λ at. at < length text.now) }
 {
@@ -41,7 +43,7 @@ fn place_of(text: &[u8], byte: u8) -> Option<usize>
 pub(crate) fn cut_at(text: &[u8], byte: u8) -> Option<(&[u8], &[u8])>
     ensures { option_map (λ parts. (parts.0.now, parts.1.now)) result ≡ cut_at byte text.now }
 {
-    match place_of(text, byte) {
+    match position_of(text, byte) {
         Some(at) => Some((&text[..at], &text[at + 1..])),
         None => None,
     }
@@ -54,7 +56,7 @@ pub(crate) fn part_cut(text: &[u8], byte: u8) -> (&[u8], Option<&[u8]>)
         (λ rest. parts_of byte text.now ≡ result.0.now ∷ parts_of byte rest.now) }
     ensures len { MatchOption result.1 ⊤ (λ rest. length text.now ≡ length result.0.now + 1 + length rest.now) }
 {
-    match place_of(text, byte) {
+    match position_of(text, byte) {
         Some(at) => (&text[..at], Some(&text[at + 1..])),
         None => (text, None),
     }
@@ -119,4 +121,23 @@ pub(crate) fn has_no_bracket(text: &[u8]) -> bool
         }
     }
     true
+}
+
+/// The number that a text spells, if it fits 32 bits.
+#[tactic(auto, unfolding(crate::specs::Texts::number32_in))]
+pub(crate) fn number32_of(text: &[u8]) -> Option<u32>
+    ensures { result ≡ number32_in text.now }
+{
+    let number = number_of(text)?;
+    u32::try_from(number).ok()
+}
+
+/// The bytes up to the first zero byte.
+pub fn before_zero(bytes: &[u8]) -> &[u8]
+    ensures { result.now ≡ text_before_zero bytes.now }
+{
+    match position_of(bytes, 0) {
+        Some(end) => &bytes[..end],
+        None => bytes,
+    }
 }

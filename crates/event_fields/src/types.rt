@@ -1,6 +1,5 @@
 //! The types of fields.
-ghost use Rattle.std.specs.Prelude.{◌≡◌, ◌<◌, ◌==◌, ⊤, [], ◌∷◌, length, MatchOption};
-ghost use Rattle.std.specs.List.{list_any};
+ghost use Rattle.std.specs.Prelude.{◌≡◌, ◌<◌, ⊤, [], ◌∷◌, length, MatchOption};
 ghost use Rattle.event_fields.specs.Types.{is_kept, words_of, is_named, is_among, is_pointer, type_size};
 ghost use Rattle.event_fields.specs.Types.{is_byte_type, is_two_byte_type, is_four_byte_type, is_eight_byte_type};
 
@@ -93,7 +92,7 @@ fn is_two_byte_type(text: &[u8]) -> bool
 {
     is_among(
         text,
-        b"short,short int,signed short,unsigned short,unsigned short int",
+        b"short,short int,signed short,signed short int,unsigned short,unsigned short int",
     ) || is_among(
         text,
         b"s16,u16,__s16,__u16,__le16,__be16,__sum16,int16_t,uint16_t,u_int16_t,ushort,umode_t",
@@ -123,7 +122,10 @@ fn is_eight_byte_type(text: &[u8]) -> bool
 {
     is_among(
         text,
-        b"long,long int,unsigned long,unsigned long int,long long,unsigned long long",
+        b"long,long int,signed long,signed long int,unsigned long,unsigned long int",
+    ) || is_among(
+        text,
+        b"long long,long long int,signed long long,unsigned long long,unsigned long long int",
     ) || is_among(
         text,
         b"s64,u64,__s64,__u64,__le64,__be64,int64_t,uint64_t,u_int64_t,ulong,size_t,ssize_t",

@@ -1,12 +1,13 @@
 //! The value of a field.
-ghost use Rattle.std.specs.Prelude.{◌≡◌, ◌==◌, position};
+ghost use Rattle.std.specs.Prelude.{◌≡◌};
 ghost use Rattle.std.specs.Option.{option_map};
-ghost use Rattle.event_fields.specs.Values.{value_seen, value_in, value_of, text_before_zero};
+ghost use Rattle.event_fields.specs.Values.{value_seen, value_in, value_of};
 
-use crate::cutting::cut;
+use crate::cutting::field_bytes;
 use crate::field::{Kind, Layout, NumberKind, NumberSize};
 use crate::list::Numbers;
 use crate::numbers::{FieldNumber, number_in};
+use crate::texts::before_zero;
 
 /// The value of a field.
 #[derive(Clone, Copy, Debug)]
@@ -19,23 +20,6 @@ pub enum Value<'a> {
     Text(&'a [u8]),
     /// Bytes of which nothing else is known.
     Bytes(&'a [u8]),
-}
-
-/// The place of the first zero byte.
-fn first_zero(bytes: &[u8]) -> Option<usize>
-    ensures { result ≡ position (λ b. b == 0) bytes.now }
-{
-    bytes.iter().position(|byte| *byte == 0)
-}
-
-/// The bytes up to the first zero byte.
-fn before_zero(bytes: &[u8]) -> &[u8]
-    ensures { result.now ≡ text_before_zero bytes.now }
-{
-    match first_zero(bytes) {
-        Some(end) => &bytes[..end],
-        None => bytes,
-    }
 }
 
 /// The numbers that bytes are, if these are a whole number of elements.
@@ -70,5 +54,5 @@ fn value_in(kind: Kind, bytes: &[u8]) -> Option<Value<'_>>
 pub fn value_of(layout: Layout, payload: &[u8]) -> Option<Value<'_>>
     ensures { option_map value_seen result ≡ value_of layout payload.now }
 {
-    value_in(layout.kind, cut(layout, payload)?)
+    value_in(layout.kind, field_bytes(layout, payload)?)
 }
