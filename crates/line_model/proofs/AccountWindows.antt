@@ -1,6 +1,6 @@
 -- The window that events lead to, by the events alone: runs lead to it, and the events of an account are a run.
-use Rattle.std.proofs.Common.{◌≡◌, ℕ, zero, suc, ◌+◌, ◌<◌, ◌⊎◌, List, [], ◌∷◌, ◌++◌, length, Some, refl, sym, ap, ◌∙◌}
-use Rattle.std.proofs.Common.{subst, inl, inr, ⊎_elim, arith, append_assoc, append-nil}
+use Rattle.std.proofs.Common.{◌≡◌, ℕ, zero, suc, ◌<◌, ◌⊎◌, List, [], ◌∷◌, ◌++◌, length, Some, refl, sym, ap, ◌∙◌, subst}
+use Rattle.std.proofs.Common.{inl, inr, ⊎_elim, arith, append_assoc, append-nil}
 use Rattle.std.specs.Prelude.{IsTrue, fold}
 use Rattle.std.specs.List.{slice_get}
 use Rattle.std.proofs.lemmas.List.Sums.{fold-append}
@@ -13,11 +13,10 @@ use Rattle.ring_model.proofs.histories.WindowRuns.{history_events-append, run-ap
 use Rattle.text_model.specs.Script.{Command, begin_frame, step_frame, finish_frame, write, close, step_reader}
 use Rattle.text_model.specs.Script.{take_page, wish, deliver, Script}
 use Rattle.line_model.specs.Due.{window_at, situation_after, IsDue}
-use Rattle.line_model.specs.Accounts.{CpuState, IsIdle, Begins, refuses_frame, pushes_frame}
-use Rattle.line_model.specs.Accounts.{StepsTop, lacks_to_step, steps_on, FinishesTop, lacks_to_finish, finishes_it}
-use Rattle.line_model.specs.Accounts.{WritesWhole, refuses_whole, writes_it, Take, to_find, to_see, to_prepare, to_take}
-use Rattle.line_model.specs.Accounts.{GoesOn, EndsTake, ReadsOn, TakesPage, StepsReader, reads_on, ends_before, Asks}
-use Rattle.line_model.specs.Accounts.{Adds, IsAccount}
+use Rattle.line_model.specs.Accounts.{CpuState, IsIdle, Begins, refuses_frame, pushes_frame, StepsTop, lacks_to_step}
+use Rattle.line_model.specs.Accounts.{steps_on, FinishesTop, lacks_to_finish, finishes_it, WritesWhole, refuses_whole}
+use Rattle.line_model.specs.Accounts.{writes_it, Take, to_find, to_see, to_prepare, to_take, GoesOn, EndsTake, ReadsOn}
+use Rattle.line_model.specs.Accounts.{TakesPage, StepsReader, reads_on, ends_before, Asks, Adds, IsAccount}
 use Rattle.line_model.proofs.Standing.{AreDue}
 
 act_moves : (w : Window) (a : HistoryEvent) → window_after w (acts a) ≡ window_after w (acts a)

@@ -12,7 +12,7 @@ use Rattle.trace_model.specs.Window.{window_after}
 use Rattle.trace_model.proofs.packing.PackedHistories.{is_wished-push, is_wished-push_close, is_wished-open_fill}
 use Rattle.trace_model.proofs.packing.PackedHistories.{is_wished-reserve, is_wished-leave, is_wished-wished}
 use Rattle.ring_model.proofs.histories.WindowRuns.{history_events-append}
-use Rattle.text_model.specs.Script.{wish, Script}
+use Rattle.text_model.specs.Script.{Script}
 use Rattle.line_model.specs.Due.{window_at, Situation, situation_after, pushed_in, IsFillNeededFor, IsFillNeeded}
 use Rattle.line_model.specs.Due.{HasNoFill, HasNoRecord, Leaves, IsDue}
 use Rattle.line_model.specs.Accounts.{LineFrame, IsOwn, frame_after, Does, HasGone}
