@@ -198,6 +198,10 @@ class LineFrame(NamedTuple):
     stage: Stage
 
 
+def is_moved_for(fill, frames):
+    return any(frame.stage.name == "moving" and frame.stage.fill == fill for frame in frames)
+
+
 TO_FIND, TO_SEE, TO_PREPARE, TO_TAKE = "to_find", "to_see", "to_prepare", "to_take"
 
 
@@ -315,11 +319,23 @@ def at_rest(w, below, payload):
 def stage_after(w, below, payload, event):
     if choice("stage after: loses", event == LOSES):
         return moving(w.opened, 2)
-    return searching(w.opened, TO_LOOK) if event == WISHED else at_rest(w, below, payload)
+    if choice("stage after: wished", event == WISHED):
+        return searching(w.opened, TO_LOOK)
+    return at_rest(w, below, payload)
 
 
-def is_moved(fill, frames):
-    return any(frame.stage.name == "moving" and frame.stage.fill == fill for frame in frames)
+def may_do(s, stage, event):
+    if stage == RESTING:
+        return clause("may do: resting, if it needs no fill or has none", not is_fill_needed(s) or has_no_fill(s))
+    if stage.name == "searching":
+        loses, begins = stage.search == TO_LOSE, stage.search == to_begin(0)
+        return clause("may do: searching, for this fill", stage.fill == s.window.opened) and (
+            choice("may do: searching, loses a fill", loses and event == LOSES)
+            or choice("may do: searching, begins a fill", begins and event == OPEN_FILL)
+        )
+    if stage == CLOSING_FILLS:
+        return clause("may do: closing, closes", event == CLOSES)
+    return stage == ASKING and clause("may do: asking, finds the wish", event == WISHED)
 
 
 def finds(s, below, fill, search):
@@ -328,30 +344,20 @@ def finds(s, below, fill, search):
     if search == TO_LOOK:
         if clause("finds: to look, the ring is full", full):
             yield searching(fill, TO_LOSE)
-        moved = is_moved(fill, below)
-        if clause("finds: to look, the ring isn't full", not full) and clause("finds: to look, none moves", not moved):
-            yield searching(fill, to_begin(0))
-        if clause("finds: to look, a frame below moves", moved):
-            yield searching(fill, to_begin(2))
+        if clause("finds: to look, the ring isn't full", not full):
+            moved = is_moved_for(fill, below)
+            if clause("finds: to look, none moves", not moved):
+                yield searching(fill, to_begin(0))
+            if clause("finds: to look, a frame below moves", moved):
+                yield searching(fill, to_begin(2))
     elif search == TO_LOSE:
         if clause("finds: to lose, the ring isn't full", not full):
             yield searching(fill, TO_LOOK)
     elif search.left:
-        yield searching(fill, to_begin(search.left - 1))
+        if choice("finds: to begin, it helps", True):
+            yield searching(fill, to_begin(search.left - 1))
         if choice("finds: to begin, a frame helped", True):
             yield searching(fill, to_begin(0))
-
-
-def may_do(s, stage, event):
-    if stage == RESTING:
-        return clause("may do: resting, if it needs no fill or has none", not is_fill_needed(s) or has_no_fill(s))
-    if stage.name == "searching":
-        return clause("may do: searching, for this fill", stage.fill == s.window.opened) and (
-            event == {TO_LOSE: LOSES, to_begin(0): OPEN_FILL}.get(stage.search)
-        )
-    if stage == CLOSING_FILLS:
-        return clause("may do: closing, closes", event == CLOSES)
-    return stage == ASKING and clause("may do: asking, finds the wish", event == WISHED)
 
 
 def may_pass(s, below, payload, stage):
@@ -367,7 +373,8 @@ def may_pass(s, below, payload, stage):
             yield from finds(s, below, stage.fill, stage.search)
     elif stage.name == "moving":
         if stage.left:
-            yield moving(stage.fill, stage.left - 1)
+            if choice("may pass: moving, it moves", True):
+                yield moving(stage.fill, stage.left - 1)
             if choice("may pass: moving, a frame helped", True):
                 yield moving(stage.fill, 0)
         else:
@@ -447,7 +454,7 @@ def at_hint(pages, w, hint):
 
 
 def is_moved_to(pages, w, frames):
-    return is_moved(w.head + pages - 1, frames)
+    return is_moved_for(w.head + pages - 1, frames)
 
 
 def goes_on(pages, before):
@@ -460,7 +467,7 @@ def goes_on(pages, before):
         later = choice("goes on: at a later fill", w.head < fill) or choice(
             "goes on: at a fill that is moved to", is_moved_to(pages, w, before.frames)
         )
-        unmoved = clause("goes on: no frame moves the head from here", not is_moved(fill, before.frames))
+        unmoved = clause("goes on: no frame moves the head from here", not is_moved_for(fill, before.frames))
         if clause("goes on: the hint is below", before.hint < fill) and later and unmoved:
             yield before._replace(hint=fill + 1 - pages)
     elif before.take == TO_SEE:
@@ -477,7 +484,7 @@ def ends_take(pages, before):
     w = before.events.window
     if before.take == TO_FIND:
         fill = at_hint(pages, w, before.hint)
-        if clause("ends take: a frame moves the head from here", is_moved(fill, before.frames)):
+        if clause("ends take: a frame moves the head from here", is_moved_for(fill, before.frames)):
             yield (), before._replace(hint=fill + 1 - pages)
         if clause("ends take: the hint is the oldest", before.hint == w.head) and clause(
             "ends take: a frame moves the head to it", is_moved_to(pages, w, before.frames)
@@ -508,13 +515,12 @@ def takes_page(pages, before):
 
 def steps_reader(pages, count, before):
     for made, states in enumerate(reads_on(pages, before)):
-        for state in states:
-            if made == count:
-                yield (), state
-            else:
-                yield from ends_take(pages, state)
         if made == count:
+            yield from (((), state) for state in states)
+        if not clause("steps reader: ends before", made < count):
             return
+        for state in states:
+            yield from ends_take(pages, state)
 
 
 def asks(before):

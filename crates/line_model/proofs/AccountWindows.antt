@@ -1,6 +1,6 @@
 -- The window that events lead to, by the events alone: runs lead to it, and the events of an account are a run.
-use Rattle.std.proofs.Common.{◌≡◌, ℕ, zero, suc, ◌+◌, ◌<◌, ◌⊎◌, List, [], ◌∷◌, ◌++◌, length, Some, refl, sym, ap, ◌∙◌}
-use Rattle.std.proofs.Common.{subst, inl, inr, ⊎_elim, arith, append_assoc, append-nil}
+use Rattle.std.proofs.Common.{◌≡◌, ℕ, zero, suc, ◌<◌, ◌⊎◌, List, [], ◌∷◌, ◌++◌, length, Some, refl, sym, ap, ◌∙◌, subst}
+use Rattle.std.proofs.Common.{inl, inr, ⊎_elim, arith, append_assoc, append-nil}
 use Rattle.std.specs.Prelude.{IsTrue, fold}
 use Rattle.std.specs.List.{slice_get}
 use Rattle.std.proofs.lemmas.List.Sums.{fold-append}
@@ -13,11 +13,10 @@ use Rattle.ring_model.proofs.histories.WindowRuns.{history_events-append, run-ap
 use Rattle.text_model.specs.Script.{Command, begin_frame, step_frame, finish_frame, write, close, step_reader}
 use Rattle.text_model.specs.Script.{take_page, wish, deliver, Script}
 use Rattle.line_model.specs.Due.{window_at, situation_after, IsDue}
-use Rattle.line_model.specs.Accounts.{CpuState, IsIdle, Begins, refuses_frame, pushes_frame}
-use Rattle.line_model.specs.Accounts.{StepsTop, lacks_to_step, steps_on, FinishesTop, lacks_to_finish, finishes_it}
-use Rattle.line_model.specs.Accounts.{WritesWhole, refuses_whole, writes_it, Take, to_find, to_see, to_prepare, to_take}
-use Rattle.line_model.specs.Accounts.{GoesOn, EndsTake, ReadsOn, TakesPage, StepsReader, reads_on, ends_before, Asks}
-use Rattle.line_model.specs.Accounts.{Adds, IsAccount}
+use Rattle.line_model.specs.Accounts.{CpuState, IsIdle, Begins, refuses_frame, pushes_frame, StepsTop, lacks_to_step}
+use Rattle.line_model.specs.Accounts.{steps_on, FinishesTop, lacks_to_finish, finishes_it, WritesWhole, refuses_whole}
+use Rattle.line_model.specs.Accounts.{writes_it, Take, to_find, to_see, to_prepare, to_take, GoesOn, EndsTake, ReadsOn}
+use Rattle.line_model.specs.Accounts.{TakesPage, StepsReader, reads_on, ends_before, Asks, Adds, IsAccount}
 use Rattle.line_model.proofs.Standing.{AreDue}
 
 act_moves : (w : Window) (a : HistoryEvent) → window_after w (acts a) ≡ window_after w (acts a)
@@ -194,14 +193,31 @@ adds_one : (before after : CpuState) (own : List RingEvent)
     → IsBehind before own after
 adds_one before after own one same = same ∙ ap (λ (l : List RingEvent). before.events ++ l) (sym one)
 
-goes_adds : (pages : ℕ) (w : Window) (take : Take) (before after : CpuState)
-    → GoesOn pages w take before after
-    → after.events ≡ before.events
-goes_adds pages w to_find before after (inl (at, is)) = ap (λ (s : CpuState). s.events) is
-goes_adds pages w to_find before after (inr (fill, at, more, later, apart, is)) = ap (λ (s : CpuState). s.events) is
-goes_adds pages w to_see before after (closed, is) = ap (λ (s : CpuState). s.events) is
-goes_adds pages w to_prepare before after is = ap (λ (s : CpuState). s.events) is
-goes_adds pages w to_take before after (away, is) = ap (λ (s : CpuState). s.events) is
+-- what a step of a take that isn't its last leaves as it was
+pub record IsSame (before after : CpuState) : Type 0 where
+  pub events : after.events ≡ before.events
+  pub frames : after.frames ≡ before.frames
+  pub wish : after.wish ≡ before.wish
+
+module _ (pages : ℕ) (w : Window) (before : CpuState) where
+  same_by : (after next : CpuState)
+      → after ≡ next
+      → next.events ≡ before.events
+      → next.frames ≡ before.frames
+      → next.wish ≡ before.wish
+      → IsSame before after
+  same_by after next is events frames asks = record {
+    events = ap (λ (s : CpuState). s.events) is ∙ events;
+    frames = ap (λ (s : CpuState). s.frames) is ∙ frames;
+    wish = ap (λ (s : CpuState). s.wish) is ∙ asks;
+  }
+
+  pub goes_same : (take : Take) (after : CpuState) → GoesOn pages w take before after → IsSame before after
+  goes_same to_find after (inl (at, is)) = same_by after _ is refl refl refl
+  goes_same to_find after (inr (fill, at, more, later, apart, is)) = same_by after _ is refl refl refl
+  goes_same to_see after (closed, is) = same_by after _ is refl refl refl
+  goes_same to_prepare after is = same_by after _ is refl refl refl
+  goes_same to_take after (away, is) = same_by after _ is refl refl refl
 
 reads_on_adds : (script : Script) (count : ℕ) (before after : CpuState)
     → ReadsOn script count before after
@@ -209,7 +225,7 @@ reads_on_adds : (script : Script) (count : ℕ) (before after : CpuState)
 reads_on_adds script zero before after same = ap (λ (s : CpuState). s.events) (sym same)
 reads_on_adds script (suc count) before after (between, going, rest) =
     reads_on_adds script count between after rest
-    ∙ goes_adds script.pages (window_at script.start before.events) before.take before between going
+    ∙ (goes_same script.pages (window_at script.start before.events) before before.take between going).events
 
 ends_adds : (pages : ℕ) (w : Window) (take : Take) (before after : CpuState) (own : List RingEvent)
     → EndsTake pages w take before own after

@@ -91,6 +91,7 @@ run_on n start c after events own run are = record {
 
 -- ---- events that are due, one after the other
 
+-- the first one is due, and each other one after those before it
 abbrev pub DueFrom : Script → (asked : ℕ) → (before own : List RingEvent) → Type 0
 DueFrom script asked before [] = ⊤
 DueFrom script asked before (event ∷ own) =
@@ -127,3 +128,15 @@ module _ (script : Script) (asked : ℕ) where
       subst (λ (l : List RingEvent). IsDue (situation_after script asked l) event)
       (append_assoc before (first ∷ []) front ∙ ap (λ (x : RingEvent). before ++ x ∷ front) (ap (first_of first) is))
       (are_due (before ++ first ∷ []) own due.1 front rest event (ap rest_of is))
+
+  -- events that are due at their places are due one after the other
+  pub all_due : (before own : List RingEvent) → AreDue script asked before own → DueFrom script asked before own
+  all_due before [] due = tt
+  all_due before (event ∷ own) due = (
+    subst (λ (l : List RingEvent). IsDue (situation_after script asked l) event) (append-nil before)
+        (due [] own event refl),
+    all_due (before ++ event ∷ []) own (λ front rest later is.
+        subst (λ (l : List RingEvent). IsDue (situation_after script asked l) later)
+        (sym (append_assoc before (event ∷ []) front))
+        (due (event ∷ front) rest later (ap (λ (l : List RingEvent). event ∷ l) is))),
+  )

@@ -1,8 +1,7 @@
 -- What is printed of a line of the log is a line that begins with a digit.
 use Rattle.std.proofs.Common.{◌≡◌, ℕ, zero, suc, ◌+◌, ◌<◌, ◌≤◌, ◌/◌, ◌%◌, Bool, true, false, not, ◌==◌, ltb, List, []}
-use Rattle.std.proofs.Common.{◌∷◌}
-use Rattle.std.proofs.Common.{◌++◌, length, map, flat_map, decimal, Some, Contains, refl, sym, ap, ◌∙◌, subst, arith}
-use Rattle.std.proofs.Common.{⊎_elim}
+use Rattle.std.proofs.Common.{◌∷◌, ◌++◌, length, map, flat_map, decimal, Some, Contains, refl, sym, ap, ◌∙◌, subst}
+use Rattle.std.proofs.Common.{arith, ⊎_elim}
 use Rattle.std.specs.Prelude.{All, codes, IsTrue, get_or}
 use Rattle.std.specs.Char.{is_digit}
 use Rattle.std.specs.Fmt.{digits, digits_onto, digit_glyph}

@@ -15,9 +15,11 @@ use Rattle.line_model.specs.Accounts.{finishes_it, WritesWhole, refuses_whole, w
 use Rattle.line_model.specs.Accounts.{to_prepare, to_take, IsMovedFor, IsAtHint, IsMovedTo, GoesOn, EndsTake, ReadsOn}
 use Rattle.line_model.specs.Accounts.{TakesPage, Asks, Adds, IsLine, IsAccount}
 use Rattle.line_model.specs.WholeScripts.{IsWholeLine, HasWholeLines, OneAccount}
-use Rattle.line_model.proofs.OneDue.{AllDue, all_due, IsKept, kept_on, kept_all, same_own}
+use Rattle.line_model.proofs.AccountWindows.{goes_same}
+use Rattle.line_model.proofs.DueRuns.{DueFrom, all_due}
+use Rattle.line_model.proofs.OneDue.{IsKept, kept_on, kept_all, same_own}
 
--- ---- a line
+-- ---- frames that have made no step
 
 -- no frame on the stack has made a step
 abbrev AreStill : List LineFrame → Type 0
@@ -34,32 +36,7 @@ still_not_moving (top ∷ frames) still (fill, (frame, (suc k, within, at), more
 
 -- ---- the steps of a take, while no frame moves the head
 
--- what a step that isn't the last leaves as it was
-record IsSame (before after : CpuState) : Type 0 where
-  events : after.events ≡ before.events
-  frames : after.frames ≡ before.frames
-  wish : after.wish ≡ before.wish
-
 module _ (pages : ℕ) (w : Window) (before : CpuState) where
-  same_by : (after next : CpuState)
-      → after ≡ next
-      → next.events ≡ before.events
-      → next.frames ≡ before.frames
-      → next.wish ≡ before.wish
-      → IsSame before after
-  same_by after next is events frames asks = record {
-    events = ap (λ (s : CpuState). s.events) is ∙ events;
-    frames = ap (λ (s : CpuState). s.frames) is ∙ frames;
-    wish = ap (λ (s : CpuState). s.wish) is ∙ asks;
-  }
-
-  goes_same : (take : Take) (after : CpuState) → GoesOn pages w take before after → IsSame before after
-  goes_same to_find after (inl (at, is)) = same_by after _ is refl refl refl
-  goes_same to_find after (inr (fill, at, more, later, apart, is)) = same_by after _ is refl refl refl
-  goes_same to_see after (closed, is) = same_by after _ is refl refl refl
-  goes_same to_prepare after is = same_by after _ is refl refl refl
-  goes_same to_take after (away, is) = same_by after _ is refl refl refl
-
   module _ (still : AreStill before.frames) where
     none_for : (fill : ℕ) → IsMovedFor fill before.frames → ⊥
     none_for fill moved = still_not_moving before.frames still (fill, moved)
@@ -179,7 +156,7 @@ module _ (script : Script) where
   ends_kept : (take : Take) (before after : CpuState) (own : List RingEvent)
       → before.take ≡ take
       → EndsTake script.pages (now before) take before own after
-      → AllDue script before.wish before.events own
+      → DueFrom script before.wish before.events own
       → IsKeptIn before
       → AreStill before.frames
       → IsWholeIn after
@@ -193,7 +170,7 @@ module _ (script : Script) where
   ends_kept to_take before after own at (here, took, is) due kept still =
       subst IsWholeIn (sym is) (
         kept_on script before.wish before.seen before.events takes
-            (subst (AllDue script before.wish before.events) took due).0 kept,
+            (subst (DueFrom script before.wish before.events) took due).0 kept,
         refl,
         still,
       )
@@ -201,7 +178,7 @@ module _ (script : Script) where
   takes_kept : (count : ℕ) (before between after : CpuState) (own : List RingEvent)
       → ReadsOn script count before between
       → EndsTake script.pages (now between) between.take between own after
-      → AllDue script before.wish before.events own
+      → DueFrom script before.wish before.events own
       → IsKeptIn before
       → AreStill before.frames
       → IsWholeIn after
@@ -211,9 +188,11 @@ module _ (script : Script) where
   takes_kept (suc count) before between after own (next, going, rest) ends due kept still =
       let same = goes_same script.pages (now before) before before.take next going in
       takes_kept count next between after own rest ends
-      (subst (λ (asked : ℕ). AllDue script asked next.events own) (sym same.wish)
-      (subst (λ (l : List RingEvent). AllDue script before.wish l own) (sym same.events) due))
+      (subst (λ (asked : ℕ). DueFrom script asked next.events own) (sym same.wish)
+      (subst (λ (l : List RingEvent). DueFrom script before.wish l own) (sym same.events) due))
       (goes_kept before.take before next going kept) (still_on before next going still)
+
+-- ---- a line
 
 -- A CPU between two lines that aren't of single steps.
 record IsWhole (start : ℕ) (state : CpuState) : Type 0 where
@@ -248,7 +227,7 @@ module _ (script : Script) (before : CpuState) (whole : IsWhole script.start bef
       ∙ sym stands
 
   whole_begin : (Refused : Type 0) (event : HistoryEvent) (payload : List ℕ) (own : List RingEvent) (after : CpuState)
-      → AllDue script before.wish before.events own
+      → DueFrom script before.wish before.events own
       → Begins Refused event payload before own after
       → IsWhole script.start after
   whole_begin Refused event payload own after due (refuses_frame so idle) = whole_idle own after idle
@@ -261,8 +240,8 @@ module _ (script : Script) (before : CpuState) (whole : IsWhole script.start bef
 
   -- `f`
   one_finish : (own other : List RingEvent) (one two : CpuState)
-      → AllDue script before.wish before.events own
-      → AllDue script before.wish before.events other
+      → DueFrom script before.wish before.events own
+      → DueFrom script before.wish before.events other
       → FinishesTop script before own one
       → FinishesTop script before other two
       → one ≡ two
@@ -290,7 +269,7 @@ module _ (script : Script) (before : CpuState) (whole : IsWhole script.start bef
       ∙ sym stands
 
   whole_finish : (own : List RingEvent) (after : CpuState)
-      → AllDue script before.wish before.events own
+      → DueFrom script before.wish before.events own
       → FinishesTop script before own after
       → IsWhole script.start after
   whole_finish own after due (lacks_to_finish none idle) = whole_idle own after idle
@@ -310,8 +289,8 @@ module _ (script : Script) (before : CpuState) (whole : IsWhole script.start bef
 
   one_write : (Refused : Type 0) (event : HistoryEvent) (payload : List ℕ) (own other : List RingEvent)
       (one two : CpuState)
-      → AllDue script before.wish before.events own
-      → AllDue script before.wish before.events other
+      → DueFrom script before.wish before.events own
+      → DueFrom script before.wish before.events other
       → WritesWhole script Refused event payload before own one
       → WritesWhole script Refused event payload before other two
       → one ≡ two
@@ -323,8 +302,8 @@ module _ (script : Script) (before : CpuState) (whole : IsWhole script.start bef
       (refuses_whole so idle) = absurd (not so)
   one_write Refused event payload own other one two due dues (writes_it rest next not is does gone at)
       (writes_it others last still be did went stands) =
-      let here = subst (AllDue script before.wish before.events) is due in
-      let there = subst (AllDue script before.wish before.events) be dues in
+      let here = subst (DueFrom script before.wish before.events) is due in
+      let there = subst (DueFrom script before.wish before.events) be dues in
       let same : rest ≡ others =
       same_own script before.wish before.seen before.frames (before.events ++ acts event ∷ []) (new_frame payload) rest
       others next last (kept_on script before.wish before.seen before.events (acts event) here.0 whole.kept) does did
@@ -339,7 +318,7 @@ module _ (script : Script) (before : CpuState) (whole : IsWhole script.start bef
       ∙ sym stands
 
   whole_write : (Refused : Type 0) (event : HistoryEvent) (payload : List ℕ) (own : List RingEvent) (after : CpuState)
-      → AllDue script before.wish before.events own
+      → DueFrom script before.wish before.events own
       → WritesWhole script Refused event payload before own after
       → IsWhole script.start after
   whole_write Refused event payload own after due (refuses_whole so idle) = whole_idle own after idle
@@ -361,7 +340,7 @@ module _ (script : Script) (before : CpuState) (whole : IsWhole script.start bef
       first.reads first.ends second.reads second.ends
 
   whole_take : (own : List RingEvent) (after : CpuState)
-      → AllDue script before.wish before.events own
+      → DueFrom script before.wish before.events own
       → TakesPage script before own after
       → IsWhole script.start after
   whole_take own after due part =
@@ -404,8 +383,8 @@ module _ (script : Script) (before : CpuState) (whole : IsWhole script.start bef
   -- what a line adds is one thing
   one_adds : (cpu : ℕ) (command : Command) (own other : List RingEvent) (one two : CpuState)
       → IsWholeLine command
-      → AllDue script before.wish before.events own
-      → AllDue script before.wish before.events other
+      → DueFrom script before.wish before.events own
+      → DueFrom script before.wish before.events other
       → Adds script cpu command before own one
       → Adds script cpu command before other two
       → one ≡ two
@@ -428,7 +407,7 @@ module _ (script : Script) (before : CpuState) (whole : IsWhole script.start bef
 
   whole_adds : (cpu : ℕ) (command : Command) (own : List RingEvent) (after : CpuState)
       → IsWholeLine command
-      → AllDue script before.wish before.events own
+      → DueFrom script before.wish before.events own
       → Adds script cpu command before own after
       → IsWhole script.start after
   whole_adds cpu (begin_frame at moment payload) own after line due adds =

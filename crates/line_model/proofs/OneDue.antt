@@ -2,7 +2,6 @@
 -- that it does until it has gone.
 use Rattle.std.proofs.Common.{◌≡◌, ℕ, ◌+◌, ◌≤◌, IsTrue, Bool, true, false, List, [], ◌∷◌, ◌++◌, Some, None, refl, sym}
 use Rattle.std.proofs.Common.{ap, ◌∙◌, subst, append_assoc, append-nil, arith}
-use Rattle.std.specs.Prelude.{⊤}
 use Rattle.std.proofs.lemmas.List.Sums.{fold-append}
 use Rattle.trace_model.specs.Words.{padded}
 use Rattle.trace_model.specs.History.{HistoryEvent, push, push_close, open_fill, reserve, leave, wished, PushedFrame}
@@ -13,42 +12,20 @@ use Rattle.trace_model.specs.Window.{window_after}
 use Rattle.trace_model.proofs.packing.PackedHistories.{is_wished-push, is_wished-push_close, is_wished-open_fill}
 use Rattle.trace_model.proofs.packing.PackedHistories.{is_wished-reserve, is_wished-leave, is_wished-wished}
 use Rattle.ring_model.proofs.histories.WindowRuns.{history_events-append}
-use Rattle.text_model.specs.Script.{wish, Script}
+use Rattle.text_model.specs.Script.{Script}
 use Rattle.line_model.specs.Due.{window_at, Situation, situation_after, pushed_in, IsFillNeededFor, IsFillNeeded}
 use Rattle.line_model.specs.Due.{HasNoFill, HasNoRecord, Leaves, IsDue}
 use Rattle.line_model.specs.Accounts.{LineFrame, IsOwn, frame_after, Does, HasGone}
-use Rattle.line_model.proofs.Standing.{AreDue}
-
--- ---- events that are due, one after the other
-
--- the first one is due, and each other one after those before it
-abbrev pub AllDue : Script → (asked : ℕ) → (before own : List RingEvent) → Type 0
-AllDue script asked before [] = ⊤
-AllDue script asked before (event ∷ own) =
-    IsDue (situation_after script asked before) event × AllDue script asked (before ++ event ∷ []) own
-
--- events that are due are so one after the other
-pub all_due : (script : Script) (asked : ℕ) (before own : List RingEvent)
-    → AreDue script asked before own
-    → AllDue script asked before own
-all_due script asked before [] due = tt
-all_due script asked before (event ∷ own) due = (
-  subst (λ (l : List RingEvent). IsDue (situation_after script asked l) event) (append-nil before)
-      (due [] own event refl),
-  all_due script asked (before ++ event ∷ []) own (λ front rest later is.
-      subst (λ (l : List RingEvent). IsDue (situation_after script asked l) later)
-      (sym (append_assoc before (event ∷ []) front))
-      (due (event ∷ front) rest later (ap (λ (l : List RingEvent). event ∷ l) is))),
-)
+use Rattle.line_model.proofs.DueRuns.{DueFrom}
 
 -- ---- what is kept from event to event
 
 -- The reader knows no fill to be closed that isn't, and wishes for the next one at most; and since its wish was found
 -- no fill is left to be closed but the tail.
 pub record Holds (asked seen : ℕ) (w : Window) (found : Bool) : Type 0 where
-  seen_le : seen ≤ w.done
-  wish_le : asked ≤ w.done + 1
-  tail_only : IsTrue found → w.opened ≤ w.done + 1
+  pub seen_le : seen ≤ w.done
+  pub wish_le : asked ≤ w.done + 1
+  pub tail_only : IsTrue found → w.opened ≤ w.done + 1
 
 -- this holds after these events
 abbrev pub IsKept : (start asked seen : ℕ) → List RingEvent → Type 0
@@ -128,7 +105,7 @@ kept_on script asked seen events loses due k =
 
 -- events that are due keep it
 pub kept_all : (script : Script) (asked seen : ℕ) (before own : List RingEvent)
-    → AllDue script asked before own
+    → DueFrom script asked before own
     → IsKept script.start asked seen before
     → IsKept script.start asked seen (before ++ own)
 kept_all script asked seen before [] due k =
@@ -140,14 +117,14 @@ kept_all script asked seen before (event ∷ own) due k =
 
 -- ---- at most one event is due
 
--- a frame that leaves without a record though it needs a page can have none
+-- a frame that leaves without a record though it needs a fill can have none
 leaves_short : (s : Situation) (stack : List PushedFrame) → Leaves s stack None → IsFillNeeded s → HasNoFill s
 leaves_short s [] leaving needs = absurd leaving
 leaves_short s (record_frame moment len None ∷ below) leaving needs = leaving.1
 leaves_short s (record_frame moment len (Some number) ∷ below) leaving needs = absurd leaving
 leaves_short s (close_frame ∷ below) leaving needs = leaving needs
 
--- a frame that leaves with its record needs no page
+-- a frame that leaves with its record needs no fill
 leaves_served : (s : Situation) (stack : List PushedFrame) (bytes : List ℕ)
     → Leaves s stack (Some bytes)
     → IsFillNeededFor s stack
@@ -157,7 +134,7 @@ leaves_served s (record_frame moment len None ∷ below) bytes leaving needs = l
 leaves_served s (record_frame moment len (Some number) ∷ below) bytes leaving needs = needs
 leaves_served s (close_frame ∷ below) bytes leaving needs = leaving
 
--- a record frame without a record leaves without one only if it needs a page
+-- a record frame without a record leaves without one only if it needs a fill
 waits_short : (s : Situation) (stack : List PushedFrame) → HasNoRecord stack → Leaves s stack None → IsFillNeeded s
 waits_short s [] waits leaving = absurd waits
 waits_short s (record_frame moment len None ∷ below) waits leaving = leaving.0
@@ -184,7 +161,8 @@ leaves_once s (record_frame moment len None ∷ below) bytes short served = serv
 leaves_once s (record_frame moment len (Some number) ∷ below) bytes short served = short
 leaves_once s (close_frame ∷ below) bytes short served = served
 
--- Two different events of one frame are never due at a time. A fill is one that is begun or lost.
+-- Two different events of one frame are never due at a time. In these names `fill` stands for both events of a fill,
+-- that it is begun or lost.
 module _ (s : Situation) (seen : ℕ) (holds : Holds s.wish seen s.window (is_wished s.history)) (below : List LineFrame)
     (frame : LineFrame) where
   written : (own : List ℕ) → frame.payload ≡ Some own → frame.payload ≡ None → ⊥
@@ -312,8 +290,8 @@ module _ (script : Script) (asked seen : ℕ) (below : List LineFrame) where
       → IsKept script.start asked seen events
       → Does below frame own next
       → Does below frame other last
-      → AllDue script asked events own
-      → AllDue script asked events other
+      → DueFrom script asked events own
+      → DueFrom script asked events other
       → HasGone (situation_after script asked (events ++ own)) below next
       → HasGone (situation_after script asked (events ++ other)) below last
       → own ≡ other
@@ -330,7 +308,7 @@ module _ (script : Script) (asked seen : ℕ) (below : List LineFrame) where
       does.1
       (subst (λ (e : RingEvent). Does below (frame_after frame e) other last) same did.1)
       due.1
-      (subst (λ (e : RingEvent). AllDue script asked (events ++ e ∷ []) other) same dues.1)
+      (subst (λ (e : RingEvent). DueFrom script asked (events ++ e ∷ []) other) same dues.1)
       (subst (λ (l : List RingEvent). HasGone (situation_after script asked l) below next)
       (sym (append_assoc events (x ∷ []) own)) gone)
       (subst (λ (l : List RingEvent). HasGone (situation_after script asked l) below last)

@@ -1,6 +1,6 @@
 -- The steps of a reader's take, from a ring that matches an account: each is one of the account's.
-use Rattle.std.proofs.Common.{◌≡◌, ◌≢◌, ℕ, suc, ◌+◌, ◌-◌, ◌%◌, ◌<◌, ◌≤◌, List, [], ◌∷◌, ◌++◌, length, get_or}
-use Rattle.std.proofs.Common.{refl, sym, ap, ◌∙◌, subst, inl, inr, mod-lt, arith}
+use Rattle.std.proofs.Common.{◌≡◌, ◌≢◌, ℕ, suc, ◌+◌, ◌-◌, ◌%◌, ◌<◌, ◌≤◌, List, [], ◌∷◌, ◌++◌, length, get_or, refl, sym}
+use Rattle.std.proofs.Common.{ap, ◌∙◌, subst, inl, inr, mod-lt, arith}
 use mathlib.Core.Logic.{dite}
 use native.Mathlib.Decide.{ℕ_discrete}
 use Rattle.trace_model.specs.Links.{Link, normal_link}
@@ -11,8 +11,7 @@ use Rattle.trace_model.specs.Ring.{swapping, TakenFill, Core, window_of}
 use Rattle.trace_model.specs.Steps.{reads, Answer, reading, empty, moving, page_taken, Step, Exchange}
 use Rattle.trace_model.proofs.Positions.{at_position}
 use Rattle.trace_model.proofs.steps.StepCases.{ReadStep, loads_header, loads_update, loads_owed, loads_passed}
-use Rattle.trace_model.proofs.steps.StepCases.{finds_none}
-use Rattle.trace_model.proofs.steps.StepCases.{finds_closed, swaps, swap_fails}
+use Rattle.trace_model.proofs.steps.StepCases.{finds_none, finds_closed, swaps, swap_fails}
 use Rattle.trace_model.proofs.steps.StepSound.{cases_of}
 use Rattle.text_model.specs.Script.{Script}
 use Rattle.ring_model.specs.KeptLinks.{HasMover, LinkKept, is_normal, is_header, is_update, ReaderKept}
@@ -24,8 +23,8 @@ use Rattle.ring_model.proofs.links.LinkFills.{normal_reports, header_reports, up
 use Rattle.ring_model.proofs.partition.RingsKept.{reached_kept, reached_further}
 use Rattle.world_model.specs.Lanes.{Lane, lane_behind, ReaderRun, HasTakeAnswer}
 use Rattle.line_model.specs.Due.{window_at}
-use Rattle.line_model.specs.Accounts.{Take, to_find, to_see, to_prepare, to_take, CpuState, IsMovedFor}
-use Rattle.line_model.specs.Accounts.{IsAtHint, IsMovedTo, GoesOn, EndsTake, ReadsOn}
+use Rattle.line_model.specs.Accounts.{Take, to_find, to_see, to_prepare, to_take, CpuState, IsMovedFor, IsAtHint}
+use Rattle.line_model.specs.Accounts.{IsMovedTo, GoesOn, EndsTake, ReadsOn}
 use Rattle.line_model.proofs.Standing.{FramesStand, take_of}
 use Rattle.line_model.proofs.StandingKept.{mover_told, told_mover}
 use Rattle.line_model.proofs.ReaderLines.{TakesNone, TakesOne, Stays, one_stays, by_case}

@@ -1,4 +1,5 @@
--- What the steps of a reader's lines make of its ring: whether a page is taken, and what the reader then knows.
+-- What a reader's steps leave as it was: the writer's part of the ring, the wish and the payloads; and what a store of
+-- the wish makes of it.
 use Rattle.std.proofs.Common.{◌≡◌, ℕ, ◌+◌, ◌<◌, List, [], ◌∷◌, ◌++◌, length, sym, ap, ◌∙◌, subst}
 use Rattle.trace_model.specs.Frames.{Frame}
 use Rattle.trace_model.specs.Ring.{ReaderPhase, loading_head, loading_done, storing_spare_link, swapping, TakenFill}

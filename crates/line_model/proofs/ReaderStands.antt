@@ -1,12 +1,10 @@
 -- The lines of a reader, from a ring that matches an account: they are lines of the account, and it matches again.
-use Rattle.std.proofs.Common.{◌≡◌, ℕ, ◌+◌, ◌<◌, ◌⊎◌, List, [], ◌∷◌, ◌++◌}
-use Rattle.std.proofs.Common.{length, refl, sym, ap, ◌∙◌, subst, ⊎_elim, arith}
+use Rattle.std.proofs.Common.{◌≡◌, ℕ, ◌+◌, ◌<◌, List, [], ◌∷◌, ◌++◌, length, refl, sym, ap, ◌∙◌, subst, ⊎_elim, arith}
 use Rattle.std.proofs.Common.{append_assoc, append-nil}
 use Rattle.std.proofs.lemmas.List.{length-append}
 use Rattle.trace_model.specs.Frames.{Frame}
 use Rattle.trace_model.specs.Window.{Window, RingEvent, takes}
-use Rattle.trace_model.specs.Ring.{Core}
-use Rattle.trace_model.specs.Ring.{window_of}
+use Rattle.trace_model.specs.Ring.{Core, window_of}
 use Rattle.trace_model.specs.ReaderSteps.{with_wish}
 use Rattle.trace_model.specs.Steps.{Exchange}
 use Rattle.trace_model.proofs.steps.StepSound.{cases_of}

@@ -1,13 +1,12 @@
 -- The ring of a CPU in a replay, beside that CPU in an account: when the one is as the other says; and what is to be
 -- shown of the frame on top.
-use Rattle.std.proofs.Common.{◌≡◌, ◌≢◌, ℕ, ◌<◌, ◌⊎◌, List, [], ◌∷◌, ◌++◌, length, Some, None}
-use Rattle.std.proofs.Common.{ap}
+use Rattle.std.proofs.Common.{◌≡◌, ◌≢◌, ℕ, ◌<◌, ◌⊎◌, List, [], ◌∷◌, ◌++◌, length, Some, None, ap}
 use Rattle.std.specs.Prelude.{⊤}
 use Rattle.trace_model.proofs.collections.Elements.{some_is}
 use Rattle.trace_model.specs.Window.{RingEvent}
 use Rattle.trace_model.specs.Frames.{for_close, waiting, left, Phase, idle, looking, claiming, looking_next, marking}
-use Rattle.trace_model.specs.Frames.{clearing, opening, releasing, wishing, noted_fill, owned_update}
-use Rattle.trace_model.specs.Frames.{owner, helper, Frame}
+use Rattle.trace_model.specs.Frames.{clearing, opening, releasing, wishing, noted_fill, owned_update, owner, helper}
+use Rattle.trace_model.specs.Frames.{Frame}
 use Rattle.trace_model.specs.Ring.{ReaderPhase, loading_head, loading_done, storing_spare_link, swapping, Core}
 use Rattle.trace_model.specs.Steps.{Exchange}
 use Rattle.text_model.specs.Script.{Script}

@@ -1,4 +1,5 @@
--- A ring beside an account: how many frames there are, which window its events lead to, and that its events go on.
+-- A ring beside an account: how many frames there are, which of them move the head, which window its events lead to,
+-- and that its events go on.
 use Rattle.std.proofs.Common.{◌≡◌, ◌≢◌, ℕ, zero, suc, ◌+◌, ◌-◌, ◌<◌, List, [], ◌∷◌, ◌++◌, length, drop, Some, refl, sym}
 use Rattle.std.proofs.Common.{ap, ◌∙◌, subst, arith, append-nil, inl, inr}
 use Rattle.trace_model.specs.History.{HistoryEvent}

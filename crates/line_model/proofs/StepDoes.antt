@@ -1,12 +1,11 @@
 -- What the frame on top does in one step, beside an account: what is to be shown, and of which steps.
 use Rattle.std.proofs.Common.{◌≡◌, ◌≢◌, ℕ, suc, ◌+◌, ◌-◌, Bool, true, false, List, [], ◌∷◌, length, drop, sym, ◌∙◌}
-use Rattle.std.proofs.Common.{subst}
-use Rattle.std.proofs.Common.{Option, Some, None, refl, ap, ⊎_elim, arith}
+use Rattle.std.proofs.Common.{subst, Option, Some, None, refl, ap, ⊎_elim, arith}
 use Rattle.std.specs.Prelude.{if◌then◌else◌, ◌==◌}
 use Rattle.trace_model.specs.History.{push, push_close, open_fill, reserve, leave, wished}
 use Rattle.trace_model.specs.Window.{Window, RingEvent, acts, closes, takes, loses}
-use Rattle.trace_model.specs.Frames.{Phase, idle, looking, claiming, looking_next, marking, clearing, opening}
-use Rattle.trace_model.specs.Frames.{owner, helper, releasing, wishing, noted_fill, Frame}
+use Rattle.trace_model.specs.Frames.{Phase, idle, looking, claiming, looking_next, marking, clearing, opening, owner}
+use Rattle.trace_model.specs.Frames.{helper, releasing, wishing, noted_fill, Frame}
 use Rattle.trace_model.specs.Ring.{Core, window_of}
 use Rattle.trace_model.specs.Steps.{Event, Answer, Step, closing_phase}
 use Rattle.text_model.specs.Script.{Script}

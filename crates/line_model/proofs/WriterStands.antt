@@ -1,6 +1,6 @@
 -- The lines of a writer, from a ring that matches an account: they are lines of the account, and it matches again.
-use Rattle.std.proofs.Common.{◌≡◌, ◌≢◌, ℕ, ◌≤◌, List, [], ◌∷◌, ◌++◌, length, Some, None, refl, sym}
-use Rattle.std.proofs.Common.{ap, ◌∙◌, subst, inl, inr, ⊎_elim, arith, append_assoc}
+use Rattle.std.proofs.Common.{◌≡◌, ◌≢◌, ℕ, ◌≤◌, List, [], ◌∷◌, ◌++◌, length, Some, None, refl, sym, ap, ◌∙◌, subst, inl}
+use Rattle.std.proofs.Common.{inr, ⊎_elim, arith, append_assoc}
 use Rattle.trace_model.specs.declared.limits.TheConstants.{MAX_FRAMES}
 use Rattle.trace_model.specs.History.{HistoryEvent, push, push_close}
 use Rattle.trace_model.specs.Frames.{Purpose, for_record, for_close, idle, noted_fill, Frame, WriteFault}
@@ -16,11 +16,9 @@ use Rattle.world_model.specs.Lanes.{Lane, FitsKind, lane_with, FrameRun, IsGone,
 use Rattle.world_model.specs.Lanes.{FinishesFrame, lacks_to_finish, finishes, PushesFrame, FinishesPushed, WritesFrame}
 use Rattle.line_model.specs.Due.{Situation, situation_after, IsDue}
 use Rattle.line_model.specs.Accounts.{Stage, resting, searching, moving, closing_fills, asking, off, LineFrame}
-use Rattle.line_model.specs.Accounts.{CpuState, Does}
-use Rattle.line_model.specs.Accounts.{HasGone, with_own, IsIdle, new_frame, IsRefused, Begins}
+use Rattle.line_model.specs.Accounts.{CpuState, Does, HasGone, with_own, IsIdle, new_frame, IsRefused, Begins}
 use Rattle.line_model.specs.Accounts.{refuses_frame, pushes_frame, Steps, with_top, StepsTop, FinishesTop, finishes_it}
-use Rattle.line_model.specs.Accounts.{WritesWhole, refuses_whole}
-use Rattle.line_model.specs.Accounts.{writes_it}
+use Rattle.line_model.specs.Accounts.{WritesWhole, refuses_whole, writes_it}
 use Rattle.line_model.specs.CallEvents.{IsRecordOnTop}
 use Rattle.line_model.specs.LineParts.{AreForRecords}
 use Rattle.line_model.proofs.Standing.{FramesStand, Stands, AreDue, IsFresh, StaysOrGoes, TopDoes}

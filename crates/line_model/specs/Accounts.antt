@@ -36,6 +36,11 @@ pub record LineFrame : Type 0 where
   pub payload : Option (List ℕ)
   pub stage : Stage
 
+-- one of these frames is moving the head, to begin this fill
+abbrev pub IsMovedFor : (fill : ℕ) → List LineFrame → Type 0
+IsMovedFor fill frames =
+    (frame : LineFrame) × Contains frames frame × (left : ℕ) × (frame.stage ≡ moving fill left)
+
 -- What the next step of a take is. to_find: the reader looks for the oldest fill. to_see: it has found it, and sees
 -- which fills are closed. to_prepare: it was closed, and is to be taken. to_take: it is taken, unless it was lost.
 pub data Take : Type 0 where
@@ -135,11 +140,6 @@ stage_after w below payload loses = moving w.opened 2
 stage_after w below payload (acts wished) = searching w.opened to_look
 stage_after w below payload _ = at_rest w below payload
 
--- one of these frames is moving the head, to begin this fill
-abbrev pub IsMovedFor : (fill : ℕ) → List LineFrame → Type 0
-IsMovedFor fill frames =
-    (frame : LineFrame) × Contains frames frame × (left : ℕ) × (frame.stage ≡ moving fill left)
-
 -- A step in this stage makes this event, if that is due and the frame's own: a resting frame that needs a fill, and can
 -- have one, makes none, and who searches begins no fill but the next one, and loses none for another.
 abbrev pub MayDo : Situation → Stage → RingEvent → Type 0
@@ -164,8 +164,8 @@ Finds s below fill (to_begin (suc left)) next =
     (next ≡ searching fill (to_begin left)) ⊎ (next ≡ searching fill (to_begin 0))
 
 -- Or it makes none, and leads to the stage `next`. A search is over if another frame began the fill. A move of the head
--- goes on all the same; one of its steps is left out if another frame has made it. Who asks, and finds no wish, closes
--- fills that were begun meanwhile, or is off.
+-- goes on all the same; one of its steps may be left out, since another frame may have made it, and whether one has
+-- isn't said. Who asks, and finds no wish, closes fills that were begun meanwhile, or is off.
 abbrev pub MayPass : Situation → (below : List LineFrame) → Option (List ℕ) → Stage → Stage → Type 0
 MayPass s below payload resting next =
     (next ≡ searching s.window.opened to_look) × IsFillNeeded s × (HasNoFill s → ⊥)
