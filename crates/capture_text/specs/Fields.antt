@@ -1,0 +1,109 @@
+-- How the fields of a record are printed. docs/formats/program.md, "Fields".
+use Rattle.std.specs.Prelude.{ℕ, ℤ, Bool, true, false, List, [], ◌∷◌, ◌++◌, map, flat_map, codes, Option, Some, None}
+use Rattle.std.specs.Prelude.{is_none, unsigned_abs, if◌then◌else◌}
+use Rattle.std.specs.Fmt.{signed_decimal}
+use Rattle.std.specs.List.{list_any}
+use Rattle.text_model.specs.Text.{hex_text, space}
+use Rattle.text_values.specs.Digits.{hexadecimal, pairs_of}
+use Rattle.event_fields.specs.declared.field.NumberKind.{NumberKind}
+use Rattle.event_fields.specs.declared.field.NumberKind.TheVariants.{Signed, Unsigned, Word, Address}
+use Rattle.event_fields.specs.Lines.{EventField}
+use Rattle.event_fields.specs.Shown.{is_shown, numbers_of_kind}
+use Rattle.event_fields.specs.Values.{FieldValue, number, numbers, text, bytes, value_of}
+use Rattle.capture_text.specs.declared.form.Form.{Form}
+use Rattle.capture_text.specs.declared.form.Form.TheVariants.{Text, Json}
+use Rattle.capture_text.specs.Quoting.{quotation_mark, quoted}
+
+-- texts with a comma between two
+abbrev pub joined : List (List ℕ) → List ℕ
+joined [] = []
+joined (first ∷ others) = first ++ flat_map (λ other. 44 ∷ other) others
+
+-- a comma, unless what comes is the first
+abbrev pub comma : (is_first : Bool) → List ℕ
+comma true = []
+comma false = codes ","
+
+-- texts with a comma between two, and a comma before them unless they are the first
+abbrev pub continued : (is_first : Bool) → List (List ℕ) → List ℕ
+continued is_first [] = []
+continued is_first (text ∷ texts) = comma is_first ++ joined (text ∷ texts)
+
+-- texts with a comma between two, in brackets
+abbrev pub bracketed : List (List ℕ) → List ℕ
+bracketed texts = codes "[" ++ joined texts ++ codes "]"
+
+-- a name between quotation marks
+abbrev pub marked : List ℕ → List ℕ
+marked name = quotation_mark ∷ name ++ quotation_mark ∷ []
+
+-- a field that is shown and has no value in the payload
+unfoldable pub is_uncut : (payload : List ℕ) → EventField → Bool
+is_uncut payload field = if is_shown field then is_none (value_of field.layout payload) else false
+
+-- one of the fields is such
+abbrev pub has_uncut : (payload : List ℕ) → List EventField → Bool
+has_uncut payload fields = list_any (is_uncut payload) fields
+
+-- a number of a kind
+abbrev pub number_text : Form → NumberKind → ℤ → List ℕ
+number_text form Signed n = signed_decimal n
+number_text form Unsigned n = signed_decimal n
+number_text Text Word n = hexadecimal (unsigned_abs n)
+number_text Text Address n = hexadecimal (unsigned_abs n)
+number_text Json Word n = signed_decimal n
+number_text Json Address n = marked (hexadecimal (unsigned_abs n))
+
+-- a value, whose numbers are of this kind
+abbrev pub value_text : Form → NumberKind → FieldValue → List ℕ
+value_text form kind (number n) = number_text form kind n
+value_text form kind (numbers ns) = bracketed (map (number_text form kind) ns)
+value_text form kind (text given) = quoted given
+value_text Text kind (bytes given) = hex_text given
+value_text Json kind (bytes given) = marked (pairs_of given)
+
+-- ---- in a line of text
+
+-- a field's value, or `!` if it has none in the payload
+abbrev pub value_or_mark : NumberKind → Option FieldValue → List ℕ
+value_or_mark kind (Some value) = value_text Text kind value
+value_or_mark kind None = codes "!"
+
+-- a field that is shown: a space, its name, `=` and its value
+unfoldable pub field_text : (payload : List ℕ) → EventField → List ℕ
+field_text payload field =
+    if is_shown field
+    then space ∷ field.name ++ 61 ∷ value_or_mark (numbers_of_kind field.layout.kind) (value_of field.layout payload)
+    else []
+
+-- The fields of a payload that are shown, in their order.
+abbrev pub fields_text : (payload : List ℕ) → List EventField → List ℕ
+fields_text payload fields = flat_map (field_text payload) fields
+
+-- ---- in a JSON line
+
+-- the member of a field that has a value, or none
+abbrev pub member_or_none : (name : List ℕ) → NumberKind → Option FieldValue → List (List ℕ)
+member_or_none name kind (Some value) = (marked name ++ codes ":" ++ value_text Json kind value) ∷ []
+member_or_none name kind None = []
+
+-- the member of a field that is shown and has a value, or none
+unfoldable pub json_member : (payload : List ℕ) → EventField → List (List ℕ)
+json_member payload field =
+    if is_shown field then member_or_none field.name (numbers_of_kind field.layout.kind) (value_of field.layout payload)
+    else []
+
+-- the name of a field that is shown and has no value, or none
+unfoldable pub json_uncut : (payload : List ℕ) → EventField → List (List ℕ)
+json_uncut payload field = if is_uncut payload field then marked field.name ∷ [] else []
+
+-- the names of the fields that have no value, if there are any
+abbrev pub uncut_part : List (List ℕ) → List ℕ
+uncut_part [] = []
+uncut_part (name ∷ names) = codes ",\"uncut\":" ++ bracketed (name ∷ names)
+
+-- The fields of a payload that are shown and have values, in their order, and the names of those that have none.
+unfoldable pub json_fields : (payload : List ℕ) → List EventField → List ℕ
+json_fields payload fields =
+    codes ",\"fields\":{" ++ joined (flat_map (json_member payload) fields) ++ codes "}"
+    ++ uncut_part (flat_map (json_uncut payload) fields)
