@@ -4,7 +4,9 @@ ghost use Rattle.std.specs.Option.{option_map};
 ghost use Rattle.event_fields.specs.Declarations.{declaration_seen, declaration_of, typed_in, array_in, direct_in};
 ghost use Rattle.event_fields.specs.Declarations.{elsewhere_in, declaration_in};
 
-use crate::texts::{after, before, cut_at, cut_at_last_space, has_no_bracket, is_name, number32_of};
+use crate::texts::{
+    after, before, cut_at, cut_at_last_space, has_no_bracket, is_name, number32_of,
+};
 
 /// How the bytes of a field are declared.
 #[derive(Clone, Copy)]

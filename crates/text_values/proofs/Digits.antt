@@ -1,7 +1,11 @@
--- Hexadecimal digits: those of the kit's table are those of the definition.
-use Rattle.std.proofs.Common.{Bool, ◌≡◌, ℕ, zero, suc, ◌+◌, ◌/◌, ◌%◌, ◌<◌, ◌==◌, true, List, [], ◌∷◌, length, get_or}
-use Rattle.std.proofs.Common.{refl, ap, ◌∙◌, arith}
+-- Hexadecimal digits: those of the kit's table are those of the definition; and a number's, from the last one on.
+use Rattle.std.proofs.Common.{Bool, ◌≡◌, ℕ, zero, suc, ◌+◌, ◌-◌, ◌*◌, ◌/◌, ◌%◌, ◌^◌, ◌<◌, ◌≤◌, ◌==◌, true, false, List}
+use Rattle.std.proofs.Common.{[], ◌∷◌, length, get_or, set, drop, refl, sym, ap, ◌∙◌, arith, rules}
+use Rattle.std.proofs.Math.ListN.{drop_of_length-le}
+use Rattle.std.proofs.Math.Nat.{pow-suc}
+use Rattle.std.proofs.lemmas.List.{drop-set}
 use Rattle.std.specs.Char.{digit_char}
+use Rattle.std.specs.Fmt.{digits, digits_onto}
 use Rattle.std.specs.List.{list_all, enumerate_from}
 use Rattle.std.proofs.lemmas.Bool.{and_parts, eqb-true}
 use Rattle.hex.specs.Hex.{encode_lower, encode_with, lower_digits}
@@ -42,3 +46,69 @@ digits_are (b ∷ bytes) small =
     let low = digit_is (b % 16) (omega arith) in
     let rest = digits_are bytes (λ k. small (suc k)) in
     cc
+
+-- ---- of a number
+
+is_zero : (n : ℕ) → n < 1 → (n == 0) ≡ true
+is_zero zero none = refl
+is_zero (suc n) none = absurd (omega arith)
+
+is_more : (n : ℕ) → 0 < n → (n == 0) ≡ false
+is_more n some = search (rules, some)
+
+-- the last digit, before those that are there, and the others after it
+pub last_digit : (k n : ℕ) (rest : List ℕ) → 16 ≤ n
+    → digits_onto (suc k) 16 false n rest ≡ digits_onto k 16 false (n / 16) (digit_char (n % 16) ∷ rest)
+last_digit k n rest more = let some = is_more (n / 16) (omega arith) in rw some refl
+
+-- the first digit
+pub first_digit : (k n : ℕ) (rest : List ℕ) → n < 16 → digits_onto (suc k) 16 false n rest ≡ digit_char n ∷ rest
+first_digit k n rest one =
+    let none = is_zero (n / 16) (omega arith) in
+    let same : n % 16 ≡ n = omega arith in
+    rw (none, same) refl
+
+-- more than one digit
+pub room_before : (at n : ℕ) → n < 16 ^ (at + 1) → 16 ≤ n → 0 < at
+room_before zero n fits more = absurd (omega (arith, fits, more))
+room_before (suc at) n fits more = omega arith
+
+pub room_after : (at n : ℕ) → n < 16 ^ (at + 1) → 16 ≤ n → n / 16 < 16 ^ (at - 1 + 1)
+room_after zero n fits more = absurd (omega (arith, fits, more))
+room_after (suc at) n fits more =
+    let here : suc at - 1 + 1 ≡ suc at = omega arith in
+    let more_by_one : suc at + 1 ≡ suc (suc at) = omega arith in
+    let wide : 16 ^ (suc at + 1) ≡ 16 ^ suc at * 16 = ap (λ (k : ℕ). 16 ^ k) more_by_one ∙ pow-suc 16 (suc at) in
+    rw here (omega (arith, fits, wide))
+
+-- no digit is there yet
+pub no_digits : (n : ℕ) (place : List ℕ) → length place ≡ 16
+    → digits_onto 64 16 false n (drop 16 place) ≡ digits 16 false n
+unfolding digits
+no_digits n place wide = ap (digits_onto 64 16 false n) (drop_of_length-le place {i = 16} (omega (arith, wide)))
+
+-- the last digit is put before those that are there
+pub one_more : (at n d : ℕ) (place all : List ℕ) → 0 < at → at < length place → 16 ≤ n → d ≡ digit_char (n % 16)
+    → digits_onto (at + 49) 16 false n (drop (at + 1) place) ≡ all
+    → digits_onto (at - 1 + 49) 16 false (n / 16) (drop (at - 1 + 1) (set place at d)) ≡ all
+one_more at n d place all some inside more is so_far =
+    let here : at - 1 + 1 ≡ at = omega (arith, some) in
+    let fuel : suc (at - 1 + 49) ≡ at + 49 = omega (arith, some) in
+    let rest = drop (at + 1) place in
+    ap (digits_onto (at - 1 + 49) 16 false (n / 16))
+    (ap (λ (i : ℕ). drop i (set place at d)) here ∙ drop-set place at d inside ∙ ap (λ (x : ℕ). x ∷ rest) is)
+    ∙ sym (last_digit (at - 1 + 49) n rest more)
+    ∙ ap (λ (k : ℕ). digits_onto k 16 false n rest) fuel
+    ∙ so_far
+
+-- the first digit is put before the others
+pub all_there : (at n d : ℕ) (place all : List ℕ) → at < length place → n < 16 → d ≡ digit_char n
+    → digits_onto (at + 49) 16 false n (drop (at + 1) place) ≡ all → drop at (set place at d) ≡ all
+all_there at n d place all inside one is so_far =
+    let fuel : suc (at + 48) ≡ at + 49 = omega arith in
+    let rest = drop (at + 1) place in
+    drop-set place at d inside
+    ∙ ap (λ (x : ℕ). x ∷ rest) is
+    ∙ sym (first_digit (at + 48) n rest one)
+    ∙ ap (λ (k : ℕ). digits_onto k 16 false n rest) fuel
+    ∙ so_far

@@ -60,7 +60,7 @@ still_failed start contents failed text old new cut has = record {
 }
 
 -- more is added to what waits
-pub added : (start contents : Option (List ℕ)) (failed : Bool) (text bytes : List ℕ) (old new : TextBuffer)
+added : (start contents : Option (List ℕ)) (failed : Bool) (text bytes : List ℕ) (old new : TextBuffer)
     → waiting new ≡ waiting old ++ bytes → HasSent start contents failed text old
     → HasSent start contents failed (text ++ bytes) new
 added start contents failed text bytes old new more has = record {

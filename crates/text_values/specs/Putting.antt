@@ -38,3 +38,7 @@ module _ {W : Type 0} {g : Ghosts W} where
   -- these bytes were put after whatever was put before
   abbrev pub Puts : List ℕ → (old new : Out W g) → Type 0
   Puts bytes old new = (start : Start) (text : List ℕ) → HasPut start text old → HasPut start (text ++ bytes) new
+
+  -- the writer is still that of the text's start
+  abbrev pub KeepsWriter : (old new : Out W g) → Type 0
+  KeepsWriter old new = (start : Start) (text : List ℕ) → HasPut start text old → HasWriter start new

@@ -2,8 +2,9 @@
 ghost use Rattle.std.specs.Prelude.{◌≡◌};
 
 use crate::buffer::{BUFFER_BYTES, TextBuffer};
+use crate::values::{HEX_DIGITS, write_hexadecimal};
 use command_io::{OutputFault, Sink};
-use itoa::write_digits;
+use itoa::{Buffer, write_digits};
 
 /// How many bytes have digits that fill the buffer.
 const HEX_PIECE: usize = BUFFER_BYTES / 2;
@@ -21,14 +22,15 @@ pub struct Out<'w, W: Sink> {
 }
 
 impl<'w, W: Sink> Out<'w, W> {
-    ghost use Rattle.std.specs.Prelude.{◌≡◌, ◌≤◌, ◌*◌, ◌↔◌, ℕ, List, [], true, false, length, OnOk, OnErr, IsErr};
+    ghost use Rattle.std.specs.Prelude.{◌≡◌, ◌≤◌, ◌*◌, ◌++◌, ◌↔◌, ℕ, List, [], true, false, length, OnOk, OnErr, IsErr};
     ghost use Rattle.std.specs.Io.KnownBytes.{Appends};
-    ghost use Rattle.std.specs.Fmt.{decimal};
+    ghost use Rattle.std.specs.Fmt.{decimal, signed_decimal};
     ghost use Rattle.command_io.specs.CommandRun.{AppendsPrefix};
     ghost use Rattle.text_values.specs.declared.buffer.TheConstants.{BUFFER_BYTES};
-    ghost use Rattle.text_values.specs.Digits.{pairs_of};
+    ghost use Rattle.text_model.specs.Text.{hex_text};
+    ghost use Rattle.text_values.specs.Digits.{pairs_of, hexadecimal};
     ghost use Rattle.text_values.specs.Putting.{Start, writer_of, contents_of, has_failed, start_of};
-    ghost use Rattle.text_values.specs.Putting.{HasWriter, HasPut, Puts};
+    ghost use Rattle.text_values.specs.Putting.{HasPut, Puts, KeepsWriter};
 
     /// Nothing is put yet, and what the buffer had is forgotten.
     pub fn new(buffer: &'w mut TextBuffer, writer: &'w mut W) -> Out<'w, W>
@@ -90,6 +92,32 @@ impl<'w, W: Sink> Out<'w, W> {
         self.put(&digits[start..]);
     }
 
+    /// Puts a number after a text.
+    pub fn put_numbered(&mut self, before: &[u8], number: u64)
+        ensures { Puts (before.now ++ decimal number) self.old self.new }
+    {
+        self.put(before);
+        self.put_number(number);
+    }
+
+    /// Puts a number that may be negative.
+    pub fn put_signed(&mut self, number: i64)
+        ensures { Puts (signed_decimal number) self.old self.new }
+    {
+        let mut digits = Buffer::new();
+        self.put(digits.format(number).as_bytes());
+    }
+
+    /// Puts a number in hexadecimal, after `0x`.
+    pub fn put_hexadecimal(&mut self, number: u64)
+        ensures { Puts (hexadecimal number) self.old self.new }
+    {
+        let mut digits = [0; HEX_DIGITS];
+        let start = write_hexadecimal(number, &mut digits);
+        self.put(b"0x");
+        self.put(&digits[start..]);
+    }
+
     /// Puts the digits of bytes, for which an empty buffer has room, after what waits is written.
     fn put_hex_piece(&mut self, bytes: &[u8])
         requires { 2 * length bytes.now ≤ BUFFER_BYTES }
@@ -122,17 +150,29 @@ impl<'w, W: Sink> Out<'w, W> {
         }
     }
 
+    /// Puts a payload in lower-case hexadecimal, `-` if it is empty.
+    pub fn put_payload(&mut self, bytes: &[u8])
+        ensures { Puts (hex_text bytes.now) self.old self.new }
+    {
+        if bytes.is_empty() {
+            self.put(b"-");
+        } else {
+            self.put_hex(bytes);
+        }
+    }
+
     /// Writes what waits. After a write that failed a beginning of what was put is written, and not all.
     pub fn finish(&mut self) -> Result<(), OutputFault>
-        ensures writer { (start : Start) (text : List ℕ) → HasPut start text self.old → HasWriter start self.new }
+        ensures writer { KeepsWriter self.old self.new }
         ensures all { (start : Start) (text : List ℕ) → HasPut start text self.old →
             OnOk result (Appends start.contents (contents_of self.new) text) }
         ensures prefix { (start : Start) (text : List ℕ) → HasPut start text self.old →
             OnErr result (AppendsPrefix start.contents (contents_of self.new) text) }
         ensures fault { (has_failed self.new ≡ true) ↔ IsErr result }
     {
-        self.write_out();
-        if self.buffer.has_failed() {
+        let buffer = &mut *self.buffer;
+        buffer.write_out(self.writer);
+        if buffer.has_failed() {
             return Err(OutputFault);
         }
         Ok(())

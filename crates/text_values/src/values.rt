@@ -1,10 +1,11 @@
 //! Numbers and payloads as text.
 ghost use Rattle.std.specs.Char.{digit_char};
-ghost use Rattle.std.specs.Prelude.{◌≡◌, ◌<◌, ◌++◌, take, IfOk, OnOk, OnErr};
-ghost use Rattle.std.specs.Fmt.{decimal};
+ghost use Rattle.std.specs.Prelude.{◌≡◌, ◌<◌, ◌≤◌, ◌++◌, false, take, drop, IfOk, OnOk, OnErr};
+ghost use Rattle.std.specs.Fmt.{decimal, digits};
 ghost use Rattle.trace_model.specs.Sublist.{IsPrefix};
 ghost use Rattle.text_model.specs.Text.{hex_text};
 ghost use Rattle.text_values.specs.Digits.{pair_of, pairs_of};
+ghost use Rattle.text_values.specs.declared.values.TheConstants.{HEX_DIGITS};
 
 use itoa::Buffer;
 use trace_model::NoMemory;
@@ -91,6 +92,25 @@ fn digit(value: u8) -> u8
     } else {
         b'a' - 10 + value
     }
+}
+
+/// How many hexadecimal digits a number of 64 bits has at most.
+pub(crate) const HEX_DIGITS: usize = 16;
+
+/// Writes the hexadecimal digits of a number, so that they end where `place` does, and returns where they start.
+pub(crate) fn write_hexadecimal(number: u64, place: &mut [u8; HEX_DIGITS]) -> usize
+    ensures start { result ≤ HEX_DIGITS }
+    ensures written { drop result place.new ≡ digits 16 false number }
+{
+    let mut left = number;
+    let mut at = HEX_DIGITS - 1;
+    while left >= 16 {
+        place[at] = digit((left % 16) as u8);
+        at -= 1;
+        left /= 16;
+    }
+    place[at] = digit(left as u8);
+    at
 }
 
 /// The digits of a byte, without the table.

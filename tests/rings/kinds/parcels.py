@@ -106,11 +106,13 @@ def cut_rows(source):
         yield row
 
 
-def tried(program, seed=1):
+def tried(program, seed=1, share=1):
+    """Tries the lists, the cuts, and of the forged parcels each one of `share`."""
     source = Source(seed)
     lists = [*map(source.row, range(LISTS))]
     uncounted = [*forged_rows(uncounted_parcel())]
     forged = [*uncounted, *forged_rows(counted_parcel())]
+    forged = forged[:: int(share)]
     cut = [*cut_rows(source)]
     check_often(lists)
     check_parts(uncounted)
