@@ -1,6 +1,7 @@
 mod Texts
 mod Plain
 mod Runs
+mod Commas
 mod Damages
 mod Places
 mod Pieces

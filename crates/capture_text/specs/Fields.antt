@@ -19,6 +19,11 @@ abbrev pub joined : List (List ℕ) → List ℕ
 joined [] = []
 joined (first ∷ others) = first ++ flat_map (λ other. 44 ∷ other) others
 
+-- whether there is no text
+abbrev pub is_no_text : List (List ℕ) → Bool
+is_no_text [] = true
+is_no_text (text ∷ texts) = false
+
 -- a comma, unless what comes is the first
 abbrev pub comma : (is_first : Bool) → List ℕ
 comma true = []
@@ -38,7 +43,7 @@ abbrev pub marked : List ℕ → List ℕ
 marked name = quotation_mark ∷ name ++ quotation_mark ∷ []
 
 -- a field that is shown and has no value in the payload
-unfoldable pub is_uncut : (payload : List ℕ) → EventField → Bool
+abbrev pub is_uncut : (payload : List ℕ) → EventField → Bool
 is_uncut payload field = if is_shown field then is_none (value_of field.layout payload) else false
 
 -- one of the fields is such
@@ -69,12 +74,14 @@ abbrev pub value_or_mark : NumberKind → Option FieldValue → List ℕ
 value_or_mark kind (Some value) = value_text Text kind value
 value_or_mark kind None = codes "!"
 
--- a field that is shown: a space, its name, `=` and its value
-unfoldable pub field_text : (payload : List ℕ) → EventField → List ℕ
-field_text payload field =
-    if is_shown field
-    then space ∷ field.name ++ 61 ∷ value_or_mark (numbers_of_kind field.layout.kind) (value_of field.layout payload)
-    else []
+-- a space, the name of a field, `=` and its value
+abbrev pub shown_text : (payload : List ℕ) → EventField → List ℕ
+shown_text payload field =
+    space ∷ field.name ++ 61 ∷ value_or_mark (numbers_of_kind field.layout.kind) (value_of field.layout payload)
+
+-- the same, if the field is shown
+abbrev pub field_text : (payload : List ℕ) → EventField → List ℕ
+field_text payload field = if is_shown field then shown_text payload field else []
 
 -- The fields of a payload that are shown, in their order.
 abbrev pub fields_text : (payload : List ℕ) → List EventField → List ℕ
@@ -88,13 +95,13 @@ member_or_none name kind (Some value) = (marked name ++ codes ":" ++ value_text 
 member_or_none name kind None = []
 
 -- the member of a field that is shown and has a value, or none
-unfoldable pub json_member : (payload : List ℕ) → EventField → List (List ℕ)
+abbrev pub json_member : (payload : List ℕ) → EventField → List (List ℕ)
 json_member payload field =
     if is_shown field then member_or_none field.name (numbers_of_kind field.layout.kind) (value_of field.layout payload)
     else []
 
 -- the name of a field that is shown and has no value, or none
-unfoldable pub json_uncut : (payload : List ℕ) → EventField → List (List ℕ)
+abbrev pub json_uncut : (payload : List ℕ) → EventField → List (List ℕ)
 json_uncut payload field = if is_uncut payload field then marked field.name ∷ [] else []
 
 -- the names of the fields that have no value, if there are any
@@ -103,7 +110,7 @@ uncut_part [] = []
 uncut_part (name ∷ names) = codes ",\"uncut\":" ++ bracketed (name ∷ names)
 
 -- The fields of a payload that are shown and have values, in their order, and the names of those that have none.
-unfoldable pub json_fields : (payload : List ℕ) → List EventField → List ℕ
+abbrev pub json_fields : (payload : List ℕ) → List EventField → List ℕ
 json_fields payload fields =
     codes ",\"fields\":{" ++ joined (flat_map (json_member payload) fields) ++ codes "}"
     ++ uncut_part (flat_map (json_uncut payload) fields)

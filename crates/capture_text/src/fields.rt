@@ -1,13 +1,13 @@
 //! The fields of a record.
-ghost use Rattle.std.specs.Prelude.{◌≡◌, ◌∷◌, ◌&&◌, IsTrue, pos, is_empty, map, flat_map, unsigned_abs};
+ghost use Rattle.std.specs.Prelude.{◌≡◌, ◌∷◌, ◌&&◌, pos, map, flat_map, is_none, unsigned_abs};
 ghost use Rattle.std.specs.Fmt.{signed_decimal};
 ghost use Rattle.event_fields.specs.Lines.{field_seen};
 ghost use Rattle.event_fields.specs.Numbers.{number_seen};
-ghost use Rattle.event_fields.specs.Shown.{is_shown};
-ghost use Rattle.event_fields.specs.Values.{numbers_seen, value_seen};
+ghost use Rattle.event_fields.specs.Values.{bytes, numbers_seen, value_of, value_seen};
 ghost use Rattle.text_values.specs.Putting.{Puts};
-ghost use Rattle.capture_text.specs.Fields.{marked, comma, joined, continued, is_uncut, has_uncut, number_text};
-ghost use Rattle.capture_text.specs.Fields.{value_text, field_text, fields_text, json_member, json_uncut, json_fields};
+ghost use Rattle.capture_text.specs.Fields.{marked, comma, joined, continued, is_no_text, is_uncut, has_uncut};
+ghost use Rattle.capture_text.specs.Fields.{number_text, value_text, shown_text, field_text, fields_text};
+ghost use Rattle.capture_text.specs.Fields.{json_member, json_uncut, json_fields};
 
 use crate::form::Form;
 use crate::quoting::put_quoted;
@@ -62,12 +62,7 @@ fn put_number<W: Sink>(out: &mut Out<'_, W>, form: Form, kind: NumberKind, numbe
 }
 
 /// Puts numbers of this kind, each after a comma.
-fn put_others<W: Sink>(
-    out: &mut Out<'_, W>,
-    form: Form,
-    kind: NumberKind,
-    numbers: Numbers<'_>,
-)
+fn put_others<W: Sink>(out: &mut Out<'_, W>, form: Form, kind: NumberKind, numbers: Numbers<'_>)
     ensures { Puts (flat_map (λ n. 44 ∷ number_text form kind n) (numbers_seen numbers.entry)) out.old out.new }
 {
     let mut left = numbers;
@@ -79,12 +74,7 @@ fn put_others<W: Sink>(
 }
 
 /// Puts numbers of this kind in brackets, with a comma between two.
-fn put_numbers<W: Sink>(
-    out: &mut Out<'_, W>,
-    form: Form,
-    kind: NumberKind,
-    numbers: Numbers<'_>,
-)
+fn put_numbers<W: Sink>(out: &mut Out<'_, W>, form: Form, kind: NumberKind, numbers: Numbers<'_>)
     ensures { Puts (value_text form kind (value_seen (Value.Numbers numbers.entry))) out.old out.new }
 {
     out.put(b"[");
@@ -126,10 +116,8 @@ fn put_value<W: Sink>(out: &mut Out<'_, W>, form: Form, kind: NumberKind, value:
 /// Puts a space, the name of a field, `=` and its value, or `!` if it has none in the payload. Answers whether it has
 /// none.
 fn put_shown<W: Sink>(out: &mut Out<'_, W>, field: &Field, payload: &[u8]) -> bool
-    ensures text { IsTrue (is_shown (field_seen field.now))
-        → Puts (field_text payload.now (field_seen field.now)) out.old out.new }
-    ensures uncut { IsTrue (is_shown (field_seen field.now))
-        → result ≡ is_uncut payload.now (field_seen field.now) }
+    ensures text { Puts (shown_text payload.now (field_seen field.now)) out.old out.new }
+    ensures uncut { result ≡ is_none (value_of field.now.layout payload.now) }
 {
     out.put(b" ");
     out.put(&field.name);
@@ -155,11 +143,7 @@ fn put_field<W: Sink>(out: &mut Out<'_, W>, field: &Field, payload: &[u8]) -> bo
 }
 
 /// Puts the fields that are shown, in their order, and answers whether one of them has no value in the payload.
-pub(crate) fn put_fields<W: Sink>(
-    out: &mut Out<'_, W>,
-    fields: &[Field],
-    payload: &[u8],
-) -> bool
+pub(crate) fn put_fields<W: Sink>(out: &mut Out<'_, W>, fields: &[Field], payload: &[u8]) -> bool
     ensures text { Puts (fields_text payload.now (map field_seen fields.now)) out.old out.new }
     ensures uncut { result ≡ has_uncut payload.now (map field_seen fields.now) }
 {
@@ -192,14 +176,9 @@ fn put_comma<W: Sink>(out: &mut Out<'_, W>, is_first: bool)
 
 /// Puts the member of a field that is shown and has a value in the payload, after a comma if it isn't the first. Answers
 /// whether a member is still to be the first.
-fn put_member<W: Sink>(
-    out: &mut Out<'_, W>,
-    is_first: bool,
-    field: &Field,
-    payload: &[u8],
-) -> bool
+fn put_member<W: Sink>(out: &mut Out<'_, W>, is_first: bool, field: &Field, payload: &[u8]) -> bool
     ensures text { Puts (continued is_first (json_member payload.now (field_seen field.now))) out.old out.new }
-    ensures first { result ≡ (is_first && is_empty (json_member payload.now (field_seen field.now))) }
+    ensures first { result ≡ (is_first && is_no_text (json_member payload.now (field_seen field.now))) }
 {
     if !field.is_shown() {
         return is_first;
@@ -225,7 +204,6 @@ fn put_members<W: Sink>(out: &mut Out<'_, W>, fields: &[Field], payload: &[u8])
 }
 
 /// Whether a field is shown and has no value in the payload.
-#[tactic(auto, unfolding(crate::specs::Fields::is_uncut))]
 fn is_uncut(field: &Field, payload: &[u8]) -> bool
     ensures { result ≡ is_uncut payload.now (field_seen field.now) }
 {
@@ -253,7 +231,7 @@ fn put_uncut_name<W: Sink>(
     payload: &[u8],
 ) -> bool
     ensures text { Puts (continued is_first (json_uncut payload.now (field_seen field.now))) out.old out.new }
-    ensures first { result ≡ (is_first && is_empty (json_uncut payload.now (field_seen field.now))) }
+    ensures first { result ≡ (is_first && is_no_text (json_uncut payload.now (field_seen field.now))) }
 {
     if !is_uncut(field, payload) {
         return is_first;
