@@ -5,7 +5,7 @@ use Rattle.clap.specs.Words.{Row, Text, first_of, one_of}
 use Rattle.clap.proofs.OnLiterals.{clap_on_literals}
 use Rattle.command_line.proofs.Names.{collect_is_not_recover, first_letter}
 use Rattle.command_line.specs.Calls.{Asked, AsksFor, AreUnread, IsAsked, SaysFlag, asked_of, files_matched}
-use Rattle.command_line.specs.Calls.{page_matched, usual}
+use Rattle.command_line.specs.Calls.{page_matched, without_options}
 use Rattle.command_line.specs.CommandLine.{IsParseOf, IsAccepted, names_command, rows_named}
 use Rattle.command_line.specs.declared.call.Call.{Call}
 use Rattle.command_line.specs.declared.call.Call.TheVariants.{Replay, Run, Steps, Dump, Collect, Recover, Version}
@@ -76,6 +76,7 @@ same_flag rows name is_given true says is = says.0 is
 same_flag rows name is_given false says is = says.1 is
 
 true_is_not_false : Some (codes "true") ≡ Some (codes "false") → ⊥
+-- their first letters are t and f
 true_is_not_false same = let letters : 116 ≡ 102 = ap first_letter same in omega (arith, letters)
 
 same_names : (rows : List Row) (asked : Asked) (formats : Option Text) (wanted : Bool)
@@ -146,7 +147,7 @@ abbrev collect_words : (first : List ℕ) → List Text
 collect_words first = first ∷ codes "collect" ∷ codes "a" ∷ codes "b" ∷ []
 
 abbrev collect_asked : Asked
-collect_asked = usual ((0, codes "a") ∷ (1, codes "b") ∷ [])
+collect_asked = without_options ((0, codes "a") ∷ (1, codes "b") ∷ [])
 
 collect_calls : (first : List ℕ) → Calls (collect_words first) collect_asked
 unfolding clap_on_literals names_command rows_named
@@ -160,7 +161,7 @@ abbrev cpu_words : (first : List ℕ) → List Text
 cpu_words first = first ∷ codes "collect" ∷ codes "3=a" ∷ codes "-" ∷ []
 
 abbrev cpu_asked : Asked
-cpu_asked = usual ((3, codes "a") ∷ (1, codes "-") ∷ [])
+cpu_asked = without_options ((3, codes "a") ∷ (1, codes "-") ∷ [])
 
 cpu_calls : (first : List ℕ) → Calls (cpu_words first) cpu_asked
 unfolding clap_on_literals names_command rows_named
@@ -174,7 +175,7 @@ abbrev flags_words : (first : List ℕ) → List Text
 flags_words first = first ∷ codes "collect" ∷ codes "--json" ∷ codes "--names" ∷ codes "a" ∷ []
 
 abbrev flags_asked : Asked
-flags_asked = record (usual ((0, codes "a") ∷ [])) { names = true; json = true }
+flags_asked = record (without_options ((0, codes "a") ∷ [])) { names = true; json = true }
 
 flags_calls : (first : List ℕ) → Calls (flags_words first) flags_asked
 unfolding clap_on_literals names_command rows_named
@@ -188,7 +189,7 @@ abbrev page_words : (first : List ℕ) → List Text
 page_words first = first ∷ codes "collect" ∷ codes "--page" ∷ codes "8192" ∷ codes "a" ∷ []
 
 abbrev page_asked : Asked
-page_asked = record (usual ((0, codes "a") ∷ [])) { page = Some 8192 }
+page_asked = record (without_options ((0, codes "a") ∷ [])) { page = Some 8192 }
 
 page_calls : (first : List ℕ) → Calls (page_words first) page_asked
 unfolding clap_on_literals names_command rows_named
@@ -202,7 +203,8 @@ abbrev formats_words : (first : List ℕ) → List Text
 formats_words first = first ∷ codes "collect" ∷ codes "a" ∷ codes "--formats" ∷ codes "d" ∷ codes "b" ∷ []
 
 abbrev formats_asked : Asked
-formats_asked = record (usual ((0, codes "a") ∷ (1, codes "b") ∷ [])) { names = true; formats = Some (codes "d") }
+formats_asked =
+    record (without_options ((0, codes "a") ∷ (1, codes "b") ∷ [])) { names = true; formats = Some (codes "d") }
 
 formats_calls : (first : List ℕ) → Calls (formats_words first) formats_asked
 unfolding clap_on_literals names_command rows_named
@@ -216,7 +218,7 @@ abbrev keep_words : (first : List ℕ) → List Text
 keep_words first = first ∷ codes "collect" ∷ codes "--keep" ∷ codes "k" ∷ codes "--json" ∷ codes "a" ∷ []
 
 abbrev keep_asked : Asked
-keep_asked = record (usual ((0, codes "a") ∷ [])) { json = true; keep = Some (codes "k") }
+keep_asked = record (without_options ((0, codes "a") ∷ [])) { json = true; keep = Some (codes "k") }
 
 keep_calls : (first : List ℕ) → Calls (keep_words first) keep_asked
 unfolding clap_on_literals names_command rows_named
@@ -230,7 +232,7 @@ abbrev parcels_words : (first : List ℕ) → List Text
 parcels_words first = first ∷ codes "collect" ∷ codes "--parcels" ∷ codes "a" ∷ []
 
 abbrev parcels_asked : Asked
-parcels_asked = record (usual ((0, codes "a") ∷ [])) { parcels = true }
+parcels_asked = record (without_options ((0, codes "a") ∷ [])) { parcels = true }
 
 parcels_calls : (first : List ℕ) → Calls (parcels_words first) parcels_asked
 unfolding clap_on_literals names_command rows_named

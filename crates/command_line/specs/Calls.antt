@@ -30,8 +30,8 @@ pub record Asked : Type 0 where
   pub files : List (ℕ × Text)
 
 -- what it is asked for by these files alone; each option changes something of it
-abbrev pub usual : (files : List (ℕ × Text)) → Asked
-usual files = record {
+abbrev pub without_options : (files : List (ℕ × Text)) → Asked
+without_options files = record {
   page = None;
   names = false;
   json = false;

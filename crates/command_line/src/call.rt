@@ -46,7 +46,7 @@ impl<'a> CollectCall<'a> {
     /// How many bytes a page of a raw file has, as the command line says, or else [`DEFAULT_PAGE`].
     pub fn page_bytes(&self) -> u32
         ensures bytes { result ≡ page_bytes self.now.page }
-        ensures in_range { IsInRange self.now → MIN_PAGE ≤ result }
+        ensures least { IsInRange self.now → MIN_PAGE ≤ result }
     {
         match self.page {
             Some(bytes) => bytes,

@@ -4,7 +4,7 @@ ghost use Rattle.std.specs.Prelude.{true, false};
 ghost use Rattle.clap.specs.declared.builder.command.Command.TheViews.{out-Command as fields_of};
 ghost use Rattle.clap.specs.Words.{HasMatchesOf, Text, app_of, new_app, subcommand_name_of, subcommand_rows_of};
 ghost use Rattle.clap.specs.Words.{with_rule, with_subcommand};
-ghost use Rattle.command_line.specs.Calls.{IsAsked, IsAskedToRecover, IsInRange, usual};
+ghost use Rattle.command_line.specs.Calls.{IsAsked, IsAskedToRecover, IsInRange, without_options};
 ghost use Rattle.command_line.specs.declared.call.CollectCall.{CollectCall};
 ghost use Rattle.command_line.specs.CommandLine.{HasSource, IsAccepted, IsCallOf, IsParseOf, collect_command};
 ghost use Rattle.command_line.specs.CommandLine.{collect_commands, collect_options, command_line, first_command};
@@ -261,31 +261,31 @@ pub fn call_of<'a, S: AsStr>(alloc: Global, words: &'a [S]) -> Result<Call<'a>, 
     // what is new.
     ensures collect { (first : List ℕ)
         → map S.text words.now ≡ first ∷ codes "collect" ∷ codes "a" ∷ codes "b" ∷ []
-        → IsAsked result (usual ((0, codes "a") ∷ (1, codes "b") ∷ [])) }
+        → IsAsked result (without_options ((0, codes "a") ∷ (1, codes "b") ∷ [])) }
     ensures collect_cpu { (first : List ℕ)
         → map S.text words.now ≡ first ∷ codes "collect" ∷ codes "3=a" ∷ codes "-" ∷ []
-        → IsAsked result (usual ((3, codes "a") ∷ (1, codes "-") ∷ [])) }
+        → IsAsked result (without_options ((3, codes "a") ∷ (1, codes "-") ∷ [])) }
     ensures collect_flags { (first : List ℕ)
         → map S.text words.now
         ≡ first ∷ codes "collect" ∷ codes "--json" ∷ codes "--names" ∷ codes "a" ∷ []
-        → IsAsked result (record (usual ((0, codes "a") ∷ [])) { names = true; json = true }) }
+        → IsAsked result (record (without_options ((0, codes "a") ∷ [])) { names = true; json = true }) }
     ensures collect_page { (first : List ℕ)
         → map S.text words.now ≡ first ∷ codes "collect" ∷ codes "--page" ∷ codes "8192" ∷ codes "a" ∷ []
-        → IsAsked result (record (usual ((0, codes "a") ∷ [])) { page = Some 8192 }) }
+        → IsAsked result (record (without_options ((0, codes "a") ∷ [])) { page = Some 8192 }) }
     ensures collect_formats { (first : List ℕ)
         → map S.text words.now
         ≡ first ∷ codes "collect" ∷ codes "a" ∷ codes "--formats" ∷ codes "d" ∷ codes "b" ∷ []
-        → IsAsked result (record (usual ((0, codes "a") ∷ (1, codes "b") ∷ [])) {
+        → IsAsked result (record (without_options ((0, codes "a") ∷ (1, codes "b") ∷ [])) {
           names = true;
           formats = Some (codes "d");
         }) }
     ensures collect_keep { (first : List ℕ)
         → map S.text words.now
         ≡ first ∷ codes "collect" ∷ codes "--keep" ∷ codes "k" ∷ codes "--json" ∷ codes "a" ∷ []
-        → IsAsked result (record (usual ((0, codes "a") ∷ [])) { json = true; keep = Some (codes "k") }) }
+        → IsAsked result (record (without_options ((0, codes "a") ∷ [])) { json = true; keep = Some (codes "k") }) }
     ensures collect_parcels { (first : List ℕ)
         → map S.text words.now ≡ first ∷ codes "collect" ∷ codes "--parcels" ∷ codes "a" ∷ []
-        → IsAsked result (record (usual ((0, codes "a") ∷ [])) { parcels = true }) }
+        → IsAsked result (record (without_options ((0, codes "a") ∷ [])) { parcels = true }) }
     ensures collect_none { (first : List ℕ) → map S.text words.now ≡ first ∷ codes "collect" ∷ []
         → (result ≡ Err CallFault.Usage) ⊎ (result ≡ Err CallFault.NoMemory) }
     ensures collect_high { (first : List ℕ)

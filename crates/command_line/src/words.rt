@@ -85,10 +85,7 @@ pub(crate) fn number_said(low: u32, high: u32, text: Option<&str>) -> Option<Opt
     ensures { result ≡ number_word low high (option_map (λ t. t.now) text.entry) }
 {
     match text {
-        Some(text) => match number_in(low, high, text) {
-            Some(number) => Some(Some(number)),
-            None => None,
-        },
+        Some(text) => Some(Some(number_in(low, high, text)?)),
         None => Some(None),
     }
 }
