@@ -21,7 +21,12 @@ same_asked a b page names json formats keep parcels files =
     ∙ ap (λ x. record a { page = b.page; names = b.names; json = b.json; formats = x }) formats
     ∙ ap (λ x. record a { page = b.page; names = b.names; json = b.json; formats = b.formats; keep = x }) keep
     ∙ ap (λ x. record a {
-        page = b.page; names = b.names; json = b.json; formats = b.formats; keep = b.keep; parcels = x
+      page = b.page;
+      names = b.names;
+      json = b.json;
+      formats = b.formats;
+      keep = b.keep;
+      parcels = x;
     }) parcels
     ∙ ap (λ x. record b { files = x }) files
 

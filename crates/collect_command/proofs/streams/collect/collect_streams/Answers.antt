@@ -71,6 +71,6 @@ returns g c =
     → Run (g.K.Sink.contents c.args.keep.now) (g.K.Sink.contents keep) (g.K.Sink.failed keep) =
     λ keep same.
     subst (λ (k : g.row.K.Denot). Run (g.K.Sink.contents c.args.keep.now) (g.K.Sink.contents k) (g.K.Sink.failed k))
-        (sym same)
+    (sym same)
     (subst (λ (s : Option (List ℕ)). Run s (contents_of after) (has_failed after)) begins run.1) in
     is_run c.keep-1.given.0 (c.keep-1.given.1 kept_name)

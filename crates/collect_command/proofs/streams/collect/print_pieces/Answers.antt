@@ -11,7 +11,7 @@ returns g c =
     let run : IsPrintRun g.R.Source.remaining g.R.Source.failed c.args.form c.args.inputs.now
     c.put_pieces.new.inputs start.contents (contents_of last) (has_failed last) c.put_pieces.result =
     elim (c.put_pieces.ensures.printed start c.new-out.ensures.empty) [
-        inl all ↦ inl all |
-        inr some ↦ inr (inl some)
+      | inl all ↦ inl all
+      | inr some ↦ inr (inl some)
     ] in
     search rules
