@@ -1,7 +1,7 @@
 // Goes through a program that records in a flight file, instruction by instruction, and reads the file whenever it has
 // changed: what is there is what a kill at that instruction leaves. `flight_file_steps FOLDER ROUNDS SEED`. At random
-// instructions the program gets a signal, whose handler records too, at the site that is next. Once so many events
-// stand that a handler's may be refused, signals come more often: then handlers interrupt the noting of refusals.
+// instructions the program gets a signal, whose handler records too, at the site that is next. While one event stands
+// more than there are levels, signals come often: then handlers interrupt the noting of a refusal, and are refused too.
 #define _GNU_SOURCE
 #include "flight_file_account.h"
 
@@ -13,7 +13,7 @@
 #include <sys/wait.h>
 #include <unistd.h>
 
-enum { THREADS = 2, LEVELS = 2, MOST_STANDING = 6, NAMES = 11, LOOKED = 8192 };
+enum { THREADS = 2, LEVELS = 2, NAMES = 11, LOOKED = 8192 };
 
 static char path[200];
 static uint64_t random_state;
@@ -127,13 +127,12 @@ static int step(pid_t child, int signal)
     return WSTOPSIG(status);
 }
 
-// How many instructions come before the next signal: fewer if so many events stand that one may be refused, but from
-// MOST_STANDING on no fewer than else, so that handlers don't nest ever deeper.
+// How many instructions come before the next signal. (If more events stand than one more than there are levels, as many
+// as ever, so that handlers don't nest ever deeper.)
 static uint64_t next_gap(void)
 {
-    uint64_t standing = truth->begun - truth->returned;
-    bool may_refuse = standing > LEVELS && standing < MOST_STANDING;
-    uint64_t most = may_refuse ? 400 : next_random() % 4 ? 4000 : 100;
+    bool is_refused = truth->begun - truth->returned == LEVELS + 1;
+    uint64_t most = is_refused ? 60 : next_random() % 4 ? 4000 : 100;
     return next_random() % most;
 }
 
