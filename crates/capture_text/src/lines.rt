@@ -1,7 +1,7 @@
 //! The lines of records.
 ghost use Rattle.std.specs.Prelude.{◌≡◌, ◌+◌, ◌≤◌, [], ◌∷◌, ◌++◌, codes, drop};
 ghost use Rattle.std.specs.Fmt.{decimal};
-ghost use Rattle.text_model.specs.Text.{space, hex_text};
+ghost use Rattle.text_model.specs.Text.{space};
 ghost use Rattle.text_values.specs.Digits.{pairs_of};
 ghost use Rattle.time_merge.specs.Lines.{line_seen};
 ghost use Rattle.world_model.specs.Printing.{printed_line};
@@ -46,23 +46,12 @@ fn put_numbers<W: Sink>(out: &mut Out<'_, W>, line: &Line<'_>)
     out.put(&front[cpu..]);
 }
 
-/// Puts the payload in hexadecimal, `-` if it is empty.
-fn put_payload<W: Sink>(out: &mut Out<'_, W>, bytes: &[u8])
-    ensures { Puts (hex_text bytes.now) out.old out.new }
-{
-    if bytes.is_empty() {
-        out.put(b"-");
-    } else {
-        out.put_hex(bytes);
-    }
-}
-
 /// Puts a record's line.
 pub(crate) fn put_line<W: Sink>(out: &mut Out<'_, W>, line: &Line<'_>)
     ensures { Puts (printed_line (line_seen line.now)) out.old out.new }
 {
     put_numbers(out, line);
-    put_payload(out, line.bytes);
+    out.put_payload(line.bytes);
     out.put(b"\n");
 }
 
@@ -73,7 +62,7 @@ pub(crate) fn put_named_line<W: Sink>(out: &mut Out<'_, W>, names: &EventNames, 
     put_numbers(out, line);
     put_named(out, names, line.bytes);
     out.put(b" ");
-    put_payload(out, line.bytes);
+    out.put_payload(line.bytes);
     out.put(b"\n");
 }
 

@@ -24,8 +24,7 @@ use trace_model::{CpuId, MAX_CPUS, RecordNo};
 fn put_between<W: Sink>(out: &mut Out<'_, W>, before: &[u8], number: u64, after: &[u8])
     ensures { Puts (before.now ++ decimal number ++ after.now) out.old out.new }
 {
-    out.put(before);
-    out.put_number(number);
+    out.put_numbered(before, number);
     out.put(after);
 }
 

@@ -1,7 +1,6 @@
 //! What a line says of its record's event.
 ghost use Rattle.std.specs.Prelude.{◌≡◌, ◌==◌, ◌++◌, ◌∷◌, [], position};
 ghost use Rattle.std.specs.Option.{option_map};
-ghost use Rattle.std.specs.Fmt.{signed_decimal};
 ghost use Rattle.trace_dat.specs.kernel_texts.Names.{event_seen, events_of};
 ghost use Rattle.trace_dat.specs.kernel_texts.FirstBytes.{common_fields_in};
 ghost use Rattle.text_values.specs.Putting.{Puts};
@@ -11,7 +10,6 @@ ghost use Rattle.capture_text.specs.Names.{json_known};
 
 use crate::quoting::{put_name, put_quoted};
 use command_io::Sink;
-use itoa::Buffer;
 use text_values::Out;
 use trace_dat::kernel_texts::{EventName, EventNames, common_fields};
 
@@ -25,14 +23,6 @@ fn put_event<W: Sink>(out: &mut Out<'_, W>, event: EventName<'_>)
     put_name(out, event.system);
     out.put(b":");
     put_name(out, event.name);
-}
-
-/// Puts a number that may be negative.
-fn put_signed<W: Sink>(out: &mut Out<'_, W>, number: i32)
-    ensures { Puts (signed_decimal number) out.old out.new }
-{
-    let mut digits = Buffer::new();
-    out.put(digits.format(number).as_bytes());
 }
 
 /// Whether the event is what a program prints.
@@ -99,7 +89,7 @@ fn put_known<W: Sink>(out: &mut Out<'_, W>, names: &EventNames, bytes: &[u8], id
     ensures { Puts (known_part (events_of names.now) bytes.now id pid) out.old out.new }
 {
     let event = names.event(id);
-    put_signed(out, pid);
+    out.put_signed(i64::from(pid));
     out.put(b" ");
     put_event_or_number(out, id, event);
     put_print(out, event, bytes);
@@ -158,7 +148,7 @@ fn put_json_known<W: Sink>(
 {
     let event = names.event(id);
     out.put(b",\"pid\":");
-    put_signed(out, pid);
+    out.put_signed(i64::from(pid));
     out.put(b",\"event\":");
     put_json_event(out, id, event);
     put_json_print(out, event, bytes);

@@ -1,7 +1,7 @@
 -- Files have one listing: they decide what is written of them, and how that ends.
-use Rattle.std.proofs.Common.{◌≡◌, ℕ, suc, false, List, [], ◌∷◌, ◌++◌, length, flat_map, Option, Some, Ok}
+use Rattle.std.proofs.Common.{◌≡◌, ℕ, suc, Bool, false, List, [], ◌∷◌, ◌++◌, length, flat_map, Option, Some, None, Ok}
 use Rattle.std.proofs.Common.{refl, sym, ap, ap₂, ◌∙◌, subst, arith}
-use Rattle.std.specs.Prelude.{slice_index_or}
+use Rattle.std.specs.Prelude.{slice_index_or, if◌then◌else◌}
 use Rattle.trace_model.specs.Collection.{Misses}
 use Rattle.trace_model.proofs.collections.Collections.{same_itself}
 use Rattle.trace_model.proofs.collections.Listings.{one_listing}
@@ -12,7 +12,7 @@ use Rattle.capture.specs.Rings.{parcels_of_captures}
 use Rattle.capture.proofs.OneReading.{one-reading}
 use Rattle.collector_text.specs.Prints.{IsPrintOf}
 use Rattle.collector_text.proofs.OneText.{one_runs, one_runs_text}
-use Rattle.capture.specs.files.Files.{File, ModelPart, Checked, parts_of, parts_of_cpu, ArePartsOf}
+use Rattle.capture.specs.files.Files.{File, ModelPart, Checked, parts_of, parts_of_cpu, ArePartsOf, all_formats}
 use Rattle.capture.specs.files.Captures.{CutsOf}
 use Rattle.capture.specs.files.Losses.{settled, overrun_in}
 use Rattle.capture_text.specs.declared.form.Form.{Form}
@@ -22,7 +22,7 @@ use Rattle.collect_command.specs.declared.collect.Collecting.{Collecting}
 use Rattle.collect_command.specs.declared.ending.Ending.{Ending}
 use Rattle.collect_command.specs.Gathered.{AreCpuPages, AreCpusPages}
 use Rattle.collect_command.specs.Listings.{all_unknown, all_damaged, listing_text, IsListed}
-use Rattle.collect_command.specs.Runs.{formats_for, ListsFiles}
+use Rattle.collect_command.specs.Runs.{formats_for, AskTheSame, ListsFiles}
 
 -- ---- the parts, and the pages of each CPU
 
@@ -96,10 +96,10 @@ one_listed form formats parts captures start text other ending end a b =
       wrote.1 ∙ sym wrote_too.1,
     )
 
-pub one_output : (collecting : Collecting) (files : List File) (start text other : List ℕ) (ending end : Ending)
+one_run : (collecting : Collecting) (files : List File) (start text other : List ℕ) (ending end : Ending)
     → ListsFiles collecting files (Some start) (Some text) false ending
     → ListsFiles collecting files (Some start) (Some other) false end → (text ≡ other) × (ending ≡ end)
-one_output collecting files start text other ending end a b =
+one_run collecting files start text other ending end a b =
     let overrun = overrun_in files in
     let formats = formats_for collecting files in
     let parts : b.parts ≡ a.parts = one_parts collecting.page files b.parts a.parts b.parts_are a.parts_are in
@@ -111,3 +111,33 @@ one_output collecting files start text other ending end a b =
     parts
     (subst (λ (cs : List (List Page)). IsListed collecting.form formats b.parts cs (Some start) (Some other) false end)
     captures b.listed))
+
+-- ---- wherever the formats are in memory
+
+same_formats : (one other : Collecting) (files : List File) → AskTheSame one other
+    → formats_for one files ≡ formats_for other files
+same_formats one other files same =
+    ap₂ (λ (n : Bool) (fs : List EventFormat). if n then Some (all_formats files ++ fs) else None)
+    same.names same.formats
+
+listed_too : (one other : Collecting) (files : List File) (contents after : Option (List ℕ)) (failed : Bool)
+    (ending : Ending) → AskTheSame one other → ListsFiles other files contents after failed ending
+    → ListsFiles one files contents after failed ending
+listed_too one other files contents after failed ending same b = record {
+  parts = b.parts;
+  parts_are = subst (λ (n : ℕ). ArePartsOf n files b.parts) (sym same.page) b.parts_are;
+  captures = b.captures;
+  pages_are = b.pages_are;
+  count = b.count;
+  listed = subst (λ (f : Form). IsListed f (formats_for one files) b.parts b.captures contents after failed ending)
+      (sym same.form)
+      (subst (λ (fs : Option (List EventFormat)). IsListed other.form fs b.parts b.captures contents after failed
+      ending) (sym (same_formats one other files same)) b.listed);
+}
+
+pub one_output : (collecting same : Collecting) (files : List File) (start text other : List ℕ) (ending end : Ending)
+    → AskTheSame collecting same → ListsFiles collecting files (Some start) (Some text) false ending
+    → ListsFiles same files (Some start) (Some other) false end → (text ≡ other) × (ending ≡ end)
+one_output collecting same files start text other ending end asks a b =
+    one_run collecting files start text other ending end a
+    (listed_too collecting same files (Some start) (Some other) false end asks b)

@@ -26,6 +26,13 @@ abbrev pub formats_for : Collecting → List File → Option (List EventFormat)
 formats_for collecting files =
     if collecting.names then Some (all_formats files ++ map format_seen collecting.formats.now) else None
 
+-- they ask for the same listing, wherever the formats are in memory
+pub record AskTheSame (one other : Collecting) : Type 0 where
+  pub form : one.form ≡ other.form
+  pub page : one.page ≡ other.page
+  pub names : one.names ≡ other.names
+  pub formats : map format_seen one.formats.now ≡ map format_seen other.formats.now
+
 -- The files, none of which has a fault, are listed: their pages, CPU by CPU, and what these have and miss.
 pub record ListsFiles (collecting : Collecting) (files : List File) (contents after : Option (List ℕ)) (failed : Bool)
     (ending : Ending) : Type 0 where

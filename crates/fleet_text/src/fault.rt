@@ -6,7 +6,7 @@ ghost use Rattle.fleet_text.specs.Faults.{word_fault_name, image_fault_name, par
 ghost use Rattle.fleet_text.specs.Faults.{refused_by_parcels, refused_parcel, refused_mark, trouble_text, fault_line};
 ghost use Rattle.fleet_text.specs.Faults.{numbered_cpu, is_no_memory, is_memory_fault, is_memory_refusal};
 
-use crate::lines::{put_cpu, put_numbered};
+use crate::lines::put_cpu;
 use command_io::Sink;
 use fleet_collector::PieceRefusal;
 use page_image::ImageFault;
@@ -60,7 +60,7 @@ impl PieceTrouble {
 fn put_word<W: Sink>(out: &mut Out<'_, W>, word: &[u8], number: usize)
     ensures { Puts (word.now ++ decimal number ++ codes ")") out.old out.new }
 {
-    put_numbered(out, word, number as u64);
+    out.put_numbered(word, number as u64);
     out.put(b")");
 }
 
@@ -144,7 +144,7 @@ fn put_number_of<W: Sink>(
 {
     out.put(word);
     put_cpu(out, stream, cpu);
-    put_numbered(out, b" ", number.0);
+    out.put_numbered(b" ", number.0);
 }
 
 /// Puts why a collector refuses a parcel.
@@ -213,7 +213,7 @@ pub fn put_fault<W: Sink>(out: &mut Out<'_, W>, at: u64, index: u64, trouble: Pi
 {
     out.put(b"stream: ");
     put_trouble(out, trouble);
-    put_numbered(out, b" at ", at);
-    put_numbered(out, b" piece ", index);
+    out.put_numbered(b" at ", at);
+    out.put_numbered(b" piece ", index);
     out.put(b"\n");
 }

@@ -1,7 +1,5 @@
 //! The lines of records and of runs.
-ghost use Rattle.std.specs.Prelude.{◌≡◌, ◌++◌, map, flat_map};
-ghost use Rattle.std.specs.Fmt.{decimal};
-ghost use Rattle.text_model.specs.Text.{hex_text};
+ghost use Rattle.std.specs.Prelude.{◌≡◌, map, flat_map};
 ghost use Rattle.text_values.specs.Putting.{Puts};
 ghost use Rattle.fleet_collector.specs.Lines.{line_seen};
 ghost use Rattle.fleet_text.specs.Runs.{run_seen};
@@ -14,14 +12,6 @@ use fleet_collector::FleetLine;
 use parcel_streams::StreamId;
 use text_values::Out;
 use trace_model::CpuId;
-
-/// Puts a number after a text.
-pub(crate) fn put_numbered<W: Sink>(out: &mut Out<'_, W>, before: &[u8], number: u64)
-    ensures { Puts (before.now ++ decimal number) out.old out.new }
-{
-    out.put(before);
-    out.put_number(number);
-}
 
 /// Puts a stream's id.
 #[tactic(auto, unfolding(crate::specs::Printing::id_text))]
@@ -36,7 +26,7 @@ pub fn put_cpu<W: Sink>(out: &mut Out<'_, W>, stream: StreamId, cpu: CpuId)
     ensures { Puts (cpu_text stream.0 cpu.0) out.old out.new }
 {
     put_id(out, stream);
-    put_numbered(out, b":", u64::from(cpu.0));
+    out.put_numbered(b":", u64::from(cpu.0));
 }
 
 /// Puts a CPU of a stream as members of an object.
@@ -45,18 +35,7 @@ pub fn put_json_cpu<W: Sink>(out: &mut Out<'_, W>, stream: StreamId, cpu: CpuId)
 {
     out.put(b"\"stream\":\"");
     put_id(out, stream);
-    put_numbered(out, b"\",\"cpu\":", u64::from(cpu.0));
-}
-
-/// Puts the payload in hexadecimal, `-` if it is empty.
-fn put_payload<W: Sink>(out: &mut Out<'_, W>, bytes: &[u8])
-    ensures { Puts (hex_text bytes.now) out.old out.new }
-{
-    if bytes.is_empty() {
-        out.put(b"-");
-    } else {
-        out.put_hex(bytes);
-    }
+    out.put_numbered(b"\",\"cpu\":", u64::from(cpu.0));
 }
 
 /// Puts a record's line as text.
@@ -64,10 +43,10 @@ fn put_text_line<W: Sink>(out: &mut Out<'_, W>, line: &FleetLine<'_>)
     ensures { Puts (record_line Form.Text (line_seen line.now)) out.old out.new }
 {
     put_cpu(out, line.stream, line.cpu);
-    put_numbered(out, b" ", line.number.0);
-    put_numbered(out, b" ", line.moment.0);
+    out.put_numbered(b" ", line.number.0);
+    out.put_numbered(b" ", line.moment.0);
     out.put(b" ");
-    put_payload(out, line.bytes);
+    out.put_payload(line.bytes);
     out.put(b"\n");
 }
 
@@ -77,8 +56,8 @@ fn put_json_line<W: Sink>(out: &mut Out<'_, W>, line: &FleetLine<'_>)
 {
     out.put(b"{");
     put_json_cpu(out, line.stream, line.cpu);
-    put_numbered(out, b",\"number\":", line.number.0);
-    put_numbered(out, b",\"time\":", line.moment.0);
+    out.put_numbered(b",\"number\":", line.number.0);
+    out.put_numbered(b",\"time\":", line.moment.0);
     out.put(b",\"data\":\"");
     out.put_hex(line.bytes);
     out.put(b"\"}\n");
@@ -113,8 +92,8 @@ fn put_text_run<W: Sink>(out: &mut Out<'_, W>, kind: RunKind, run: &FleetRun)
     out.put(kind_name(kind));
     out.put(b" ");
     put_cpu(out, run.stream, run.cpu);
-    put_numbered(out, b" ", run.first.0);
-    put_numbered(out, b"-", run.last.0);
+    out.put_numbered(b" ", run.first.0);
+    out.put_numbered(b"-", run.last.0);
     out.put(b"\n");
 }
 
@@ -126,8 +105,8 @@ fn put_json_run<W: Sink>(out: &mut Out<'_, W>, kind: RunKind, run: &FleetRun)
     put_json_cpu(out, run.stream, run.cpu);
     out.put(b",\"");
     out.put(kind_name(kind));
-    put_numbered(out, b"\":[", run.first.0);
-    put_numbered(out, b",", run.last.0);
+    out.put_numbered(b"\":[", run.first.0);
+    out.put_numbered(b",", run.last.0);
     out.put(b"]}\n");
 }
 

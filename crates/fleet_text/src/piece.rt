@@ -7,7 +7,7 @@ ghost use Rattle.fleet_text.specs.Pieces.{place_text, json_place, mark_name, mar
 ghost use Rattle.fleet_text.specs.Pieces.{mark_text, json_mark, parcel_text, json_parcel, piece_text, json_piece};
 ghost use Rattle.fleet_text.specs.Pieces.{piece_line};
 
-use crate::lines::{put_cpu, put_json_cpu, put_numbered};
+use crate::lines::{put_cpu, put_json_cpu};
 use capture_text::Form;
 use command_io::Sink;
 use page_numbers::Parcel;
@@ -31,17 +31,17 @@ fn put_place<W: Sink>(out: &mut Out<'_, W>, place: PiecePlace)
     ensures { Puts (place_text place.input place.at place.length) out.old out.new }
 {
     out.put_number(place.input as u64);
-    put_numbered(out, b" ", place.at);
-    put_numbered(out, b" ", place.length as u64);
+    out.put_numbered(b" ", place.at);
+    out.put_numbered(b" ", place.length as u64);
 }
 
 /// Puts where a piece is, as members of an object.
 fn put_json_place<W: Sink>(out: &mut Out<'_, W>, place: PiecePlace)
     ensures { Puts (json_place place.input place.at place.length) out.old out.new }
 {
-    put_numbered(out, b"\"input\":", place.input as u64);
-    put_numbered(out, b",\"offset\":", place.at);
-    put_numbered(out, b",\"length\":", place.length as u64);
+    out.put_numbered(b"\"input\":", place.input as u64);
+    out.put_numbered(b",\"offset\":", place.at);
+    out.put_numbered(b",\"length\":", place.length as u64);
 }
 
 /// Puts a parcel as text.
@@ -50,10 +50,10 @@ fn put_parcel<W: Sink>(out: &mut Out<'_, W>, stream: StreamId, parcel: &Parcel)
 {
     out.put(b"parcel ");
     put_cpu(out, stream, parcel.cpu());
-    put_numbered(out, b" fill ", parcel.fill().0);
-    put_numbered(out, b" first ", parcel.first().0);
-    put_numbered(out, b" count ", parcel.count());
-    put_numbered(out, b" missed ", parcel.missed());
+    out.put_numbered(b" fill ", parcel.fill().0);
+    out.put_numbered(b" first ", parcel.first().0);
+    out.put_numbered(b" count ", parcel.count());
+    out.put_numbered(b" missed ", parcel.missed());
 }
 
 /// Puts a parcel as members of an object.
@@ -61,10 +61,10 @@ fn put_json_parcel<W: Sink>(out: &mut Out<'_, W>, stream: StreamId, parcel: &Par
     ensures { Puts (json_parcel stream.0 (as_parcel parcel.now)) out.old out.new }
 {
     put_json_cpu(out, stream, parcel.cpu());
-    put_numbered(out, b",\"fill\":", parcel.fill().0);
-    put_numbered(out, b",\"first\":", parcel.first().0);
-    put_numbered(out, b",\"count\":", parcel.count());
-    put_numbered(out, b",\"missed\":", parcel.missed());
+    out.put_numbered(b",\"fill\":", parcel.fill().0);
+    out.put_numbered(b",\"first\":", parcel.first().0);
+    out.put_numbered(b",\"count\":", parcel.count());
+    out.put_numbered(b",\"missed\":", parcel.missed());
 }
 
 /// The word for what a mark says.
@@ -87,7 +87,7 @@ fn put_mark_numbers<W: Sink>(out: &mut Out<'_, W>, mark: Mark)
         Mark::Forgotten(bound) => out.put_number(bound),
         Mark::Undelivered(first, end) => {
             out.put_number(first);
-            put_numbered(out, b"-", end.saturating_sub(1));
+            out.put_numbered(b"-", end.saturating_sub(1));
         }
     }
 }
@@ -100,8 +100,8 @@ fn put_json_mark_numbers<W: Sink>(out: &mut Out<'_, W>, mark: Mark)
         Mark::End(count) => out.put_number(count),
         Mark::Forgotten(bound) => out.put_number(bound),
         Mark::Undelivered(first, end) => {
-            put_numbered(out, b"[", first);
-            put_numbered(out, b",", end.saturating_sub(1));
+            out.put_numbered(b"[", first);
+            out.put_numbered(b",", end.saturating_sub(1));
             out.put(b"]");
         }
     }

@@ -1,5 +1,5 @@
 //! The command `collect` over captures.
-ghost use Rattle.std.specs.Prelude.{◌≡◌, ◌<◌, ◌≤◌, false, if◌then◌else◌, map, All, IfOk};
+ghost use Rattle.std.specs.Prelude.{◌≡◌, ◌≤◌, false, if◌then◌else◌, map, All, IfOk};
 ghost use Rattle.command_io.specs.Ends.{has_failed};
 ghost use Rattle.parcel_streams.specs.source.Readers.{peeked_reader};
 ghost use Rattle.command_line.specs.Calls.{IsInRange, page_bytes};
@@ -61,7 +61,7 @@ fn collecting_of<'a>(asked: &CollectCall<'_>, formats: &'a [Format<'a>]) -> Coll
     requires { IsInRange asked.now }
     ensures form { result.form ≡ (if asked.now.json then Form.Json else Form.Text) }
     ensures page { result.page ≡ page_bytes asked.now.page }
-    ensures in_range { MIN_PAGE ≤ result.page }
+    ensures least { MIN_PAGE ≤ result.page }
     ensures names { result.names ≡ asked.now.names }
     ensures formats { result.formats.now ≡ formats.now }
 {

@@ -1,4 +1,4 @@
-//! What the program says on standard error of a run, and with which exit status it ends.
+//! What the program says of how a run ends, and the exit status.
 use crate::inputs::Trial;
 use crate::message::{FileMessage, Trouble};
 use crate::named::Named;
@@ -12,7 +12,7 @@ fn tell_line(rt: &HostRuntime, line: &str) {
     let _ = eprintln!(rt; "{line}");
 }
 
-/// Says why nothing is done.
+/// Says why nothing is done, and gives the exit status.
 pub(crate) fn refuse(rt: &HostRuntime, sentence: &str) -> u8 {
     tell_line(rt, sentence);
     USAGE
@@ -53,7 +53,7 @@ pub(crate) fn tell_ending<N: Named>(rt: &HostRuntime, inputs: &[N], ending: Endi
     ending.status()
 }
 
-/// Says what a run over these inputs leaves to be said, which may have kept new pieces, and gives the exit status.
+/// Says what is left to be said of a run that may keep new pieces of these inputs, and gives the exit status.
 pub(crate) fn tell_outcome<N: Named>(
     rt: &HostRuntime,
     inputs: &[N],
@@ -68,7 +68,7 @@ pub(crate) fn tell_outcome<N: Named>(
     outcome.status()
 }
 
-/// Gives the exit status of a run, or says why there was none.
+/// Gives the exit status of a run. If files couldn't be opened or memory was refused, says so first.
 pub(crate) fn tell_trial(rt: &HostRuntime, run: Result<u8, Trial<'_>>) -> u8 {
     match run {
         Ok(status) => status,

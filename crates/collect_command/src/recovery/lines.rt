@@ -1,6 +1,5 @@
 //! The lines of damaged slots, and the line of an input that isn't a region.
-ghost use Rattle.std.specs.Prelude.{◌≡◌, ◌++◌, flat_map};
-ghost use Rattle.std.specs.Fmt.{decimal};
+ghost use Rattle.std.specs.Prelude.{◌≡◌, flat_map};
 ghost use Rattle.text_values.specs.Putting.{Puts};
 ghost use Rattle.collect_command.specs.recovery.Lines.{word_fault_name, cause_name, damaged_line, damaged_lines};
 ghost use Rattle.collect_command.specs.recovery.Lines.{region_fault_name, place_text, region_line};
@@ -11,14 +10,6 @@ use fleet_text::{put_cpu, put_json_cpu};
 use record_words::WordFault;
 use ring_region::{Damaged, Header, Region, RegionFault, SlotCause};
 use text_values::Out;
-
-/// Puts a number after a text.
-fn put_numbered<W: Sink>(out: &mut Out<'_, W>, before: &[u8], number: usize)
-    ensures { Puts (before.now ++ decimal number) out.old out.new }
-{
-    out.put(before);
-    out.put_number(number as u64);
-}
 
 /// What is wrong with a word.
 fn word_fault_name(fault: WordFault) -> &'static [u8]
@@ -52,8 +43,8 @@ fn put_text_damaged<W: Sink>(out: &mut Out<'_, W>, header: &Header, damaged: &Da
 {
     out.put(b"damaged ");
     put_cpu(out, header.stream, header.cpu);
-    put_numbered(out, b" slot ", damaged.slot);
-    put_numbered(out, b" byte ", damaged.at);
+    out.put_numbered(b" slot ", damaged.slot as u64);
+    out.put_numbered(b" byte ", damaged.at as u64);
     out.put(b": ");
     out.put(cause_name(damaged.cause));
     out.put(b"\n");
@@ -65,8 +56,8 @@ fn put_json_damaged<W: Sink>(out: &mut Out<'_, W>, header: &Header, damaged: &Da
 {
     out.put(b"{");
     put_json_cpu(out, header.stream, header.cpu);
-    put_numbered(out, b",\"damaged\":", damaged.slot);
-    put_numbered(out, b",\"byte\":", damaged.at);
+    out.put_numbered(b",\"damaged\":", damaged.slot as u64);
+    out.put_numbered(b",\"byte\":", damaged.at as u64);
     out.put(b",\"fault\":\"");
     out.put(cause_name(damaged.cause));
     out.put(b"\"}\n");
@@ -121,7 +112,7 @@ fn put_place<W: Sink>(out: &mut Out<'_, W>, place: Option<usize>)
     ensures { Puts (place_text place) out.old out.new }
 {
     if let Some(at) = place {
-        put_numbered(out, b" at ", at);
+        out.put_numbered(b" at ", at as u64);
     }
 }
 

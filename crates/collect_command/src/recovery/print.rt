@@ -1,6 +1,6 @@
 //! What a run writes, and how it ends then.
-ghost use Rattle.std.specs.Prelude.{◌≡◌, ◌⊎◌, ◌↔◌, ℕ, IsTrue, List, false, [], IfErr, OnOk};
-ghost use Rattle.text_values.specs.Putting.{Start, contents_of, has_failed, HasWriter, HasPut};
+ghost use Rattle.std.specs.Prelude.{◌≡◌, ◌⊎◌, ◌↔◌, IsTrue, false, [], IfErr, OnOk};
+ghost use Rattle.text_values.specs.Putting.{Start, contents_of, has_failed, HasPut, KeepsWriter};
 ghost use Rattle.collect_command.specs.Runs.{IsMemoryLine};
 ghost use Rattle.collect_command.specs.recovery.Runs.{AreSound, IsEndingFor, IsListed, TellsUnread, TellsStop};
 
@@ -19,7 +19,7 @@ use trace_model::NoMemory;
 
 /// Reports why an input gives no region.
 fn tell_unread<W: Sink>(out: &mut Out<'_, W>, stopped: Stopped) -> Ending
-    ensures writer { (start : Start) (text : List ℕ) → HasPut start text out.old → HasWriter start out.new }
+    ensures writer { KeepsWriter out.old out.new }
     ensures told { (start : Start) → HasPut start [] out.old
         → TellsUnread stopped.input stopped.why start.contents (contents_of out.new) (has_failed out.new) result }
 {
@@ -47,7 +47,7 @@ pub(crate) fn write_unread<W: Sink>(buffer: TextBuffer, writer: &mut W, stopped:
 
 /// Reports why a piece isn't added.
 fn tell_stop<W: Sink>(out: &mut Out<'_, W>, stopped: StoppedAt) -> Ending
-    ensures writer { (start : Start) (text : List ℕ) → HasPut start text out.old → HasWriter start out.new }
+    ensures writer { KeepsWriter out.old out.new }
     ensures told { (start : Start) → HasPut start [] out.old
         → TellsStop stopped.input stopped.stop start.contents (contents_of out.new) (has_failed out.new) result }
 {
@@ -101,7 +101,7 @@ fn list_fleet<W: Sink>(
     fleet: &Fleet,
     out: &mut Out<'_, W>,
 ) -> Ending
-    ensures writer { (start : Start) (text : List ℕ) → HasPut start text out.old → HasWriter start out.new }
+    ensures writer { KeepsWriter out.old out.new }
     ensures listed { (start : Start) → HasPut start [] out.old
         → IsListed form regions.now fleet.now start.contents (contents_of out.new) (has_failed out.new) result
         ⊎ IsMemoryLine start.contents (contents_of out.new) (has_failed out.new) result }

@@ -3,7 +3,7 @@ ghost use Rattle.std.specs.Prelude.{◌≡◌, false, All};
 ghost use Rattle.collect_command.specs.recovery.Runs.{IsRecoverRun};
 
 use crate::ending::Outcome;
-use crate::memory::tell_memory;
+use crate::memory::{new_buffers, tell_memory};
 use crate::recovery::gather::add_regions;
 use crate::recovery::print::{end_run, write_unread};
 use crate::recovery::read::read_inputs;
@@ -11,15 +11,7 @@ use capture_text::Form;
 use command_io::{Sink, Source};
 use fleet_collector::Fleet;
 use std::alloc::Global;
-use text_values::{Out, TextBuffer};
-use trace_model::NoMemory;
-
-/// Two buffers.
-fn new_buffers(alloc: Global) -> Result<(TextBuffer, TextBuffer), NoMemory> {
-    let kept = TextBuffer::new(alloc)?;
-    let buffer = TextBuffer::new(alloc)?;
-    Ok((kept, buffer))
-}
+use text_values::Out;
 
 /// Lists what all inputs, each a region, state together: their records by time, and which numbers are missing or
 /// unknown; and below that the slots that are damaged. The bytes of each piece that is new are written to `keep`.

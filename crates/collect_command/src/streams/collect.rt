@@ -1,13 +1,13 @@
 //! The command `collect` for streams.
 ghost use Rattle.std.specs.Prelude.{◌≡◌, ◌⊎◌, false, ℕ, List, [], All, IfErr, OnOk};
-ghost use Rattle.text_values.specs.Putting.{Start, contents_of, has_failed, HasWriter, HasPut};
+ghost use Rattle.text_values.specs.Putting.{Start, contents_of, has_failed, HasWriter, HasPut, KeepsWriter};
 ghost use Rattle.parcel_streams.specs.source.Readers.{source_of};
 ghost use Rattle.collect_command.specs.streams.Reading.{IsFresh};
 ghost use Rattle.collect_command.specs.streams.Runs.{IsMemoryLine, TellsStop, IsListed, IsStreamRun, IsPrintRun};
 ghost use Rattle.collect_command.specs.streams.Runs.{PrintsAll, PrintsSome};
 
 use crate::ending::{Ending, Outcome};
-use crate::memory::tell_memory;
+use crate::memory::{new_buffers, tell_memory};
 use crate::streams::gather::Gatherer;
 use crate::streams::print::PiecePrinter;
 use crate::streams::read::{Stop, Stopped, read_inputs};
@@ -22,7 +22,7 @@ use trace_model::NoMemory;
 
 /// Reports why an input isn't read to its end, after what was put.
 fn tell_stop<W: Sink>(out: &mut Out<'_, W>, stopped: Stopped) -> Ending
-    ensures writer { (start : Start) (text : List ℕ) → HasPut start text out.old → HasWriter start out.new }
+    ensures writer { KeepsWriter out.old out.new }
     ensures told { (start : Start) (text : List ℕ) → HasPut start text out.old
         → TellsStop stopped.input stopped.stop start.contents (contents_of out.new)
         (has_failed out.new) text result }
@@ -41,7 +41,7 @@ fn tell_stop<W: Sink>(out: &mut Out<'_, W>, stopped: Stopped) -> Ending
 
 /// Lists what a fleet has. Nothing was put before.
 fn list_fleet<W: Sink>(alloc: Global, form: Form, fleet: &Fleet, out: &mut Out<'_, W>) -> Ending
-    ensures writer { (start : Start) (text : List ℕ) → HasPut start text out.old → HasWriter start out.new }
+    ensures writer { KeepsWriter out.old out.new }
     ensures listed { (start : Start) → HasPut start [] out.old
         → IsListed form fleet.now start.contents (contents_of out.new) (has_failed out.new) result
         ⊎ IsMemoryLine start.contents (contents_of out.new) (has_failed out.new) [] result }
@@ -103,13 +103,6 @@ fn end_run<W: Sink>(
         Ok(()) => write_fleet(alloc, form, fleet, buffer, writer),
         Err(stopped) => write_stop(buffer, writer, stopped),
     }
-}
-
-/// Two buffers.
-fn new_buffers(alloc: Global) -> Result<(TextBuffer, TextBuffer), NoMemory> {
-    let kept = TextBuffer::new(alloc)?;
-    let buffer = TextBuffer::new(alloc)?;
-    Ok((kept, buffer))
 }
 
 /// Lists what the pieces of all inputs say together: their records by time, and which numbers are missing, unknown,

@@ -29,10 +29,7 @@ impl Gatherer {
 }
 
 impl<K: Sink> TakesPieces<Out<'_, K>> for Gatherer {
-    ghost use Rattle.std.specs.Prelude.{⊤};
     ghost use Rattle.collect_command.specs.streams.Gathering.{Gathers, Refuses};
-
-    ghost can_take = { λ p. ⊤ };
 
     ghost takes = { λ p placed q. Gathers placed.piece p.0.fleet p.1 q.0.fleet q.1 };
 

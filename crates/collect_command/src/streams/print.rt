@@ -14,10 +14,7 @@ pub(crate) struct PiecePrinter {
 }
 
 impl<W: Sink> TakesPieces<Out<'_, W>> for PiecePrinter {
-    ghost use Rattle.std.specs.Prelude.{⊤};
     ghost use Rattle.collect_command.specs.streams.Gathering.{PrintsPiece};
-
-    ghost can_take = { λ p. ⊤ };
 
     ghost takes = { λ p placed q. PrintsPiece placed p.0.form p.1 q.0.form q.1 };
 

@@ -17,9 +17,6 @@ use trace_model::CpuId;
 
 /// What takes the pieces of inputs, one after the other, each together with a writer.
 pub(crate) trait TakesPieces<W> {
-    // What it needs of itself and its writer before a piece. It holds after the piece too.
-    ghost can_take: { (Self × W) → Type 0 };
-
     // What taking a piece makes of both.
     ghost takes: { (Self × W) → Placed → (Self × W) → Type 0 };
 
@@ -34,11 +31,9 @@ pub(crate) trait TakesPieces<W> {
         piece: Piece,
         bytes: &[u8],
     ) -> Result<(), PieceRefusal>
-        requires can { can_take (self.old, writer.old) }
         requires sound { IsPiece (piece_seen piece) }
         requires bytes { bytes.now ≡ bytes_of_piece (piece_seen piece) }
         requires length { place.length ≡ length (bytes_of_piece (piece_seen piece)) }
-        ensures can { can_take (self.new, writer.new) }
         ensures taken { OnOk result (takes (self.old, writer.old)
             (record { input = place.input; at = place.at; piece = piece }) (self.new, writer.new)) }
         ensures refused { IfErr result (λ refusal. refuses (self.old, writer.old)
@@ -85,8 +80,6 @@ fn read_input<R: Source, W, T: TakesPieces<W>>(
 ) -> Result<(), Stop>
     requires sound { R.failed (source_of reader.old) ≡ false }
     requires fresh { IsFresh reader.old }
-    requires can { T.can_take (taker.old, writer.old) }
-    ensures can { T.can_take (taker.new, writer.new) }
     ensures taken { OnOk result (TakesInput R.remaining R.failed T.takes T.refuses input reader.old reader.new
         (taker.old, writer.old) (taker.new, writer.new)) }
     ensures stopped { IfErr result (λ stop. StopsInput R.remaining R.failed T.takes T.refuses input
@@ -126,8 +119,6 @@ pub(crate) fn read_inputs<R: Source, W, T: TakesPieces<W>>(
 ) -> Result<(), Stopped>
     requires sound { All (λ reader. R.failed (source_of reader) ≡ false) inputs.old }
     requires fresh { All (λ reader. IsFresh reader) inputs.old }
-    requires can { T.can_take (taker.old, writer.old) }
-    ensures can { T.can_take (taker.new, writer.new) }
     ensures taken { OnOk result (TakesInputs R.remaining R.failed T.takes T.refuses inputs.old inputs.new
         (taker.old, writer.old) (taker.new, writer.new)) }
     ensures stopped { IfErr result (λ stopped. StopsInputs R.remaining R.failed T.takes T.refuses inputs.old inputs.new

@@ -37,14 +37,14 @@ fn put_lost(
 ) -> Result<(), NoMemory> {
     let mut buffer = TextBuffer::new(alloc)?;
     let mut writer = Std::new(out);
-    let mut out = Out::new(&mut buffer, &mut writer);
+    let mut lost = Out::new(&mut buffer, &mut writer);
     let printer = Printer {
         form: Form::Text,
         names: None,
     };
-    printer.put_unknown(&mut out, capture);
-    printer.put_damaged(&mut out, capture, &[part]);
-    match out.finish() {
+    printer.put_unknown(&mut lost, capture);
+    printer.put_damaged(&mut lost, capture, &[part]);
+    match lost.finish() {
         Ok(()) => Ok(()),
         Err(_) => Err(NoMemory),
     }

@@ -2,5 +2,4 @@ use Rattle.text_values.proofs.Chains.{put_then}
 use Rattle.capture_text.proofs.losses.put_between.Goals as goal
 
 pub returns : goal.returns
-returns g c =
-    put_then _ _ (put_then _ _ c.put.ensures c.put_number.ensures) c.put-2.ensures
+returns g c = put_then _ _ c.put_numbered.ensures c.put.ensures

@@ -5,5 +5,4 @@ use Rattle.capture_text.proofs.losses.put_damages.Given as goal
 
 abbrev pub invariant-loop-damaged : goal.invariant-loop-damaged
 invariant-loop-damaged g l =
-    Puts (flat_map (reported_line l.form l.parts l.cpu.0) (take l.damaged-index l.pages))
-    l.fn.out l.out
+    Puts (flat_map (reported_line l.form l.parts l.cpu.0) (take l.damaged-index l.pages)) l.fn.out l.out

@@ -6,5 +6,4 @@ use Rattle.capture_text.proofs.losses.put_losses.Given as goal
 
 abbrev pub invariant-loop-number : goal.invariant-loop-number
 invariant-loop-number g l =
-    Puts (unknown_lines l.form l.cpu.0 (numbers_of (take l.number-index l.numbers)))
-    l.fn.out l.out
+    Puts (unknown_lines l.form l.cpu.0 (numbers_of (take l.number-index l.numbers))) l.fn.out l.out

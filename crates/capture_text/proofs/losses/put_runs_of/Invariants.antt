@@ -7,5 +7,4 @@ use Rattle.capture_text.proofs.losses.put_runs_of.Given as goal
 
 abbrev pub invariant-loop-first : goal.invariant-loop-first
 invariant-loop-first g l =
-    Puts (flat_map (run_line l.form l.cpu.0) (map run_numbers l.yielded))
-    l.fn.out l.out
+    Puts (flat_map (run_line l.form l.cpu.0) (map run_numbers l.yielded)) l.fn.out l.out

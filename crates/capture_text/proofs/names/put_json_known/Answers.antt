@@ -1,4 +1,4 @@
-use Rattle.std.proofs.Common.{ap}
+use Rattle.std.proofs.Common.{ap, arith}
 use Rattle.std.specs.Prelude.{Option}
 use Rattle.std.specs.Fmt.{signed_decimal}
 use Rattle.std.proofs.Math.Facts.{to_z-of_z}
@@ -12,7 +12,7 @@ pub returns : goal.returns
 returns g c = λ start text has.
     let front = c.put-2.ensures start _ (c.put_signed.ensures start _ (c.put.ensures start text has)) in
     put_as start _ _ _
-    (json_known text _ _ _ _ _ _ (ap signed_decimal (to_z-of_z c.ranges.pid))
+    (json_known text _ _ _ _ _ _ (ap signed_decimal (grind (arith, to_z-of_z, c.from.ensures, c.ranges.pid)))
     (ap (λ (e : Option Event). json_event c.args.id e) c.event-event.ensures)
     (ap (λ (e : Option Event). json_print e c.args.bytes.now) c.event-event.ensures))
     (c.put_json_print.ensures start _ (c.put_json_event.ensures start _ front))

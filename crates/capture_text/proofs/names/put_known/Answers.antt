@@ -1,4 +1,4 @@
-use Rattle.std.proofs.Common.{ap}
+use Rattle.std.proofs.Common.{ap, arith}
 use Rattle.std.specs.Prelude.{Option}
 use Rattle.std.specs.Fmt.{signed_decimal}
 use Rattle.std.proofs.Math.Facts.{to_z-of_z}
@@ -11,7 +11,7 @@ use Rattle.capture_text.proofs.names.put_known.Goals as goal
 pub returns : goal.returns
 returns g c = λ start text has.
     put_as start _ _ _
-    (known text _ _ _ _ _ _ (ap signed_decimal (to_z-of_z c.ranges.pid))
+    (known text _ _ _ _ _ _ (ap signed_decimal (grind (arith, to_z-of_z, c.from.ensures, c.ranges.pid)))
     (ap (λ (e : Option Event). event_or_number c.args.id e) c.event-event.ensures)
     (ap (λ (e : Option Event). print_part e c.args.bytes.now) c.event-event.ensures))
     (c.put_print.ensures start _

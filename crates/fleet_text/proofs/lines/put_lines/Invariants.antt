@@ -6,5 +6,4 @@ use Rattle.fleet_text.proofs.lines.put_lines.Given as goal
 
 abbrev pub invariant-loop-line : goal.invariant-loop-line
 invariant-loop-line g l =
-    Puts (flat_map (record_line l.form) (map line_seen (take l.line-index l.lines)))
-    l.fn.out l.out
+    Puts (flat_map (record_line l.form) (map line_seen (take l.line-index l.lines))) l.fn.out l.out

@@ -89,7 +89,6 @@ pieces-preserved g c =
     let next = left_of g.R.Source.remaining c.next.new.self in
     let some = c.in-Ok-Some in
     record {
-      can = c.in_default.ensures.can;
       sound = some.ensures.sound;
       so_far = read_more g.R.Source.remaining g.T.TakesPieces.takes c.args.input c.args.reader.now c.pieces.reader
           c.next.new.self (c.args.taker.now, c.args.writer.now) (c.pieces.taker, c.pieces.writer)
@@ -119,7 +118,6 @@ returns-clause-stopped g c =
 
 pub pieces-init : goal.pieces-init
 pieces-init g c = record {
-  can = c.requires.can;
   sound = c.requires.sound;
   so_far = read_none g.R.Source.remaining g.T.TakesPieces.takes c.args.input c.args.reader.now
       (c.args.taker.now, c.args.writer.now) c.requires.fresh;

@@ -5,7 +5,6 @@ use Rattle.collect_command.proofs.streams.read.read_input.Given as goal
 
 abbrev pub invariant-pieces : goal.invariant-pieces
 invariant-pieces g l = record {
-  can : g.T.TakesPieces.can_take (l.taker, l.writer);
   sound : g.R.Source.failed (source_of l.reader) ≡ false;
   so_far : IsReadSoFar g.R.Source.remaining g.T.TakesPieces.takes l.input l.fn.reader l.reader
       (l.fn.taker, l.fn.writer) (l.taker, l.writer);

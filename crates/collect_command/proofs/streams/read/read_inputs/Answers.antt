@@ -5,12 +5,9 @@ use Rattle.collect_command.proofs.Inputs.{none_read, next_input, as_first, one_r
 use Rattle.collect_command.proofs.streams.read.read_inputs.Goals as goal
 
 pub loop-input-init : goal.loop-input-init
-loop-input-init g c = record {
-  can = c.requires.can;
-  so_far = none_read g.R.Source.remaining g.R.Source.failed g.T.TakesPieces.takes g.T.TakesPieces.refuses
-      c.args.inputs.now
-      (c.args.taker.now, c.args.writer.now);
-}
+loop-input-init g c =
+    none_read g.R.Source.remaining g.R.Source.failed g.T.TakesPieces.takes g.T.TakesPieces.refuses c.args.inputs.now
+    (c.args.taker.now, c.args.writer.now)
 
 pub read_input-requires-clause-sound : goal.read_input-requires-clause-sound
 read_input-requires-clause-sound g c =
@@ -20,11 +17,11 @@ read_input-requires-clause-sound g c =
     let next = next_input g.R.Source.remaining g.R.Source.failed g.T.TakesPieces.takes g.T.TakesPieces.refuses
     c.args.inputs.now
     c.loop-input.inputs c.loop-input.input (c.args.taker.now, c.args.writer.now)
-    (c.loop-input.taker, c.loop-input.writer) this c.loop-input.invariant.so_far below c.index-inputs-input.is in
+    (c.loop-input.taker, c.loop-input.writer) this c.loop-input.invariant below c.index-inputs-input.is in
     let first = as_first g.R.Source.remaining g.R.Source.failed g.T.TakesPieces.takes g.T.TakesPieces.refuses
     c.args.inputs.now
     c.loop-input.inputs c.loop-input.input (c.args.taker.now, c.args.writer.now)
-    (c.loop-input.taker, c.loop-input.writer) this c.loop-input.invariant.so_far next in
+    (c.loop-input.taker, c.loop-input.writer) this c.loop-input.invariant next in
     subst (λ reader. g.R.Source.failed (source_of reader) ≡ false) (first.0 ∙ c.index-inputs-input.is)
     (c.requires.sound c.loop-input.input this first.1)
 
@@ -36,11 +33,11 @@ read_input-requires-clause-fresh g c =
     let next = next_input g.R.Source.remaining g.R.Source.failed g.T.TakesPieces.takes g.T.TakesPieces.refuses
     c.args.inputs.now
     c.loop-input.inputs c.loop-input.input (c.args.taker.now, c.args.writer.now)
-    (c.loop-input.taker, c.loop-input.writer) this c.loop-input.invariant.so_far below c.index-inputs-input.is in
+    (c.loop-input.taker, c.loop-input.writer) this c.loop-input.invariant below c.index-inputs-input.is in
     let first = as_first g.R.Source.remaining g.R.Source.failed g.T.TakesPieces.takes g.T.TakesPieces.refuses
     c.args.inputs.now
     c.loop-input.inputs c.loop-input.input (c.args.taker.now, c.args.writer.now)
-    (c.loop-input.taker, c.loop-input.writer) this c.loop-input.invariant.so_far next in
+    (c.loop-input.taker, c.loop-input.writer) this c.loop-input.invariant next in
     subst (λ reader. IsFresh reader) (first.0 ∙ c.index-inputs-input.is)
     (c.requires.fresh c.loop-input.input this first.1)
 
@@ -52,12 +49,12 @@ returns-in-Err-clause-stopped g c =
     let next = next_input g.R.Source.remaining g.R.Source.failed g.T.TakesPieces.takes g.T.TakesPieces.refuses
     c.args.inputs.now
     c.loop-input.inputs c.loop-input.input (c.args.taker.now, c.args.writer.now)
-    (c.loop-input.taker, c.loop-input.writer) this c.loop-input.invariant.so_far below c.index-inputs-input.is in
+    (c.loop-input.taker, c.loop-input.writer) this c.loop-input.invariant below c.index-inputs-input.is in
     stops_here g.R.Source.remaining g.R.Source.failed g.T.TakesPieces.takes g.T.TakesPieces.refuses c.args.inputs.now
     c.loop-input.inputs c.loop-input.input (c.args.taker.now, c.args.writer.now)
     (c.loop-input.taker, c.loop-input.writer) (c.read_input.new.taker, c.read_input.new.writer) this
     c.read_input.new.reader
-    c.in-Err.stop c.loop-input.invariant.so_far next
+    c.in-Err.stop c.loop-input.invariant next
     (subst (λ reader. StopsInput g.R.Source.remaining g.R.Source.failed g.T.TakesPieces.takes g.T.TakesPieces.refuses
     c.loop-input.input reader c.read_input.new.reader (c.loop-input.taker, c.loop-input.writer)
     (c.read_input.new.taker, c.read_input.new.writer)
@@ -71,16 +68,11 @@ loop-input-preserved g c =
     let next = next_input g.R.Source.remaining g.R.Source.failed g.T.TakesPieces.takes g.T.TakesPieces.refuses
     c.args.inputs.now
     c.loop-input.inputs c.loop-input.input (c.args.taker.now, c.args.writer.now)
-    (c.loop-input.taker, c.loop-input.writer) this c.loop-input.invariant.so_far below c.index-inputs-input.is in
-    record {
-      can = c.in_default.ensures.can;
-      so_far = one_read g.R.Source.remaining g.R.Source.failed g.T.TakesPieces.takes g.T.TakesPieces.refuses
-          c.args.inputs.now
-          c.loop-input.inputs c.loop-input.input (c.args.taker.now, c.args.writer.now)
-          (c.loop-input.taker, c.loop-input.writer) (c.read_input.new.taker, c.read_input.new.writer) this
-          c.read_input.new.reader c.loop-input.invariant.so_far next
-          (subst (λ reader. TakesInput g.R.Source.remaining g.R.Source.failed g.T.TakesPieces.takes
-          g.T.TakesPieces.refuses
-          c.loop-input.input reader c.read_input.new.reader (c.loop-input.taker, c.loop-input.writer)
-          (c.read_input.new.taker, c.read_input.new.writer)) (sym c.index-inputs-input.is) c.in_default.ensures.taken);
-    }
+    (c.loop-input.taker, c.loop-input.writer) this c.loop-input.invariant below c.index-inputs-input.is in
+    one_read g.R.Source.remaining g.R.Source.failed g.T.TakesPieces.takes g.T.TakesPieces.refuses c.args.inputs.now
+    c.loop-input.inputs c.loop-input.input (c.args.taker.now, c.args.writer.now)
+    (c.loop-input.taker, c.loop-input.writer) (c.read_input.new.taker, c.read_input.new.writer) this
+    c.read_input.new.reader c.loop-input.invariant next
+    (subst (λ reader. TakesInput g.R.Source.remaining g.R.Source.failed g.T.TakesPieces.takes g.T.TakesPieces.refuses
+    c.loop-input.input reader c.read_input.new.reader (c.loop-input.taker, c.loop-input.writer)
+    (c.read_input.new.taker, c.read_input.new.writer)) (sym c.index-inputs-input.is) c.in_default.ensures.taken)
