@@ -1,7 +1,8 @@
 // Goes through a program that records in a flight file, instruction by instruction, and reads the file whenever it has
 // changed: what is there is what a kill at that instruction leaves. `flight_file_steps FOLDER ROUNDS SEED`. At random
-// instructions the program gets a signal, whose handler records too, at the site that is next. Once so many events
-// stand that a handler's may be refused, signals come more often: then handlers interrupt the noting of refusals.
+// instructions the program gets a signal, whose handler records too, at the site that is next. Its threads have a ring
+// in one round and two in the next. While as many events stand as a thread has rings, or one more, signals come often:
+// then handlers are refused, and interrupt the noting of a refusal.
 #define _GNU_SOURCE
 #include "flight_file_account.h"
 
@@ -13,10 +14,11 @@
 #include <sys/wait.h>
 #include <unistd.h>
 
-enum { THREADS = 2, LEVELS = 2, MOST_STANDING = 6, NAMES = 11, LOOKED = 8192 };
+enum { THREADS = 2, NAMES = 11, LOOKED = 8192 };
 
 static char path[200];
 static uint64_t random_state;
+static uint32_t levels; // how many rings a thread has in this round
 static uint64_t readings, steps, signals;
 
 static uint64_t next_random(void)
@@ -67,7 +69,7 @@ static void live(void)
 static _Noreturn void be_followed(void)
 {
     struct sigaction action = {.sa_handler = on_signal, .sa_flags = SA_NODEFER};
-    struct flight_config config = {.threads = THREADS, .levels = LEVELS, .pages = 2, .size = 1024, .file = path};
+    struct flight_config config = {.threads = THREADS, .levels = levels, .pages = 2, .size = 1024, .file = path};
     want(!sigaction(SIGUSR1, &action, NULL), "no handler", 0, 0);
     want(!ptrace(PTRACE_TRACEME, 0, NULL, NULL), "it can't be followed", 0, 0);
     want(!prctl(PR_SET_NAME, "n0"), "no name", 0, 0);
@@ -127,14 +129,12 @@ static int step(pid_t child, int signal)
     return WSTOPSIG(status);
 }
 
-// How many instructions come before the next signal: fewer if so many events stand that one may be refused, but from
-// MOST_STANDING on no fewer than else, so that handlers don't nest ever deeper.
-static uint64_t next_gap(void)
+// Whether a signal comes before the next instruction. While as many events stand as a thread has rings, or one more, it
+// often does. (If still more stand it seldom does, so that handlers don't nest ever deeper.)
+static bool is_interrupted(void)
 {
     uint64_t standing = truth->begun - truth->returned;
-    bool may_refuse = standing > LEVELS && standing < MOST_STANDING;
-    uint64_t most = may_refuse ? 400 : next_random() % 4 ? 4000 : 100;
-    return next_random() % most;
+    return next_random() % (standing == levels || standing == levels + 1 ? 400 : 2000) == 0;
 }
 
 static void follow(pid_t child)
@@ -144,13 +144,11 @@ static void follow(pid_t child)
         (uint64_t)status, 0);
     mapped = tracering_region_open(path, &file_len);
     want(mapped != NULL, "no file", 0, 0);
-    uint64_t left = next_random() % 400; // instructions, to the next signal
     for (int signal = 0; (stop = step(child, signal)) != SIGSTOP;) {
         want(stop == SIGTRAP || stop == SIGUSR1, "another stop", (uint64_t)stop, steps);
         look();
-        signal = stop == SIGUSR1 || !left ? SIGUSR1 : 0;
+        signal = stop == SIGUSR1 || is_interrupted() ? SIGUSR1 : 0;
         signals += signal != 0;
-        left = left ? left - 1 : 1 + next_gap();
     }
     want(number64_at(mapped + 8 * FILE_ENDED) == 1, "no end", 0, 0);
     (void)kill(child, SIGKILL);
@@ -168,6 +166,7 @@ int main(int argc, char **argv)
     snprintf(path, sizeof path, "%s/stepped.flight", argv[1]);
     for (uint64_t round = 0; round < rounds; round++) {
         memset(truth, 0, sizeof *truth);
+        levels = 1 + round % 2;
         fflush(NULL);
         pid_t child = fork();
         want(child >= 0, "no process", 0, 0);

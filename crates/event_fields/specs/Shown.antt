@@ -1,5 +1,5 @@
 -- Which fields are shown, and which numbers they have.
-use Rattle.std.specs.Prelude.{Bool, not, List, filter, codes, nat_eq}
+use Rattle.std.specs.Prelude.{Bool, not, codes, nat_eq}
 use Rattle.std.specs.List.{starts_with}
 use Rattle.event_fields.specs.declared.field.Kind.{Kind}
 use Rattle.event_fields.specs.declared.field.Kind.TheVariants as kinds
@@ -17,7 +17,3 @@ numbers_of_kind kinds.Bytes = Unsigned
 -- whether a field is shown: not if every event has it
 unfoldable pub is_shown : EventField → Bool
 is_shown field = not (starts_with nat_eq field.name (codes "common_"))
-
--- the fields that are shown
-abbrev pub shown_fields : List EventField → List EventField
-shown_fields fields = filter is_shown fields

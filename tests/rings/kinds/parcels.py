@@ -107,19 +107,19 @@ def cut_rows(source):
 
 
 def tried(program, seed=1, share=1):
-    """Tries the lists, the cuts, and of the forged parcels each one of `share`."""
-    source = Source(seed)
+    """Tries the cuts, and one of `share` lists and forged parcels."""
+    source, share = Source(seed), int(share)
     lists = [*map(source.row, range(LISTS))]
     uncounted = [*forged_rows(uncounted_parcel())]
     forged = [*uncounted, *forged_rows(counted_parcel())]
-    forged = forged[:: int(share)]
     cut = [*cut_rows(source)]
     check_often(lists)
     check_parts(uncounted)
+    lists, forged = lists[::share], forged[::share]
     for what, rows in (("lists", lists), ("forged parcels", forged), ("cuts", cut)):
         compare(program, [row.lines for row in rows], f"random: seed {seed}, {what}")
     cuts = sum(len(row.answers) for row in cut)
     return (
-        f"{LISTS:,} random lists of parcels, {len(forged):,} forged parcels and {cuts:,} questions on cut ones, and\n"
+        f"{len(lists):,} random lists of parcels, {len(forged):,} forged parcels and {cuts:,} questions on cut ones, and\n"
         "images that are cut or state another size, are answered as by the plain collector"
     )
