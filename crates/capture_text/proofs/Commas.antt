@@ -1,23 +1,21 @@
 -- Texts with a comma between two, one after the other.
-use Rattle.std.proofs.Common.{◌≡◌, ℕ, ◌+◌, ◌<◌, Bool, true, false, List, [], ◌∷◌, ◌++◌, length, get_or, take, map, refl}
+use Rattle.std.proofs.Common.{◌≡◌, ℕ, ◌+◌, ◌<◌, false, List, [], ◌∷◌, ◌++◌, length, get_or, take, map, refl}
 use Rattle.std.proofs.Common.{sym, ap, ◌∙◌, append_assoc, append-nil}
-use Rattle.std.specs.Prelude.{flat_map, ◌&&◌, ◌||◌}
-use Rattle.std.specs.List.{list_any}
+use Rattle.std.specs.Prelude.{flat_map, ◌&&◌}
 use Rattle.std.proofs.lemmas.List.{take_more, map-append}
-use Rattle.std.proofs.lemmas.List.Folds.{flat_map-map, list_any-append}
-use Rattle.std.proofs.lemmas.Bool.{or-false}
+use Rattle.std.proofs.lemmas.List.Folds.{flat_map-map}
 use Rattle.std.proofs.lemmas.Grind.{flat_map-append}
 use Rattle.capture_text.specs.Fields.{joined, continued, is_no_text}
 
 after_first : (texts : List (List ℕ)) → flat_map (λ other. 44 ∷ other) texts ≡ continued false texts
 after_first [] = refl
-after_first (text ∷ texts) = refl
+after_first (one ∷ others) = refl
 
 -- texts after these
 pub joined_more : (before next : List (List ℕ))
     → joined (before ++ next) ≡ joined before ++ continued (is_no_text before) next
 joined_more [] [] = refl
-joined_more [] (text ∷ texts) = refl
+joined_more [] (one ∷ others) = refl
 joined_more (first ∷ others) next =
     ap (λ (l : List ℕ). first ++ l) (flat_map-append (λ other. 44 ∷ other) others next)
     ∙ sym (append_assoc first (flat_map (λ other. 44 ∷ other) others) (flat_map (λ other. 44 ∷ other) next))
@@ -47,11 +45,3 @@ module _ {A B : Type 0} (seen : A → B) (values : List A) (index : ℕ) (defaul
       ∙ flat_map-append make (map seen (take index values)) (seen (get_or values index default) ∷ [])
       ∙ ap (λ (l : List C). flat_map make (map seen (take index values)) ++ l)
       (append-nil (make (seen (get_or values index default))))
-
-  pub any_more : (test : B → Bool) → list_any test (map seen (take (index + 1) values))
-      ≡ (list_any test (map seen (take index values)) || test (seen (get_or values index default)))
-  any_more test =
-      ap (list_any test) one_more
-      ∙ list_any-append test (map seen (take index values)) (seen (get_or values index default) ∷ [])
-      ∙ ap (λ (b : Bool). list_any test (map seen (take index values)) || b)
-      (or-false (test (seen (get_or values index default))))

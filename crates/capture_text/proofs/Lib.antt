@@ -2,6 +2,7 @@ mod Texts
 mod Plain
 mod Runs
 mod Commas
+mod FieldLoops
 mod Damages
 mod Places
 mod Pieces

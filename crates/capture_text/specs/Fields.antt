@@ -22,7 +22,7 @@ joined (first ∷ others) = first ++ flat_map (λ other. 44 ∷ other) others
 -- whether there is no text
 abbrev pub is_no_text : List (List ℕ) → Bool
 is_no_text [] = true
-is_no_text (text ∷ texts) = false
+is_no_text (one ∷ others) = false
 
 -- a comma, unless what comes is the first
 abbrev pub comma : (is_first : Bool) → List ℕ
@@ -32,7 +32,7 @@ comma false = codes ","
 -- texts with a comma between two, and a comma before them unless they are the first
 abbrev pub continued : (is_first : Bool) → List (List ℕ) → List ℕ
 continued is_first [] = []
-continued is_first (text ∷ texts) = comma is_first ++ joined (text ∷ texts)
+continued is_first (one ∷ others) = comma is_first ++ joined (one ∷ others)
 
 -- texts with a comma between two, in brackets
 abbrev pub bracketed : List (List ℕ) → List ℕ

@@ -86,14 +86,14 @@ fn put_numbers<W: Sink>(out: &mut Out<'_, W>, form: Form, kind: NumberKind, numb
 }
 
 /// Puts bytes of which nothing else is known.
-fn put_bytes<W: Sink>(out: &mut Out<'_, W>, form: Form, kind: NumberKind, bytes: &[u8])
-    ensures { Puts (value_text form kind (bytes bytes.now)) out.old out.new }
+fn put_bytes<W: Sink>(out: &mut Out<'_, W>, form: Form, kind: NumberKind, given: &[u8])
+    ensures { Puts (value_text form kind (bytes given.now)) out.old out.new }
 {
     match form {
-        Form::Text => out.put_payload(bytes),
+        Form::Text => out.put_payload(given),
         Form::Json => {
             out.put(b"\"");
-            out.put_hex(bytes);
+            out.put_hex(given);
             out.put(b"\"");
         }
     }

@@ -1,4 +1,4 @@
-use Rattle.std.proofs.Common.{◌≡◌, ℕ, List, ◌∷◌, ◌++◌, length}
+use Rattle.std.proofs.Common.{◌≡◌, List, ◌∷◌, ◌++◌, length}
 use Rattle.std.specs.Prelude.{ℤ, flat_map}
 use Rattle.event_fields.specs.Values.{numbers_seen}
 use Rattle.text_values.specs.Putting.{Puts}
