@@ -3,6 +3,7 @@ mod Plain
 mod Runs
 mod Commas
 mod FieldLoops
+mod PayloadsToo
 mod Damages
 mod Places
 mod Pieces

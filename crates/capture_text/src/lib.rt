@@ -2,6 +2,7 @@
 //! pages, as text or as JSON. It is put through a buffer of fixed size.
 #![tactic(auto)]
 
+mod fielded;
 mod fields;
 mod form;
 mod lines;

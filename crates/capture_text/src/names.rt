@@ -65,7 +65,11 @@ fn print_text(bytes: &[u8]) -> &[u8]
 // ---- in a line of text
 
 /// Puts the event, or its number.
-fn put_event_or_number<W: Sink>(out: &mut Out<'_, W>, id: u16, event: Option<EventName<'_>>)
+pub(crate) fn put_event_or_number<W: Sink>(
+    out: &mut Out<'_, W>,
+    id: u16,
+    event: Option<EventName<'_>>,
+)
     ensures { Puts (event_or_number id (option_map event_seen event.entry)) out.old out.new }
 {
     match event {
@@ -108,7 +112,7 @@ pub(crate) fn put_named<W: Sink>(out: &mut Out<'_, W>, names: &EventNames, bytes
 // ---- in a JSON line
 
 /// Puts the event, or its number, as a JSON value.
-fn put_json_event<W: Sink>(out: &mut Out<'_, W>, id: u16, event: Option<EventName<'_>>)
+pub(crate) fn put_json_event<W: Sink>(out: &mut Out<'_, W>, id: u16, event: Option<EventName<'_>>)
     ensures { Puts (json_event id (option_map event_seen event.entry)) out.old out.new }
 {
     match event {
