@@ -1,10 +1,11 @@
 -- What a line says of its record besides the numbers: the process that wrote it, its event, and the text of a print.
-use Rattle.std.specs.Prelude.{ℕ, ℤ, Bool, false, ◌&&◌, ◌==◌, if◌then◌else◌, List, [], ◌∷◌, ◌++◌, length, take, drop}
-use Rattle.std.specs.Prelude.{position, unwrap_or, codes, bytes_eq, Option, Some, None}
+use Rattle.std.specs.Prelude.{ℕ, ℤ, Bool, false, ◌&&◌, if◌then◌else◌, List, [], ◌∷◌, ◌++◌, drop}
+use Rattle.std.specs.Prelude.{codes, bytes_eq, Option, Some, None}
 use Rattle.std.specs.Fmt.{decimal, signed_decimal}
 use Rattle.text_model.specs.Text.{space}
 use Rattle.trace_dat.specs.kernel_texts.Names.{Event}
 use Rattle.trace_dat.specs.declared.kernel_texts.record.CommonFields.{CommonFields}
+use Rattle.event_fields.specs.Texts.{text_before_zero}
 use Rattle.capture_text.specs.Quoting.{quotation_mark, quoted, shown_name}
 
 -- an event's system and its own name
@@ -15,10 +16,6 @@ event_text event = shown_name event.system ++ codes ":" ++ shown_name event.name
 abbrev pub is_print : Option Event → Bool
 is_print None = false
 is_print (Some event) = bytes_eq event.system (codes "ftrace") && bytes_eq event.name (codes "print")
-
--- the bytes up to the first zero byte
-abbrev pub text_before_zero : List ℕ → List ℕ
-text_before_zero bytes = take (unwrap_or (position (λ b. b == 0) bytes) (length bytes)) bytes
 
 -- the text of such a record: after the fields that all events have and an address, up to the first zero byte
 abbrev pub print_text : List ℕ → List ℕ

@@ -1,15 +1,16 @@
 //! What a line says of its record's event.
-ghost use Rattle.std.specs.Prelude.{◌≡◌, ◌==◌, ◌++◌, ◌∷◌, [], position};
+ghost use Rattle.std.specs.Prelude.{◌≡◌, ◌++◌, ◌∷◌, []};
 ghost use Rattle.std.specs.Option.{option_map};
 ghost use Rattle.trace_dat.specs.kernel_texts.Names.{event_seen, events_of};
 ghost use Rattle.trace_dat.specs.kernel_texts.FirstBytes.{common_fields_in};
 ghost use Rattle.text_values.specs.Putting.{Puts};
-ghost use Rattle.capture_text.specs.Names.{event_text, is_print, text_before_zero, print_text, event_or_number};
+ghost use Rattle.capture_text.specs.Names.{event_text, is_print, print_text, event_or_number};
 ghost use Rattle.capture_text.specs.Names.{print_part, named_part, known_part, json_event, json_print, json_named};
 ghost use Rattle.capture_text.specs.Names.{json_known};
 
 use crate::quoting::{put_name, put_quoted};
 use command_io::Sink;
+use event_fields::before_zero;
 use text_values::Out;
 use trace_dat::kernel_texts::{EventName, EventNames, common_fields};
 
@@ -32,23 +33,6 @@ fn is_print(event: Option<EventName<'_>>) -> bool
     match event {
         Some(event) => event.system == b"ftrace".as_slice() && event.name == b"print".as_slice(),
         None => false,
-    }
-}
-
-/// The place of the first zero byte.
-fn first_zero(bytes: &[u8]) -> Option<usize>
-    ensures { result ≡ position (λ b. b == 0) bytes.now }
-{
-    bytes.iter().position(|byte| *byte == 0)
-}
-
-/// The bytes up to the first zero byte.
-fn before_zero(bytes: &[u8]) -> &[u8]
-    ensures { result.now ≡ text_before_zero bytes.now }
-{
-    match first_zero(bytes) {
-        Some(end) => &bytes[..end],
-        None => bytes,
     }
 }
 
