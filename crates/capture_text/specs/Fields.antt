@@ -1,4 +1,4 @@
--- How the fields of a record are printed. docs/formats/program.md, "Fields".
+-- How the fields of a record are printed.
 use Rattle.std.specs.Prelude.{ℕ, ℤ, Bool, true, false, List, [], ◌∷◌, ◌++◌, map, flat_map, codes, Option, Some, None}
 use Rattle.std.specs.Prelude.{is_none, unsigned_abs, if◌then◌else◌}
 use Rattle.std.specs.Fmt.{signed_decimal}
