@@ -34,7 +34,8 @@ joined_values text first others =
 -- ---- what is made of the first values, and of one more
 
 module _ {A B : Type 0} (seen : A → B) (values : List A) (index : ℕ) (default : A) (below : index < length values) where
-  one_more : map seen (take (index + 1) values) ≡ map seen (take index values) ++ seen (get_or values index default) ∷ []
+  one_more : map seen (take (index + 1) values)
+      ≡ map seen (take index values) ++ seen (get_or values index default) ∷ []
   one_more = ap (map seen) (take_more values index default below)
       ∙ map-append seen (take index values) (get_or values index default ∷ [])
 

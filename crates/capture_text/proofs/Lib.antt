@@ -4,6 +4,7 @@ mod Runs
 mod Commas
 mod FieldLoops
 mod PayloadsToo
+mod NumberTexts
 mod Damages
 mod Places
 mod Pieces

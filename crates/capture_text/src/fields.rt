@@ -174,8 +174,8 @@ fn put_comma<W: Sink>(out: &mut Out<'_, W>, is_first: bool)
     }
 }
 
-/// Puts the member of a field that is shown and has a value in the payload, after a comma if it isn't the first. Answers
-/// whether a member is still to be the first.
+/// Puts the member of a field that is shown and has a value in the payload, after a comma if it isn't the first.
+/// Answers whether a member is still to be the first.
 fn put_member<W: Sink>(out: &mut Out<'_, W>, is_first: bool, field: &Field, payload: &[u8]) -> bool
     ensures text { Puts (continued is_first (json_member payload.now (field_seen field.now))) out.old out.new }
     ensures first { result ≡ (is_first && is_no_text (json_member payload.now (field_seen field.now))) }

@@ -5,6 +5,7 @@
 mod fielded;
 mod fields;
 mod form;
+pub mod laws;
 mod lines;
 mod losses;
 mod names;

@@ -9,12 +9,13 @@ use Rattle.std.proofs.lemmas.List.Folds.{list_any_at}
 use Rattle.std.proofs.lemmas.List.Quantifiers.{all_pairs_push}
 use Rattle.std.proofs.lemmas.Option.{same_Some, none-some, option_and_then_some}
 use Rattle.event_fields.specs.Lines.{EventField, field_in}
-use Rattle.event_fields.specs.Fields.{PlacedLine, most_fields, has_name, further, further_in, made_of, fields_after}
+use Rattle.event_fields.specs.declared.fields.TheConstants.{MOST_FIELDS}
+use Rattle.event_fields.specs.Fields.{PlacedLine, has_name, further, further_in, made_of, fields_after}
 use Rattle.event_fields.specs.Fields.{field_lines_at, fields_of}
 
 -- what holds of the fields so far
 abbrev AreDistinct : List EventField → Type 0
-AreDistinct fields = (length fields ≤ most_fields) × AllPairs (λ a b. a.name ≢ b.name) fields
+AreDistinct fields = (length fields ≤ MOST_FIELDS) × AllPairs (λ a b. a.name ≢ b.name) fields
 
 -- a name that no field has
 no_field_has : (name : List ℕ) (fields : List EventField) → has_name name fields ≡ false
@@ -27,11 +28,11 @@ no_field_has name fields none k d below same =
 further_adds : (fields : List EventField) (field next : EventField) → further fields field ≡ Some next
     → AreDistinct fields → AreDistinct (fields ++ next ∷ [])
 further_adds fields field next h distinct =
-    elim (cases_Bool (nat_le most_fields (length fields) || has_name field.name fields)) [
+    elim (cases_Bool (nat_le MOST_FIELDS (length fields) || has_name field.name fields)) [
       | inl refused ↦ absurd (none-some next (sym (cond-true _ None (Some field) refused) ∙ h))
       | inr taken ↦
           (let parts = or_parts _ _ taken in
-          let few : length fields < most_fields = leb-false _ _ parts.0 in
+          let few : length fields < MOST_FIELDS = leb-false _ _ parts.0 in
           let is : field ≡ next = same_Some _ _ (sym (cond-false _ None (Some field) taken) ∙ h) in
           let others = no_field_has field.name fields parts.1 in
           subst (λ f. AreDistinct (fields ++ f ∷ [])) is (

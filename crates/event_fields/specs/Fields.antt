@@ -6,6 +6,7 @@ use Rattle.std.specs.List.{list_any, starts_with, take_while}
 use Rattle.std.specs.Option.{option_and_then}
 use Rattle.std.specs.Global.{Vec}
 use Rattle.event_fields.specs.declared.field.Field.{Field}
+use Rattle.event_fields.specs.declared.fields.TheConstants.{MOST_FIELDS}
 use Rattle.event_fields.specs.declared.fields.FormatError.{FormatError}
 use Rattle.event_fields.specs.declared.fields.FormatError.TheVariants as errors
 use Rattle.event_fields.specs.Lines.{EventField, field_seen, field_in, tab}
@@ -37,17 +38,13 @@ field_lines_among lines =
 unfoldable pub field_lines_at : ℕ → List ℕ → List PlacedLine
 field_lines_at at text = field_lines_among (with_offsets at (parts_of 10 text))
 
--- how many fields a format may have
-abbrev pub most_fields : ℕ
-most_fields = 256
-
 -- whether one of the fields has this name
 abbrev pub has_name : List ℕ → List EventField → Bool
 has_name name fields = list_any (λ field. bytes_eq field.name name) fields
 
 -- a field after others: not one too many, and of another name than these
 abbrev pub further : List EventField → EventField → Option EventField
-further fields field = if nat_le most_fields (length fields) || has_name field.name fields then None else Some field
+further fields field = if nat_le MOST_FIELDS (length fields) || has_name field.name fields then None else Some field
 
 -- the field that a line describes after others
 unfoldable pub further_in : List EventField → List ℕ → Option EventField

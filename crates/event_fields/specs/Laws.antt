@@ -5,7 +5,8 @@ use Rattle.std.specs.Prelude.{if◌then◌else◌}
 use Rattle.event_fields.specs.declared.field.Layout.{Layout}
 use Rattle.event_fields.specs.Cutting.{bytes_of}
 use Rattle.event_fields.specs.Declarations.{Declaration, declaration_in}
-use Rattle.event_fields.specs.Fields.{most_fields, fields_of}
+use Rattle.event_fields.specs.declared.fields.TheConstants.{MOST_FIELDS}
+use Rattle.event_fields.specs.Fields.{fields_of}
 use Rattle.event_fields.specs.Lines.{EventField, tab, field_of, field_in}
 use Rattle.event_fields.specs.Texts.{number32_in}
 
@@ -51,4 +52,4 @@ LinesHaveParts = (line : List ℕ) (field : EventField) → field_in line ≡ So
 -- The fields of a format aren't too many, and no two of them have the same name.
 abbrev pub NamesDiffer : Type 0
 NamesDiffer = (format : List ℕ) (fields : List EventField) → fields_of format ≡ Ok fields
-    → (length fields ≤ most_fields) × AllPairs (λ a b. a.name ≢ b.name) fields
+    → (length fields ≤ MOST_FIELDS) × AllPairs (λ a b. a.name ≢ b.name) fields

@@ -1,7 +1,8 @@
 //! Laws of the reading of formats, and of where the bytes of fields are.
 ghost use Rattle.event_fields.specs.Laws.{BytesAreInPayload, LinesHaveParts, NamesDiffer};
 
-/// The bytes of a field are in the payload of its record: nothing else is ever taken for a field.
+/// The bytes of a field are bytes of its record's payload, one after the other: nothing outside it is ever taken for a
+/// field.
 pub fn bytes_are_in_payload()
     ensures { BytesAreInPayload }
 {}
