@@ -120,6 +120,6 @@ def tried(program, seed=1, share=1):
         compare(program, [row.lines for row in rows], f"random: seed {seed}, {what}")
     cuts = sum(len(row.answers) for row in cut)
     return (
-        f"{len(lists):,} random lists of parcels, {len(forged):,} forged parcels and {cuts:,} questions on cut ones, and\n"
-        "images that are cut or state another size, are answered as by the plain collector"
+        f"{len(lists):,} random lists of parcels, {len(forged):,} forged parcels and {cuts:,} questions on cut ones,\n"
+        "and images that are cut or state another size, are answered as by the plain collector"
     )
