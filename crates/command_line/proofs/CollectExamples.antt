@@ -1,6 +1,6 @@
 -- What the program's command line is on words that call for `collect` and are written out.
 use Rattle.std.proofs.Common.{◌≡◌, ◌⊎◌, inl, inr, List, ◌∷◌, [], Result, Ok, Err, Some, None, Option, ℕ, Bool, true}
-use Rattle.std.proofs.Common.{false, codes, is_some, refl, sym, ap, ◌∙◌, arith}
+use Rattle.std.proofs.Common.{false, bytes_eq, codes, is_some, refl, sym, ap, ◌∙◌, arith}
 use Rattle.clap.specs.Words.{Row, Text, first_of, one_of}
 use Rattle.clap.proofs.OnLiterals.{clap_on_literals}
 use Rattle.command_line.proofs.Names.{collect_is_not_recover, first_letter}
@@ -12,22 +12,16 @@ use Rattle.command_line.specs.declared.call.Call.TheVariants.{Replay, Run, Steps
 use Rattle.command_line.specs.declared.call.CallFault.{CallFault}
 use Rattle.command_line.specs.declared.call.CallFault.TheVariants.{Usage, NoMemory}
 
-same_asked : (a b : Asked) → a.page ≡ b.page → a.names ≡ b.names → a.json ≡ b.json → a.formats ≡ b.formats
-    → a.keep ≡ b.keep → a.parcels ≡ b.parcels → a.files ≡ b.files → a ≡ b
-same_asked a b page names json formats keep parcels files =
+same_asked : (a b : Asked) → a.page ≡ b.page → a.names ≡ b.names → a.fields ≡ b.fields → a.json ≡ b.json
+    → a.formats ≡ b.formats → a.keep ≡ b.keep → a.parcels ≡ b.parcels → a.files ≡ b.files → a ≡ b
+same_asked a b page names fields json formats keep parcels files =
     ap (λ x. record a { page = x }) page
     ∙ ap (λ x. record a { page = b.page; names = x }) names
-    ∙ ap (λ x. record a { page = b.page; names = b.names; json = x }) json
-    ∙ ap (λ x. record a { page = b.page; names = b.names; json = b.json; formats = x }) formats
-    ∙ ap (λ x. record a { page = b.page; names = b.names; json = b.json; formats = b.formats; keep = x }) keep
-    ∙ ap (λ x. record a {
-      page = b.page;
-      names = b.names;
-      json = b.json;
-      formats = b.formats;
-      keep = b.keep;
-      parcels = x;
-    }) parcels
+    ∙ ap (λ x. record a { page = b.page; names = b.names; fields = x }) fields
+    ∙ ap (λ x. record a { page = b.page; names = b.names; fields = b.fields; json = x }) json
+    ∙ ap (λ x. record b { formats = x; keep = a.keep; parcels = a.parcels; files = a.files }) formats
+    ∙ ap (λ x. record b { keep = x; parcels = a.parcels; files = a.files }) keep
+    ∙ ap (λ x. record b { parcels = x; files = a.files }) parcels
     ∙ ap (λ x. record b { files = x }) files
 
 -- ---- what the matches say of each option, and so all that is asked for
@@ -37,15 +31,26 @@ abbrev flag_word : Bool → Text
 flag_word true = codes "true"
 flag_word false = codes "false"
 
--- the text of `--names`, which is as if it were given if formats are
-abbrev names_text : (formats names : Option Text) → Option Text
-names_text None names = names
-names_text (Some folder) names = Some (codes "true")
+-- a flag is given, as its text says
+abbrev is_given : (text : Option Text) → Bool
+is_given None = false
+is_given (Some text) = bytes_eq text (codes "true")
+
+-- the text of `--names`, which is as if it were given if fields or formats are
+abbrev names_text : (fields : Bool) (formats names : Option Text) → Option Text
+names_text true formats names = Some (codes "true")
+names_text false None names = names
+names_text false (Some folder) names = Some (codes "true")
+
+-- whether `--fields` is given
+abbrev fields_given : List Row → Bool
+fields_given rows = is_given (one_of (codes "fields") rows)
 
 -- what they say of each option
 record Said : Type 0 where
   page : Option (Option ℕ)
   names : Option Text
+  fields : Option Text
   json : Option Text
   formats : Option Text
   keep : Option Text
@@ -55,7 +60,8 @@ record Said : Type 0 where
 abbrev said_in : List Row → Said
 said_in rows = record {
   page = page_matched rows;
-  names = names_text (first_of (codes "formats") rows) (one_of (codes "names") rows);
+  names = names_text (fields_given rows) (first_of (codes "formats") rows) (one_of (codes "names") rows);
+  fields = one_of (codes "fields") rows;
   json = one_of (codes "json") rows;
   formats = first_of (codes "formats") rows;
   keep = first_of (codes "keep") rows;
@@ -68,6 +74,7 @@ abbrev said_for : Asked → Said
 said_for asked = record {
   page = Some asked.page;
   names = Some (flag_word asked.names);
+  fields = Some (flag_word asked.fields);
   json = Some (flag_word asked.json);
   formats = asked.formats;
   keep = asked.keep;
@@ -84,14 +91,29 @@ true_is_not_false : Some (codes "true") ≡ Some (codes "false") → ⊥
 -- their first letters are t and f
 true_is_not_false same = let letters : 116 ≡ 102 = ap first_letter same in omega (arith, letters)
 
-same_names : (rows : List Row) (asked : Asked) (formats : Option Text) (wanted : Bool)
-    → first_of (codes "formats") rows ≡ formats → AsksFor rows asked
-    → names_text formats (one_of (codes "names") rows) ≡ Some (flag_word wanted) → asked.names ≡ wanted
-same_names rows asked (Some folder) true has asks is =
+-- what is asked for has fields as their text says
+given_word : (rows : List Row) (asked wanted : Asked) → AsksFor rows asked
+    → one_of (codes "fields") rows ≡ Some (flag_word wanted.fields)
+    → fields_given rows ≡ asked.fields
+given_word rows asked wanted asks is =
+    ap is_given is ∙ given_flag wanted.fields
+    ∙ sym (same_flag rows (codes "fields") asked.fields wanted.fields asks.fields is)
+  where
+    given_flag : (wanted : Bool) → is_given (Some (flag_word wanted)) ≡ wanted
+    given_flag true = refl
+    given_flag false = refl
+
+same_names : (rows : List Row) (asked : Asked) (fields : Bool) (formats : Option Text) (wanted : Bool)
+    → asked.fields ≡ fields → first_of (codes "formats") rows ≡ formats → AsksFor rows asked
+    → names_text fields formats (one_of (codes "names") rows) ≡ Some (flag_word wanted) → asked.names ≡ wanted
+same_names rows asked true formats true has_fields has asks is = asks.named_fields has_fields
+same_names rows asked true formats false has_fields has asks is = absurd (true_is_not_false is)
+same_names rows asked false (Some folder) true has_fields has asks is =
     asks.named_formats (ap is_some (sym asks.formats ∙ has))
-same_names rows asked (Some folder) false has asks is = absurd (true_is_not_false is)
-same_names rows asked None true has asks is = asks.names is
-same_names rows asked None false has asks is = asks.no_names is (sym asks.formats ∙ has)
+same_names rows asked false (Some folder) false has_fields has asks is = absurd (true_is_not_false is)
+same_names rows asked false None true has_fields has asks is = asks.names is
+same_names rows asked false None false has_fields has asks is =
+    asks.no_names is (sym asks.formats ∙ has) has_fields
 
 same_some : {T : Type 0} (a b : T) (o : Option T) → o ≡ Some a → o ≡ Some b → a ≡ b
 same_some a b o x y = let both : Some a ≡ Some b = sym x ∙ y in cc
@@ -104,7 +126,10 @@ module _ (words : List Text) (named : names_command words ≡ Some (codes "colle
       let asks = a.collect call refl in
       same_asked (asked_of call) asked
       (same_some call.page asked.page _ asks.page (ap (λ (s : Said). s.page) says))
-      (same_names rows (asked_of call) _ asked.names refl asks (ap (λ (s : Said). s.names) says))
+      (same_names rows (asked_of call) _ _ asked.names
+      (sym (given_word rows (asked_of call) asked asks (ap (λ (s : Said). s.fields) says))) refl asks
+      (ap (λ (s : Said). s.names) says))
+      (same_flag rows (codes "fields") call.fields asked.fields asks.fields (ap (λ (s : Said). s.fields) says))
       (same_flag rows (codes "json") call.json asked.json asks.json (ap (λ (s : Said). s.json) says))
       (sym asks.formats ∙ ap (λ (s : Said). s.formats) says)
       (sym asks.keep ∙ ap (λ (s : Said). s.keep) says)
@@ -189,6 +214,20 @@ flags_calls first = (refl, refl, refl)
 pub asked_flags : (first : List ℕ) (result : Result Call CallFault) → IsParseOf (flags_words first) result
     → IsAsked result flags_asked
 asked_flags first result a = called (flags_words first) flags_asked result (flags_calls first) a
+
+abbrev fields_words : (first : List ℕ) → List Text
+fields_words first = first ∷ codes "collect" ∷ codes "--fields" ∷ codes "a" ∷ []
+
+abbrev fields_asked : Asked
+fields_asked = record (without_options ((0, codes "a") ∷ [])) { names = true; fields = true }
+
+fields_calls : (first : List ℕ) → Calls (fields_words first) fields_asked
+unfolding clap_on_literals names_command rows_named
+fields_calls first = (refl, refl, refl)
+
+pub asked_fields : (first : List ℕ) (result : Result Call CallFault) → IsParseOf (fields_words first) result
+    → IsAsked result fields_asked
+asked_fields first result a = called (fields_words first) fields_asked result (fields_calls first) a
 
 abbrev page_words : (first : List ℕ) → List Text
 page_words first = first ∷ codes "collect" ∷ codes "--page" ∷ codes "8192" ∷ codes "a" ∷ []

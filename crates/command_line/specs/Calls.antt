@@ -17,12 +17,13 @@ use Rattle.command_line.specs.declared.words.TheConstants.{DEFAULT_PAGE, MIN_PAG
 abbrev pub file_seen : CpuFile → ℕ × List ℕ
 file_seen file = (file.cpu.0, file.path.now)
 
--- what `collect` is asked for: the bytes of a page, if they were said; whether names and whether objects are printed;
--- the folder of formats; the file for new pieces of streams; whether pieces are printed; and the CPU and the path of
--- each file
+-- what `collect` is asked for: the bytes of a page, if they were said; whether names, whether fields and whether
+-- objects are printed; the folder of formats; the file for new pieces of streams; whether pieces are printed; and the
+-- CPU and the path of each file
 pub record Asked : Type 0 where
   pub page : Option ℕ
   pub names : Bool
+  pub fields : Bool
   pub json : Bool
   pub formats : Option Text
   pub keep : Option Text
@@ -34,6 +35,7 @@ abbrev pub without_options : (files : List (ℕ × Text)) → Asked
 without_options files = record {
   page = None;
   names = false;
+  fields = false;
   json = false;
   formats = None;
   keep = None;
@@ -45,6 +47,7 @@ abbrev pub asked_of : CollectCall → Asked
 asked_of call = record {
   page = call.page;
   names = call.names;
+  fields = call.fields;
   json = call.json;
   formats = option_map (λ folder. folder.now) call.formats;
   keep = option_map (λ file. file.now) call.keep;
@@ -68,7 +71,7 @@ abbrev pub SaysFlag : List Row → (name : Text) (is_given : Bool) → Type 0
 SaysFlag rows name is_given = (one_of name rows ≡ Some (codes "true") → is_given ≡ true)
     × (one_of name rows ≡ Some (codes "false") → is_given ≡ false)
 
--- The matches ask for this. Names are printed if `--names` or `--formats` is given.
+-- The matches ask for this. Names are printed if `--names`, `--fields` or `--formats` is given.
 pub record AsksFor (rows : List Row) (asked : Asked) : Type 0 where
   pub page : page_matched rows ≡ Some asked.page
   pub files : files_matched rows ≡ Some asked.files
@@ -76,8 +79,10 @@ pub record AsksFor (rows : List Row) (asked : Asked) : Type 0 where
   pub json : SaysFlag rows (codes "json") asked.json
   pub names : one_of (codes "names") rows ≡ Some (codes "true") → asked.names ≡ true
   pub named_formats : is_some asked.formats ≡ true → asked.names ≡ true
-  pub no_names : one_of (codes "names") rows ≡ Some (codes "false") → asked.formats ≡ None
+  pub named_fields : asked.fields ≡ true → asked.names ≡ true
+  pub no_names : one_of (codes "names") rows ≡ Some (codes "false") → asked.formats ≡ None → asked.fields ≡ false
       → asked.names ≡ false
+  pub fields : SaysFlag rows (codes "fields") asked.fields
   pub keep : first_of (codes "keep") rows ≡ asked.keep
   pub parcels : SaysFlag rows (codes "parcels") asked.parcels
 

@@ -50,7 +50,8 @@ abbrev pub reading_options : App
 reading_options =
     let paged = with_rule (new_app (codes "collect")) (option_rule (codes "page")) in
     let named = with_rule paged (flag_rule (codes "names")) in
-    with_rule named (option_rule (codes "formats"))
+    let fielded = with_rule named (flag_rule (codes "fields")) in
+    with_rule fielded (option_rule (codes "formats"))
 
 -- and with its other options and flags
 abbrev pub collect_options : App

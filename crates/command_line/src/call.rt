@@ -26,6 +26,8 @@ pub struct CollectCall<'a> {
     pub page: Option<u32>,
     /// Whether the process and the event of a record are printed.
     pub names: bool,
+    /// Whether the fields of a record are printed.
+    pub fields: bool,
     /// Whether each line is an object.
     pub json: bool,
     /// The folder below which formats of events are.

@@ -93,10 +93,12 @@ pub(crate) fn collect_call<'a>(
         return Err(CallFault::Usage);
     };
     let files = matched_files(alloc, found)?;
+    let fields = matched_flag(found, "fields");
     let formats = matched_text(found, "formats");
     Ok(CollectCall {
         page,
-        names: matched_flag(found, "names") || formats.is_some(),
+        names: matched_flag(found, "names") || fields || formats.is_some(),
+        fields,
         json: matched_flag(found, "json"),
         formats,
         keep: matched_text(found, "keep"),

@@ -111,7 +111,8 @@ fn reading_program<'a>(alloc: Global) -> Result<Command<'a>, AllocError>
 {
     let paged = with_option(alloc, Command::new(alloc, "collect"), "page")?;
     let named = with_flag(alloc, paged, "names")?;
-    with_option(alloc, named, "formats")
+    let fielded = with_flag(alloc, named, "fields")?;
+    with_option(alloc, fielded, "formats")
 }
 
 /// The command `collect` with its options and flags.
@@ -269,6 +270,9 @@ pub fn call_of<'a, S: AsStr>(alloc: Global, words: &'a [S]) -> Result<Call<'a>, 
         → map S.text words.now
         ≡ first ∷ codes "collect" ∷ codes "--json" ∷ codes "--names" ∷ codes "a" ∷ []
         → IsAsked result (record (without_options ((0, codes "a") ∷ [])) { names = true; json = true }) }
+    ensures collect_fields { (first : List ℕ)
+        → map S.text words.now ≡ first ∷ codes "collect" ∷ codes "--fields" ∷ codes "a" ∷ []
+        → IsAsked result (record (without_options ((0, codes "a") ∷ [])) { names = true; fields = true }) }
     ensures collect_page { (first : List ℕ)
         → map S.text words.now ≡ first ∷ codes "collect" ∷ codes "--page" ∷ codes "8192" ∷ codes "a" ∷ []
         → IsAsked result (record (without_options ((0, codes "a") ∷ [])) { page = Some 8192 }) }

@@ -20,7 +20,7 @@ const MIXED: &str = "tracering: some files are streams of parcels and others are
 
 const NOT_FOR_CAPTURES: &str = "tracering: --keep and --parcels are for streams of parcels";
 
-const NOT_FOR_STREAMS: &str = "tracering: --page, --names and --formats are for captures";
+const NOT_FOR_STREAMS: &str = "tracering: --page, --names, --fields and --formats are for captures";
 
 /// Whether each input begins as a stream of parcels does, or has no byte: it is a stream without a piece then.
 fn are_streams(inputs: &[Input<Reader<'_>>]) -> bool

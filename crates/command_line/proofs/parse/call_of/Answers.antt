@@ -4,9 +4,9 @@ use Rattle.command_line.proofs.CommandLineExamples.{call_of_replay, call_of_repl
 use Rattle.command_line.proofs.CommandLineExamples.{call_of_steps, call_of_dump, call_of_dump_log}
 use Rattle.command_line.proofs.CommandLineExamples.{call_of_version_and_more, call_of_replay_version}
 use Rattle.command_line.proofs.CommandLineLemmas.{parsed_collect}
-use Rattle.command_line.proofs.CollectExamples.{asked_collect, asked_cpu, asked_flags, asked_page, asked_formats}
-use Rattle.command_line.proofs.CollectExamples.{asked_keep, asked_parcels, refused_none, refused_high, refused_inputs}
-use Rattle.command_line.proofs.CollectExamples.{refused_small}
+use Rattle.command_line.proofs.CollectExamples.{asked_collect, asked_cpu, asked_flags, asked_fields, asked_page}
+use Rattle.command_line.proofs.CollectExamples.{asked_formats, asked_keep, asked_parcels, refused_none, refused_high}
+use Rattle.command_line.proofs.CollectExamples.{refused_inputs, refused_small}
 use Rattle.command_line.proofs.RecoverExamples.{asked_recover, asked_to_keep, refused_no_region, refused_two_inputs}
 use Rattle.command_line.proofs.RecoverExamples.{refused_with_page}
 use Rattle.command_line.proofs.Ranges.{asked_in_range}
@@ -57,6 +57,10 @@ returns-clause-collect_cpu g c = λ first words.
 pub returns-clause-collect_flags : goal.returns-clause-collect_flags
 returns-clause-collect_flags g c = λ first words.
     asked_flags first c.read_words.result ((rw words at c.read_words.ensures).parsed refl)
+
+pub returns-clause-collect_fields : goal.returns-clause-collect_fields
+returns-clause-collect_fields g c = λ first words.
+    asked_fields first c.read_words.result ((rw words at c.read_words.ensures).parsed refl)
 
 pub returns-clause-collect_page : goal.returns-clause-collect_page
 returns-clause-collect_page g c = λ first words.
