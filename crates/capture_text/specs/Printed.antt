@@ -1,27 +1,45 @@
 -- What a printer prints of a record.
-use Rattle.std.specs.Prelude.{◌≡◌, ⊤, List, Option, Some, None}
-use Rattle.std.specs.Borrow.{Bor}
+use Rattle.std.specs.Prelude.{◌≡◌, ℕ, ◌+◌, ◌-◌, ◌^◌, Bool, if◌then◌else◌, min, ⊤}
 use Rattle.trace_model.specs.Listing.{Line}
 use Rattle.trace_dat.specs.Contents.{EventFormat}
-use Rattle.trace_dat.specs.declared.kernel_texts.names.EventNames.{EventNames}
-use Rattle.trace_dat.specs.kernel_texts.Names.{HasEvents}
+use Rattle.trace_dat.specs.kernel_texts.Names.{HasEvents, events_of}
+use Rattle.event_fields.specs.Events.{HasFields}
 use Rattle.command_io.specs.declared.ends.Sink.{Ghosts}
 use Rattle.text_values.specs.declared.output.Out.{Out}
 use Rattle.text_values.specs.Putting.{Puts}
+use Rattle.capture_text.specs.declared.naming.Naming.{Naming}
+use Rattle.capture_text.specs.declared.naming.Naming.TheVariants.{Payload, Names, Fields}
 use Rattle.capture_text.specs.declared.printer.Printer.{Printer}
-use Rattle.capture_text.specs.Printing.{record_line}
+use Rattle.capture_text.specs.Printing.{Detail, bare, named, fielded, record_line, is_line_cut}
 
--- events are named by these formats, or not at all
-abbrev pub AreNames : Option (Bor EventNames) → (formats : Option (List EventFormat)) → Type 0
-AreNames None None = ⊤
-AreNames None (Some formats) = ⊥
-AreNames (Some names) None = ⊥
-AreNames (Some names) (Some formats) = HasEvents names.now formats
+-- a line says of its record's event what these formats say, in this detail
+abbrev pub IsDetail : Naming → Detail → Type 0
+IsDetail Payload bare = ⊤
+IsDetail (Names names) (named formats) = HasEvents names.now formats
+IsDetail (Fields names fields) (fielded formats) = HasEvents names.now formats
+IsDetail Payload (named formats) = ⊥
+IsDetail Payload (fielded formats) = ⊥
+IsDetail (Names names) bare = ⊥
+IsDetail (Names names) (fielded formats) = ⊥
+IsDetail (Fields names fields) bare = ⊥
+IsDetail (Fields names fields) (named formats) = ⊥
 
--- The record's line was put, in the printer's form and with events named by the formats of its names, if any; and the
--- printer is as it was.
+-- fields, if they are printed, are those of the events that have names
+abbrev pub IsSound : Naming → Type 0
+IsSound Payload = ⊤
+IsSound (Names names) = ⊤
+IsSound (Fields names fields) = HasFields fields.now (events_of names.now)
+
+-- a count of records with a field that has no value, after one record more
+abbrev pub counted : (cut : ℕ) → (is_cut : Bool) → ℕ
+counted cut is_cut = min (cut + (if is_cut then 1 else 0)) (2 ^ 64 - 1)
+
+-- The record's line was put, in the printer's form and detail; the printer counts it if a field has no value in it,
+-- and is else as it was.
 pub record PrintsRecord {W : Type 0} {g : Ghosts W} (line : Line) (printer : Printer) (old : Out W g)
     (printer_now : Printer) (new : Out W g) : Type 0 where
-  pub same_printer : printer_now ≡ printer
-  pub put : (formats : Option (List EventFormat)) → AreNames printer.names formats
-      → Puts (record_line printer.form formats line) old new
+  pub same_form : printer_now.form ≡ printer.form
+  pub same_naming : printer_now.naming ≡ printer.naming
+  pub put : (detail : Detail) → IsDetail printer.naming detail → Puts (record_line printer.form detail line) old new
+  pub cut : (detail : Detail) → IsDetail printer.naming detail
+      → printer_now.cut ≡ counted printer.cut (is_line_cut detail line)

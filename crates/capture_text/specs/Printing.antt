@@ -1,7 +1,7 @@
 -- The lines of a collection: of its records, of its missing runs, of losses of unknown number, and of damaged pages, as
 -- text or as JSON. docs/formats/program.md, "Captures".
-use Rattle.std.specs.Prelude.{ℕ, ◌+◌, ◌-◌, ◌*◌, ◌==◌, nat_lt, if◌then◌else◌, List, [], ◌∷◌, ◌++◌, flat_map, codes}
-use Rattle.std.specs.Prelude.{Option, Some, None}
+use Rattle.std.specs.Prelude.{ℕ, ◌+◌, ◌-◌, ◌*◌, ◌==◌, nat_lt, Bool, false, if◌then◌else◌, List, [], ◌∷◌, ◌++◌}
+use Rattle.std.specs.Prelude.{flat_map, codes, Option}
 use Rattle.std.specs.Int.{div_ceil}
 use Rattle.std.specs.Fmt.{decimal}
 use Rattle.std.specs.List.{enumerate_from}
@@ -20,6 +20,7 @@ use Rattle.capture.specs.declared.part.Part.{Part}
 use Rattle.capture_text.specs.declared.form.Form.{Form}
 use Rattle.capture_text.specs.declared.form.Form.TheVariants.{Text, Json}
 use Rattle.capture_text.specs.Names.{named_part, json_named}
+use Rattle.capture_text.specs.Fielded.{is_cut, fielded_part, json_fielded}
 
 -- ---- records
 
@@ -37,13 +38,41 @@ json_line named line =
     ++ codes ",\"time\":" ++ decimal line.moment ++ named ++ codes ",\"data\":\"" ++ pairs_of line.bytes ++ codes "\"}"
     ++ line_feed ∷ []
 
--- A record's line; if there are formats, with what its event is by them.
-abbrev pub record_line : Form → (formats : Option (List EventFormat)) → Line → List ℕ
-record_line Text None line = printed_line line
-record_line Text (Some formats) line = named_line (λ id. event_of id formats) line
-record_line Json None line = json_line [] line
-record_line Json (Some formats) line =
+-- a record's line with the fields of its event
+abbrev pub fielded_line : (ℕ → Option Event) → Line → List ℕ
+fielded_line event_by line =
+    decimal line.cpu ++ space ∷ decimal line.number ++ space ∷ decimal line.moment
+    ++ space ∷ fielded_part event_by line.bytes (common_fields_in line.bytes) ++ line_feed ∷ []
+
+-- the same as JSON
+abbrev pub json_fielded_line : (ℕ → Option Event) → Line → List ℕ
+json_fielded_line event_by line =
+    codes "{\"cpu\":" ++ decimal line.cpu ++ codes ",\"number\":" ++ decimal line.number
+    ++ codes ",\"time\":" ++ decimal line.moment
+    ++ json_fielded event_by line.bytes (common_fields_in line.bytes) ++ codes "}" ++ line_feed ∷ []
+
+-- What a line says of its record besides the numbers: its payload; what its event is by these formats, and the payload;
+-- or what its event is and the fields that its format describes.
+pub data Detail : Type 0 where
+  bare : Detail
+  named : List EventFormat → Detail
+  fielded : List EventFormat → Detail
+
+-- A record's line, in this detail.
+abbrev pub record_line : Form → Detail → Line → List ℕ
+record_line Text bare line = printed_line line
+record_line Text (named formats) line = named_line (λ id. event_of id formats) line
+record_line Text (fielded formats) line = fielded_line (λ id. event_of id formats) line
+record_line Json bare line = json_line [] line
+record_line Json (named formats) line =
     json_line (json_named (λ id. event_of id formats) line.bytes (common_fields_in line.bytes)) line
+record_line Json (fielded formats) line = json_fielded_line (λ id. event_of id formats) line
+
+-- Whether a field is in the line that has no value in the payload.
+abbrev pub is_line_cut : Detail → Line → Bool
+is_line_cut bare line = false
+is_line_cut (named formats) line = false
+is_line_cut (fielded formats) line = is_cut (λ id. event_of id formats) line.bytes (common_fields_in line.bytes)
 
 -- ---- missing runs
 

@@ -9,9 +9,12 @@ pub mod laws;
 mod lines;
 mod losses;
 mod names;
+mod naming;
 mod offsets;
 mod printer;
 mod quoting;
 
 pub use form::Form;
+pub use naming::Naming;
 pub use printer::Printer;
+pub use quoting::shown_byte;

@@ -8,11 +8,19 @@ ghost use Rattle.world_model.specs.Printing.{printed_line};
 ghost use Rattle.trace_dat.specs.kernel_texts.Names.{events_of};
 ghost use Rattle.trace_dat.specs.kernel_texts.FirstBytes.{common_fields_in};
 ghost use Rattle.text_values.specs.Putting.{Puts};
+ghost use Rattle.event_fields.specs.Events.{HasFields};
+ghost use Rattle.capture_text.specs.Fielded.{is_cut};
 ghost use Rattle.capture_text.specs.Names.{json_named};
-ghost use Rattle.capture_text.specs.Printing.{named_line, json_line};
+ghost use Rattle.capture_text.specs.Printed.{IsDetail, IsSound};
+ghost use Rattle.capture_text.specs.Printing.{Detail, record_line, is_line_cut};
+ghost use Rattle.capture_text.specs.Printing.{named_line, fielded_line, json_line, json_fielded_line};
 
+use crate::fielded::{put_fielded, put_json_fielded};
+use crate::form::Form;
 use crate::names::{put_json_named, put_named};
+use crate::naming::Naming;
 use command_io::Sink;
+use event_fields::EventFields;
 use itoa::write_digits;
 use text_values::Out;
 use time_merge::Line;
@@ -47,7 +55,7 @@ fn put_numbers<W: Sink>(out: &mut Out<'_, W>, line: &Line<'_>)
 }
 
 /// Puts a record's line.
-pub(crate) fn put_line<W: Sink>(out: &mut Out<'_, W>, line: &Line<'_>)
+fn put_line<W: Sink>(out: &mut Out<'_, W>, line: &Line<'_>)
     ensures { Puts (printed_line (line_seen line.now)) out.old out.new }
 {
     put_numbers(out, line);
@@ -56,7 +64,7 @@ pub(crate) fn put_line<W: Sink>(out: &mut Out<'_, W>, line: &Line<'_>)
 }
 
 /// Puts a record's line with what its event is.
-pub(crate) fn put_named_line<W: Sink>(out: &mut Out<'_, W>, names: &EventNames, line: &Line<'_>)
+fn put_named_line<W: Sink>(out: &mut Out<'_, W>, names: &EventNames, line: &Line<'_>)
     ensures { Puts (named_line (events_of names.now) (line_seen line.now)) out.old out.new }
 {
     put_numbers(out, line);
@@ -89,7 +97,7 @@ fn put_json_payload<W: Sink>(out: &mut Out<'_, W>, bytes: &[u8])
 }
 
 /// Puts a record's line as JSON.
-pub(crate) fn put_json_line<W: Sink>(out: &mut Out<'_, W>, line: &Line<'_>)
+fn put_json_line<W: Sink>(out: &mut Out<'_, W>, line: &Line<'_>)
     ensures { Puts (json_line [] (line_seen line.now)) out.old out.new }
 {
     put_json_numbers(out, line);
@@ -97,15 +105,73 @@ pub(crate) fn put_json_line<W: Sink>(out: &mut Out<'_, W>, line: &Line<'_>)
 }
 
 /// Puts a record's line as JSON, with what its event is.
-pub(crate) fn put_json_named_line<W: Sink>(
-    out: &mut Out<'_, W>,
-    names: &EventNames,
-    line: &Line<'_>,
-)
+fn put_json_named_line<W: Sink>(out: &mut Out<'_, W>, names: &EventNames, line: &Line<'_>)
     ensures { Puts (json_line (json_named (events_of names.now) line.now.bytes.now
         (common_fields_in line.now.bytes.now)) (line_seen line.now)) out.old out.new }
 {
     put_json_numbers(out, line);
     put_json_named(out, names, line.bytes);
     put_json_payload(out, line.bytes);
+}
+
+/// Puts a record's line with the fields of its event. Answers whether a field has no value in the payload.
+fn put_fielded_line<W: Sink>(
+    out: &mut Out<'_, W>,
+    names: &EventNames,
+    fields: &EventFields,
+    line: &Line<'_>,
+) -> bool
+    requires { HasFields fields.now (events_of names.now) }
+    ensures text { Puts (fielded_line (events_of names.now) (line_seen line.now)) out.old out.new }
+    ensures cut { result ≡ is_cut (events_of names.now) line.now.bytes.now (common_fields_in line.now.bytes.now) }
+{
+    put_numbers(out, line);
+    let is_cut = put_fielded(out, names, fields, line.bytes);
+    out.put(b"\n");
+    is_cut
+}
+
+/// Puts a record's line as JSON, with the fields of its event. Answers whether a field has no value in the payload.
+fn put_json_fielded_line<W: Sink>(
+    out: &mut Out<'_, W>,
+    names: &EventNames,
+    fields: &EventFields,
+    line: &Line<'_>,
+) -> bool
+    requires { HasFields fields.now (events_of names.now) }
+    ensures text { Puts (json_fielded_line (events_of names.now) (line_seen line.now)) out.old out.new }
+    ensures cut { result ≡ is_cut (events_of names.now) line.now.bytes.now (common_fields_in line.now.bytes.now) }
+{
+    put_json_numbers(out, line);
+    let is_cut = put_json_fielded(out, names, fields, line.bytes);
+    out.put(b"}\n");
+    is_cut
+}
+
+/// Puts a record's line with what its naming says of the event. Answers whether a field is printed that has no value in
+/// the payload.
+pub(crate) fn put_record<W: Sink>(
+    out: &mut Out<'_, W>,
+    form: Form,
+    naming: Naming<'_>,
+    line: &Line<'_>,
+) -> bool
+    requires { IsSound naming }
+    ensures text { (detail : Detail) → IsDetail naming.entry detail
+        → Puts (record_line form detail (line_seen line.now)) out.old out.new }
+    ensures cut { (detail : Detail) → IsDetail naming.entry detail → result ≡ is_line_cut detail (line_seen line.now) }
+{
+    match (form, naming) {
+        (Form::Text, Naming::Payload) => put_line(out, line),
+        (Form::Text, Naming::Names(names)) => put_named_line(out, names, line),
+        (Form::Text, Naming::Fields(names, fields)) => {
+            return put_fielded_line(out, names, fields, line);
+        }
+        (Form::Json, Naming::Payload) => put_json_line(out, line),
+        (Form::Json, Naming::Names(names)) => put_json_named_line(out, names, line),
+        (Form::Json, Naming::Fields(names, fields)) => {
+            return put_json_fielded_line(out, names, fields, line);
+        }
+    }
+    false
 }

@@ -1,22 +1,24 @@
 //! What prints a collection.
 
 use crate::form::Form;
-use crate::lines::{put_json_line, put_json_named_line, put_line, put_named_line};
+use crate::lines::put_record;
 use crate::losses::{put_damages, put_losses, put_runs};
+use crate::naming::Naming;
 use capture::{Capture, Part};
 use collector::Collector;
 use command_io::Sink;
 use text_values::Out;
 use time_merge::{Line, TakesLines};
-use trace_dat::kernel_texts::EventNames;
 
-/// What prints a collection. If it has names, a line says of its record's event what it is.
+/// What prints a collection.
 #[derive(Clone, Copy, Debug)]
 pub struct Printer<'a> {
     /// The form of the lines.
     pub form: Form,
-    /// The names of events.
-    pub names: Option<&'a EventNames>,
+    /// What a line says of its record's event. Of the fields of events it takes those that the names' formats describe.
+    pub naming: Naming<'a>,
+    /// How many of the records that were printed have a field without a value: [`u64::MAX`] if there are more.
+    pub cut: u64,
 }
 
 impl Printer<'_> {
@@ -54,19 +56,14 @@ impl Printer<'_> {
 }
 
 impl<W: Sink> TakesLines<Out<'_, W>> for Printer<'_> {
-    ghost use Rattle.std.specs.Prelude.{⊤};
-    ghost use Rattle.capture_text.specs.Printed.{PrintsRecord};
+    ghost use Rattle.capture_text.specs.Printed.{IsSound, PrintsRecord};
 
-    ghost can_take = { λ p. ⊤ };
+    ghost can_take = { λ p. IsSound p.0.naming };
 
     ghost takes = { λ p line q. PrintsRecord line p.0 p.1 q.0 q.1 };
 
     fn take_line(&mut self, out: &mut Out<'_, W>, line: &Line<'_>) {
-        match (self.form, self.names) {
-            (Form::Text, None) => put_line(out, line),
-            (Form::Text, Some(names)) => put_named_line(out, names, line),
-            (Form::Json, None) => put_json_line(out, line),
-            (Form::Json, Some(names)) => put_json_named_line(out, names, line),
-        }
+        let is_cut = put_record(out, self.form, self.naming, line);
+        self.cut = self.cut.saturating_add(u64::from(is_cut));
     }
 }

@@ -10,8 +10,8 @@ use command_io::Sink;
 use std::str::from_utf8;
 use text_values::Out;
 
-/// A byte of a name as it is shown.
-fn shown_byte(byte: u8) -> u8
+/// A byte of a name as it is shown: a byte that isn't printable, a space, a quotation mark and a backslash are `?`.
+pub fn shown_byte(byte: u8) -> u8
     ensures { result ≡ shown_byte byte }
 {
     if byte > b' ' && byte < 127 && byte != b'"' && byte != b'\\' {

@@ -1,7 +1,7 @@
 -- Files have one listing: they decide what is written of them, and how that ends.
-use Rattle.std.proofs.Common.{◌≡◌, ℕ, suc, Bool, false, List, [], ◌∷◌, ◌++◌, length, flat_map, Option, Some, None, Ok}
+use Rattle.std.proofs.Common.{◌≡◌, ℕ, suc, Bool, false, List, [], ◌∷◌, ◌++◌, length, flat_map, Option, Some, Ok}
 use Rattle.std.proofs.Common.{refl, sym, ap, ap₂, ◌∙◌, subst, arith}
-use Rattle.std.specs.Prelude.{slice_index_or, if◌then◌else◌}
+use Rattle.std.specs.Prelude.{slice_index_or}
 use Rattle.trace_model.specs.Collection.{Misses}
 use Rattle.trace_model.proofs.collections.Collections.{same_itself}
 use Rattle.trace_model.proofs.collections.Listings.{one_listing}
@@ -17,12 +17,13 @@ use Rattle.capture.specs.files.Captures.{CutsOf}
 use Rattle.capture.specs.files.Losses.{settled, overrun_in}
 use Rattle.capture_text.specs.declared.form.Form.{Form}
 use Rattle.capture_text.specs.declared.form.Form.TheVariants.{Text, Json}
-use Rattle.capture_text.specs.Printing.{record_line, run_line, run_lines}
+use Rattle.capture_text.specs.Printing.{Detail as LineDetail, record_line, run_line, run_lines}
 use Rattle.collect_command.specs.declared.collect.Collecting.{Collecting}
-use Rattle.collect_command.specs.declared.ending.Ending.{Ending}
+use Rattle.collect_command.specs.declared.collect.Detail.{Detail}
+use Rattle.collect_command.specs.declared.ending.Listed.{Listed}
 use Rattle.collect_command.specs.Gathered.{AreCpuPages, AreCpusPages}
-use Rattle.collect_command.specs.Listings.{all_unknown, all_damaged, listing_text, IsListed}
-use Rattle.collect_command.specs.Runs.{formats_for, AskTheSame, ListsFiles}
+use Rattle.collect_command.specs.Listings.{all_unknown, all_damaged, listing_text, detail_by, cut_count, IsListed}
+use Rattle.collect_command.specs.Runs.{detail_for, AskTheSame, SayTheSame, ListsFiles}
 
 -- ---- the parts, and the pages of each CPU
 
@@ -71,73 +72,79 @@ one_run_lines : (form : Form) (xs ys : List (List (ℕ × ℕ)))
 one_run_lines Text xs ys same = one_runs_text (run_line Text) 0 xs ys same
 one_run_lines Json xs ys same = one_runs_text (run_line Json) 0 xs ys same
 
-one_text : (form : Form) (formats : Option (List EventFormat)) (parts : List ModelPart) (captures : List (List Page))
+one_text : (form : Form) (detail : LineDetail) (parts : List ModelPart) (captures : List (List Page))
     (shown other : Shown) → IsPrintOf (parcels_of_captures 0 captures) shown
     → IsPrintOf (parcels_of_captures 0 captures) other
-    → listing_text form formats parts shown captures ≡ listing_text form formats parts other captures
-one_text form formats parts captures shown other is too =
+    → listing_text form detail parts shown captures ≡ listing_text form detail parts other captures
+one_text form detail parts captures shown other is too =
     let parcels = parcels_of_captures 0 captures in
     let lines = one_listing parcels parcels shown.lines other.lines (same_itself parcels) is.lines too.lines in
     let runs : (k : ℕ) → slice_index_or shown.runs k [] ≡ slice_index_or other.runs k [] = λ k.
     one_runs (Misses parcels k) (slice_index_or shown.runs k []) (slice_index_or other.runs k []) (is.runs k)
     (too.runs k) in
     ap₂ (λ (xs ys : List ℕ). ((xs ++ ys) ++ all_unknown form 0 captures) ++ all_damaged form parts 0 captures)
-    (ap (flat_map (record_line form formats)) lines) (one_run_lines form shown.runs other.runs runs)
+    (ap (flat_map (record_line form detail)) lines) (one_run_lines form shown.runs other.runs runs)
 
-one_listed : (form : Form) (formats : Option (List EventFormat)) (parts : List ModelPart) (captures : List (List Page))
-    (start text other : List ℕ) (ending end : Ending)
-    → IsListed form formats parts captures (Some start) (Some text) false ending
-    → IsListed form formats parts captures (Some start) (Some other) false end → (text ≡ other) × (ending ≡ end)
-one_listed form formats parts captures start text other ending end a b =
+one_listed : (form : Form) (detail : LineDetail) (parts : List ModelPart) (captures : List (List Page))
+    (start text other : List ℕ) (one too : Listed)
+    → IsListed form detail parts captures (Some start) (Some text) false one
+    → IsListed form detail parts captures (Some start) (Some other) false too → (text ≡ other) × SayTheSame one too
+one_listed form detail parts captures start text other one too a b =
     let wrote = a.written.all refl in
     let wrote_too = b.written.all refl in
-    let same = one_text form formats parts captures a.shown b.shown a.is_print b.is_print in (
+    let parcels = parcels_of_captures 0 captures in
+    let same = one_text form detail parts captures a.shown b.shown a.is_print b.is_print in
+    let lines = one_listing parcels parcels a.shown.lines b.shown.lines (same_itself parcels) a.is_print.lines
+    b.is_print.lines in (
       wrote.0 ∙ ap (λ (t : List ℕ). start ++ t) same ∙ sym wrote_too.0,
-      wrote.1 ∙ sym wrote_too.1,
+      record {
+        ending = wrote.1 ∙ sym wrote_too.1;
+        cut = a.cut_is ∙ ap (cut_count detail) lines ∙ sym b.cut_is;
+        malformed = a.malformed_are ∙ sym b.malformed_are;
+      },
     )
 
-one_run : (collecting : Collecting) (files : List File) (start text other : List ℕ) (ending end : Ending)
-    → ListsFiles collecting files (Some start) (Some text) false ending
-    → ListsFiles collecting files (Some start) (Some other) false end → (text ≡ other) × (ending ≡ end)
-one_run collecting files start text other ending end a b =
+one_run : (collecting : Collecting) (files : List File) (start text other : List ℕ) (one too : Listed)
+    → ListsFiles collecting files (Some start) (Some text) false one
+    → ListsFiles collecting files (Some start) (Some other) false too → (text ≡ other) × SayTheSame one too
+one_run collecting files start text other one too a b =
     let overrun = overrun_in files in
-    let formats = formats_for collecting files in
+    let form = collecting.form in
+    let detail = detail_for collecting files in
     let parts : b.parts ≡ a.parts = one_parts collecting.page files b.parts a.parts b.parts_are a.parts_are in
     let pages = subst (λ (ps : List ModelPart). AreCpusPages overrun ps 0 b.captures) parts b.pages_are in
     let captures : b.captures ≡ a.captures =
     one_captures overrun a.parts 0 b.captures a.captures pages a.pages_are (b.count ∙ sym a.count) in
-    one_listed collecting.form formats a.parts a.captures start text other ending end a.listed
-    (subst (λ (ps : List ModelPart). IsListed collecting.form formats ps a.captures (Some start) (Some other) false end)
-    parts
-    (subst (λ (cs : List (List Page)). IsListed collecting.form formats b.parts cs (Some start) (Some other) false end)
-    captures b.listed))
+    one_listed form detail a.parts a.captures start text other one too a.is_listed
+    (subst (λ (ps : List ModelPart). IsListed form detail ps a.captures (Some start) (Some other) false too) parts
+    (subst (λ (cs : List (List Page)). IsListed form detail b.parts cs (Some start) (Some other) false too) captures
+    b.is_listed))
 
 -- ---- wherever the formats are in memory
 
-same_formats : (one other : Collecting) (files : List File) → AskTheSame one other
-    → formats_for one files ≡ formats_for other files
-same_formats one other files same =
-    ap₂ (λ (n : Bool) (fs : List EventFormat). if n then Some (all_formats files ++ fs) else None)
-    same.names same.formats
+same_detail : (one other : Collecting) (files : List File) → AskTheSame one other
+    → detail_for one files ≡ detail_for other files
+same_detail one other files same =
+    ap₂ (λ (d : Detail) (fs : List EventFormat). detail_by d (all_formats files ++ fs)) same.detail same.formats
 
 listed_too : (one other : Collecting) (files : List File) (contents after : Option (List ℕ)) (failed : Bool)
-    (ending : Ending) → AskTheSame one other → ListsFiles other files contents after failed ending
-    → ListsFiles one files contents after failed ending
-listed_too one other files contents after failed ending same b = record {
+    (listed : Listed) → AskTheSame one other → ListsFiles other files contents after failed listed
+    → ListsFiles one files contents after failed listed
+listed_too one other files contents after failed listed same b = record {
   parts = b.parts;
   parts_are = subst (λ (n : ℕ). ArePartsOf n files b.parts) (sym same.page) b.parts_are;
   captures = b.captures;
   pages_are = b.pages_are;
   count = b.count;
-  listed = subst (λ (f : Form). IsListed f (formats_for one files) b.parts b.captures contents after failed ending)
+  is_listed = subst (λ (f : Form). IsListed f (detail_for one files) b.parts b.captures contents after failed listed)
       (sym same.form)
-      (subst (λ (fs : Option (List EventFormat)). IsListed other.form fs b.parts b.captures contents after failed
-      ending) (sym (same_formats one other files same)) b.listed);
+      (subst (λ (d : LineDetail). IsListed other.form d b.parts b.captures contents after failed listed)
+      (sym (same_detail one other files same)) b.is_listed);
 }
 
-pub one_output : (collecting same : Collecting) (files : List File) (start text other : List ℕ) (ending end : Ending)
-    → AskTheSame collecting same → ListsFiles collecting files (Some start) (Some text) false ending
-    → ListsFiles same files (Some start) (Some other) false end → (text ≡ other) × (ending ≡ end)
-one_output collecting same files start text other ending end asks a b =
-    one_run collecting files start text other ending end a
-    (listed_too collecting same files (Some start) (Some other) false end asks b)
+pub one_output : (collecting same : Collecting) (files : List File) (start text other : List ℕ) (one too : Listed)
+    → AskTheSame collecting same → ListsFiles collecting files (Some start) (Some text) false one
+    → ListsFiles same files (Some start) (Some other) false too → (text ≡ other) × SayTheSame one too
+one_output collecting same files start text other one too asks a b =
+    one_run collecting files start text other one too a
+    (listed_too collecting same files (Some start) (Some other) false too asks b)

@@ -1,17 +1,18 @@
 -- What a printer prints, one text after the other.
-use Rattle.std.proofs.Common.{◌≡◌, ℕ, zero, suc, ◌+◌, Bool, true, false, true≢false, ◌&&◌, ◌==◌, ◌↔◌, List, [], ◌∷◌}
+use Rattle.std.proofs.Common.{◌≡◌, ℕ, zero, suc, ◌+◌, ◌-◌, ◌^◌, ◌<◌, min, Bool, true, false, true≢false, ◌&&◌, ◌==◌, ◌↔◌, List, [], ◌∷◌}
 use Rattle.std.proofs.Common.{◌++◌, length, flat_map, map, append_assoc, append-nil, Option, Some, Result, Ok, Err}
 use Rattle.std.proofs.Common.{OnOk, OnErr, IsErr, refl, sym, ap, ◌∙◌, subst, arith}
+use Rattle.std.specs.Prelude.{cond, count_by}
 use Rattle.std.specs.Result.{is_ok}
 use Rattle.std.specs.List.{slice_get}
 use Rattle.std.specs.Io.KnownBytes.{Appends}
+use Rattle.std.proofs.lemmas.List.Sums.{sum_by-cons}
 use Rattle.std.proofs.lemmas.Option.{none-some}
 use Rattle.std.proofs.lemmas.Bool.Decides.{nat_tests}
 use Rattle.trace_model.specs.Listing.{Line}
 use Rattle.trace_model.specs.Parcel.{Parcel}
 use Rattle.trace_model.specs.Collection.{IsSame}
 use Rattle.trace_model.proofs.collections.Elements.{some_is}
-use Rattle.trace_dat.specs.Contents.{EventFormat}
 use Rattle.world_model.specs.Printing.{Shown}
 use Rattle.command_io.specs.CommandRun.{AppendsPrefix}
 use Rattle.collector_text.specs.Prints.{IsPrintOf}
@@ -25,8 +26,9 @@ use Rattle.capture.specs.files.Captures.{measured}
 use Rattle.capture.specs.files.Losses.{are_intact}
 use Rattle.capture_text.specs.declared.form.Form.{Form}
 use Rattle.capture_text.specs.declared.printer.Printer.{Printer}
-use Rattle.capture_text.specs.Printing.{record_line, unknown_lines, damaged_lines}
-use Rattle.capture_text.specs.Printed.{AreNames, PrintsRecord}
+use Rattle.capture_text.specs.declared.naming.Naming.{Naming}
+use Rattle.capture_text.specs.Printing.{Detail, record_line, is_line_cut, unknown_lines, damaged_lines}
+use Rattle.capture_text.specs.Printed.{IsDetail, PrintsRecord}
 use Rattle.command_io.specs.declared.ends.Sink.{Ghosts}
 use Rattle.text_values.specs.declared.output.Out.{Out}
 use Rattle.text_values.specs.Putting.{Puts}
@@ -36,29 +38,50 @@ use Rattle.command_io.specs.Written.{IsTextWritten}
 use Rattle.collect_command.specs.declared.ending.Ending.TheVariants.{NotWritten}
 use Rattle.collect_command.specs.Listings.{all_unknown, all_damaged, are_all_intact, ending_of}
 
+-- ---- a count that stops at the greatest number
+
+none_counted : (n : ℕ) → n < 2 ^ 64 → n ≡ min (n + 0) (2 ^ 64 - 1)
+none_counted n fits = omega (arith, fits)
+
+one_counted : (n one more part_way end all : ℕ) → part_way ≡ min (n + one) (2 ^ 64 - 1)
+    → end ≡ min (part_way + more) (2 ^ 64 - 1) → all ≡ one + more → end ≡ min (n + all) (2 ^ 64 - 1)
+one_counted n one more part_way end all first others is = omega (arith, first, others, is)
+
 -- ---- the lines that are walked over
 
 module _ {W : Type 0} {g : Ghosts W} where
   abbrev pub PrintsLine : (Printer × Out W g) → Line → (Printer × Out W g) → Type 0
   PrintsLine p line q = PrintsRecord line p.0 p.1 q.0 q.1
 
-  pub walked : (formats : Option (List EventFormat)) (lines : List Line) (p q : Printer × Out W g)
-      → AreNames p.0.names formats → TakesAll PrintsLine p lines q
-      → Puts (flat_map (record_line p.0.form formats) lines) p.1 q.1
-  walked formats [] p q names same = subst (λ (z : Printer × Out W g). Puts [] p.1 z.1) same (put_none p.1)
-  walked formats (line ∷ lines) p q names (mid, first, rest) =
-      let stays = first.same_printer in
-      let named : AreNames mid.0.names formats =
-      subst (λ (z : Printer). AreNames z.names formats) (sym stays) names in
-      let others : Puts (flat_map (record_line p.0.form formats) lines) mid.1 q.1 =
-      subst (λ (z : Printer). Puts (flat_map (record_line z.form formats) lines) mid.1 q.1) stays
-      (walked formats lines mid q named rest) in
-      put_then _ _ (first.put formats names) others
+  pub walked : (detail : Detail) (lines : List Line) (p q : Printer × Out W g)
+      → IsDetail p.0.naming detail → TakesAll PrintsLine p lines q
+      → Puts (flat_map (record_line p.0.form detail) lines) p.1 q.1
+  walked detail [] p q is same = subst (λ (z : Printer × Out W g). Puts [] p.1 z.1) same (put_none p.1)
+  walked detail (line ∷ lines) p q is (mid, first, rest) =
+      let others : Puts (flat_map (record_line p.0.form detail) lines) mid.1 q.1 =
+      subst (λ (f : Form). Puts (flat_map (record_line f detail) lines) mid.1 q.1) first.same_form
+      (walked detail lines mid q (subst (λ (n : Naming). IsDetail n detail) (sym first.same_naming) is) rest) in
+      put_then _ _ (first.put detail is) others
 
-  -- the printer stays as it is
-  pub walked_printer : (lines : List Line) (p q : Printer × Out W g) → TakesAll PrintsLine p lines q → q.0 ≡ p.0
-  walked_printer [] p q same = sym (ap (λ (z : Printer × Out W g). z.0) same)
-  walked_printer (line ∷ lines) p q (mid, first, rest) = walked_printer lines mid q rest ∙ first.same_printer
+  -- the form stays as it is
+  pub walked_form : (lines : List Line) (p q : Printer × Out W g) → TakesAll PrintsLine p lines q
+      → q.0.form ≡ p.0.form
+  walked_form [] p q same = sym (ap (λ (z : Printer × Out W g). z.0.form) same)
+  walked_form (line ∷ lines) p q (mid, first, rest) = walked_form lines mid q rest ∙ first.same_form
+
+  -- the lines that have a field without a value are counted
+  pub walked_cut : (detail : Detail) (lines : List Line) (p q : Printer × Out W g)
+      → IsDetail p.0.naming detail → TakesAll PrintsLine p lines q → p.0.cut < 2 ^ 64
+      → q.0.cut ≡ min (p.0.cut + count_by (is_line_cut detail) lines) (2 ^ 64 - 1)
+  walked_cut detail [] p q is same fits =
+      sym (ap (λ (z : Printer × Out W g). z.0.cut) same) ∙ none_counted p.0.cut fits
+  walked_cut detail (line ∷ lines) p q is (mid, first, rest) fits =
+      let one = first.cut detail is in
+      let others = walked_cut detail lines mid q
+      (subst (λ (n : Naming). IsDetail n detail) (sym first.same_naming) is) rest (omega (arith, one)) in
+      let more = sum_by-cons (λ l. cond (is_line_cut detail l) 1 0) line lines in
+      one_counted p.0.cut (cond (is_line_cut detail line) 1 0) (count_by (is_line_cut detail) lines) mid.0.cut q.0.cut
+      (count_by (is_line_cut detail) (line ∷ lines)) one others more
 
 -- ---- the losses and damaged pages of one CPU more
 

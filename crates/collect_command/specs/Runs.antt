@@ -1,8 +1,8 @@
 -- What a run of `collect` does with its inputs and its sink.
-use Rattle.std.specs.Prelude.{◌≡◌, ◌⊎◌, ℕ, ◌^◌, ◌-◌, Bool, false, if◌then◌else◌, List, ◌++◌, length, map, min, Option}
-use Rattle.std.specs.Prelude.{Some, None}
+use Rattle.std.specs.Prelude.{◌≡◌, ◌⊎◌, ℕ, ◌^◌, ◌-◌, Bool, false, List, ◌++◌, length, map, min, Option}
 use Rattle.trace_model.specs.declared.limits.TheConstants.{MAX_CPUS}
-use Rattle.trace_dat.specs.Contents.{EventFormat, format_seen}
+use Rattle.trace_dat.specs.Contents.{format_seen}
+use Rattle.event_fields.specs.Malformed.{malformed_seen}
 use Rattle.command_io.specs.declared.command.TheConstants.{MEMORY_LINE}
 use Rattle.command_io.specs.Written.{IsTextWritten}
 use Rattle.capture.specs.Pages.{Page}
@@ -14,34 +14,42 @@ use Rattle.capture.specs.files.Losses.{overrun_in}
 use Rattle.capture.specs.files.Inputs.{AreRead, IsUnread}
 use Rattle.collect_command.specs.declared.collect.Collecting.{Collecting}
 use Rattle.collect_command.specs.declared.ending.Collected.{Collected}
+use Rattle.collect_command.specs.declared.ending.Listed.{Listed}
 use Rattle.collect_command.specs.declared.ending.Ending.{Ending}
 use Rattle.collect_command.specs.declared.ending.Ending.TheVariants.{MalformedFile, Numbers, NoMemory, NotRead}
 use Rattle.collect_command.specs.declared.ending.Ending.TheVariants.{NotWritten}
 use Rattle.collect_command.specs.Gathered.{AreCpusPages}
 use Rattle.collect_command.specs.Faults.{fault_line, numbers_line}
-use Rattle.collect_command.specs.Listings.{IsListed}
+use Rattle.capture_text.specs.Printing.{Detail as LineDetail}
+use Rattle.collect_command.specs.Listings.{IsListed, SaysNothing, detail_by}
 
--- the formats by which events are named, if they are: those in the files, and those that are given
-abbrev pub formats_for : Collecting → List File → Option (List EventFormat)
-formats_for collecting files =
-    if collecting.names then Some (all_formats files ++ map format_seen collecting.formats.now) else None
+-- what a line says of its record: by the formats in the files, and those that are given
+abbrev pub detail_for : Collecting → List File → LineDetail
+detail_for collecting files =
+    detail_by collecting.detail (all_formats files ++ map format_seen collecting.formats.now)
 
 -- they ask for the same listing, wherever the formats are in memory
 pub record AskTheSame (one other : Collecting) : Type 0 where
   pub form : one.form ≡ other.form
   pub page : one.page ≡ other.page
-  pub names : one.names ≡ other.names
+  pub detail : one.detail ≡ other.detail
   pub formats : map format_seen one.formats.now ≡ map format_seen other.formats.now
+
+-- they say the same of a listing
+pub record SayTheSame (one other : Listed) : Type 0 where
+  pub ending : one.ending ≡ other.ending
+  pub cut : one.cut ≡ other.cut
+  pub malformed : map malformed_seen one.malformed.items ≡ map malformed_seen other.malformed.items
 
 -- The files, none of which has a fault, are listed: their pages, CPU by CPU, and what these have and miss.
 pub record ListsFiles (collecting : Collecting) (files : List File) (contents after : Option (List ℕ)) (failed : Bool)
-    (ending : Ending) : Type 0 where
+    (listed : Listed) : Type 0 where
   pub parts : List ModelPart
   pub parts_are : ArePartsOf collecting.page files parts
   pub captures : List (List Page)
   pub pages_are : AreCpusPages (overrun_in files) parts 0 captures
   pub count : length captures ≡ MAX_CPUS
-  pub listed : IsListed collecting.form (formats_for collecting files) parts captures contents after failed ending
+  pub is_listed : IsListed collecting.form (detail_for collecting files) parts captures contents after failed listed
 
 -- nothing was written
 pub record IsUnwritten (contents after : Option (List ℕ)) (failed : Bool) : Type 0 where
@@ -51,6 +59,11 @@ pub record IsUnwritten (contents after : Option (List ℕ)) (failed : Bool) : Ty
 -- the line for refused memory is all that is written
 abbrev pub IsMemoryLine : (contents after : Option (List ℕ)) (failed : Bool) → Ending → Type 0
 IsMemoryLine contents after failed ending = IsTextWritten NotWritten contents after failed MEMORY_LINE NoMemory ending
+
+-- the same, and nothing is said of a listing
+pub record TellsMemory (contents after : Option (List ℕ)) (failed : Bool) (listed : Listed) : Type 0 where
+  pub line : IsMemoryLine contents after failed listed.ending
+  pub nothing : SaysNothing listed
 
 -- what is written if this input can't be read for this fault
 abbrev pub TellsFault : (index : ℕ) → InputFault → (contents after : Option (List ℕ)) (failed : Bool) → Ending → Type 0
@@ -69,8 +82,8 @@ module _ {R : Type 0} (remaining : R → Option (List ℕ)) (has_failed : R → 
       (failed : Bool) (collected : Collected) : Type 0 where
     pub files : List File
     pub are_read : AreRead remaining has_failed old new files
-    pub told : ListsFiles collecting files contents after failed collected.ending
-        ⊎ IsMemoryLine contents after failed collected.ending
+    pub told : ListsFiles collecting files contents after failed collected.listed
+        ⊎ TellsMemory contents after failed collected.listed
     pub instances_are : collected.instances ≡ min (all_instances files) (2 ^ 64 - 1)
 
   -- an input couldn't be read
@@ -79,7 +92,8 @@ module _ {R : Type 0} (remaining : R → Option (List ℕ)) (has_failed : R → 
     pub index : ℕ
     pub fault : InputFault
     pub unread : IsUnread remaining has_failed collecting.page old new index fault
-    pub told : TellsFault index fault contents after failed collected.ending
+    pub told : TellsFault index fault contents after failed collected.listed.ending
+    pub nothing : SaysNothing collected.listed
     pub no_instances : collected.instances ≡ 0
 
   -- What a run of `collect` does.

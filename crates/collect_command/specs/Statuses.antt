@@ -1,6 +1,7 @@
 -- The exit statuses of the commands that list.
-use Rattle.std.specs.Prelude.{ℕ, if◌then◌else◌}
+use Rattle.std.specs.Prelude.{ℕ, Bool, ◌==◌, ◌&&◌, ◌||◌, nat_lt, if◌then◌else◌, length}
 use Rattle.command_io.specs.declared.status.TheConstants.{DONE, REFUSED, NO_MEMORY, END_FAILED}
+use Rattle.collect_command.specs.declared.ending.Listed.{Listed}
 use Rattle.collect_command.specs.declared.ending.Outcome.{Outcome}
 use Rattle.collect_command.specs.declared.ending.Ending.{Ending}
 use Rattle.collect_command.specs.declared.ending.Ending.TheVariants.{Done, Damaged, MalformedFile, Malformed, Numbers}
@@ -18,6 +19,15 @@ status_for NoMemory = NO_MEMORY
 status_for (NotRead input) = END_FAILED
 status_for (TooLong input) = END_FAILED
 status_for NotWritten = END_FAILED
+
+-- a line has a field without a value, or a format is malformed
+abbrev pub lacks_fields : Listed → Bool
+lacks_fields listed = nat_lt 0 listed.cut || nat_lt 0 (length listed.malformed.items)
+
+-- 1 if all is listed but some fields, and else that of the ending
+abbrev pub status_of_listing : Listed → ℕ
+status_of_listing listed =
+    if status_for listed.ending == DONE && lacks_fields listed then REFUSED else status_for listed.ending
 
 -- 4 if new pieces couldn't be kept
 abbrev pub status_of_run : Outcome → ℕ

@@ -1,22 +1,24 @@
 //! The command `collect`.
-ghost use Rattle.std.specs.Prelude.{◌≡◌, ◌<◌, ◌≤◌, ◌⊎◌, false, if◌then◌else◌, List, All, length, Some, None, IfOk};
-ghost use Rattle.std.specs.Prelude.{OnErr};
+ghost use Rattle.std.specs.Prelude.{◌≡◌, ◌<◌, ◌≤◌, ◌⊎◌, false, List, All, length, IfOk, OnErr};
 ghost use Rattle.trace_model.specs.declared.limits.TheConstants.{MAX_CPUS};
 ghost use Rattle.trace_dat.specs.Contents.{EventFormat};
 ghost use Rattle.trace_dat.specs.kernel_texts.Names.{HasEvents};
-ghost use Rattle.capture_text.specs.Printed.{AreNames};
-ghost use Rattle.capture.specs.files.Files.{File};
+ghost use Rattle.capture.specs.Pages.{Page};
+ghost use Rattle.capture.specs.files.Files.{File, ModelPart};
 ghost use Rattle.capture.specs.files.Captures.{AreCaptured};
 ghost use Rattle.command_io.specs.Written.{IsTextWritten};
-ghost use Rattle.collect_command.specs.Runs.{ListsFiles, TellsFault, IsMemoryLine, IsCollectRun};
+ghost use Rattle.collect_command.specs.Gathered.{AreReadFrom};
+ghost use Rattle.collect_command.specs.Listings.{IsListed, detail_by};
+ghost use Rattle.collect_command.specs.Runs.{ListsFiles, TellsFault, TellsMemory, IsCollectRun};
 
-use crate::ending::{Collected, Ending};
+use crate::ending::{Collected, Ending, Listed};
 use crate::fault_line::fault_line;
 use crate::listing::print_listing;
 use crate::memory::tell_memory;
-use capture::files::{Captured, FileFault, Input, InputFault, Unread, read_inputs};
-use capture_text::Form;
+use capture::files::{Captured, CpuCapture, FileFault, Input, InputFault, Unread, read_inputs};
+use capture_text::{Form, Naming};
 use command_io::{Sink, Source, write_text};
+use event_fields::{EventFields, malformed_events};
 use std::alloc::Global;
 use trace_dat::Format;
 use trace_dat::kernel_texts::EventNames;
@@ -25,6 +27,18 @@ use trace_model::NoMemory;
 /// The only line if the numbers of a CPU don't fit 64 bits.
 const NUMBERS_LINE: &[u8] = b"numbers\n";
 
+/// What a line says of its record besides the numbers.
+#[derive(Clone, Copy, Debug, PartialEq, Eq)]
+pub enum Detail {
+    /// The payload, in hexadecimal.
+    Payload,
+    /// The process, the event, and the payload.
+    Names,
+    /// The process, the event, and the fields that its format describes. The payload is behind them if a field has no
+    /// value in it, or if no fields are known.
+    Fields,
+}
+
 /// How files are listed.
 #[derive(Clone, Copy, Debug)]
 pub struct Collecting<'a> {
@@ -32,8 +46,8 @@ pub struct Collecting<'a> {
     pub form: Form,
     /// The size of a raw page, in bytes: 48 at least.
     pub page: usize,
-    /// Whether processes and events are named.
-    pub names: bool,
+    /// What a line says of its record.
+    pub detail: Detail,
     /// The formats of events beside those that files of trace-cmd have.
     pub formats: &'a [Format<'a>],
 }
@@ -77,12 +91,34 @@ fn tell_fault<W: Sink>(alloc: Global, unread: Unread, writer: &mut W) -> Ending
     }
 }
 
-/// The names, if they are wanted.
-fn shown_names(wanted: bool, names: &EventNames) -> Option<&EventNames>
-    ensures { (formats : List EventFormat) → HasEvents names.now formats
-        → AreNames result (if wanted then Some formats else None) }
+/// Prints what was read, with what is asked for of each record. If memory is refused, nothing is written.
+fn print_captured<W: Sink>(
+    alloc: Global,
+    collecting: &Collecting<'_>,
+    names: &EventNames,
+    cpus: &[CpuCapture],
+    writer: &mut W,
+) -> Result<Listed, NoMemory>
+    requires sound { W.failed writer.old ≡ false }
+    requires read { (parts : List ModelPart) × (captures : List (List Page)) × AreReadFrom parts 0 cpus.now captures }
+    ensures listed { (formats : List EventFormat) (parts : List ModelPart) (captures : List (List Page))
+        → HasEvents names.now formats → AreReadFrom parts 0 cpus.now captures → IfOk result (λ listed.
+        IsListed collecting.now.form (detail_by collecting.now.detail formats) parts captures
+        (W.contents writer.old) (W.contents writer.new) (W.failed writer.new) listed) }
+    ensures refused { OnErr result (writer.new ≡ writer.old) }
 {
-    if wanted { Some(names) } else { None }
+    let form = collecting.form;
+    let none = Vec::new(alloc);
+    match collecting.detail {
+        Detail::Payload => print_listing(alloc, form, Naming::Payload, none, cpus, writer),
+        Detail::Names => print_listing(alloc, form, Naming::Names(names), none, cpus, writer),
+        Detail::Fields => {
+            let fields = EventFields::new(alloc, names)?;
+            let malformed = malformed_events(alloc, names, &fields)?;
+            let naming = Naming::Fields(names, &fields);
+            print_listing(alloc, form, naming, malformed, cpus, writer)
+        }
+    }
 }
 
 /// Lists what was read. If memory is refused, nothing is written.
@@ -91,20 +127,18 @@ fn list_captured<W: Sink>(
     collecting: &Collecting<'_>,
     captured: Captured,
     writer: &mut W,
-) -> Result<Ending, NoMemory>
+) -> Result<Listed, NoMemory>
     requires sound { W.failed writer.old ≡ false }
     requires read { (files : List File) × AreCaptured collecting.now.page files captured }
-    ensures listed { (files : List File) → AreCaptured collecting.now.page files captured → IfOk result (λ ending.
+    ensures listed { (files : List File) → AreCaptured collecting.now.page files captured → IfOk result (λ listed.
         ListsFiles collecting.now files (W.contents writer.old) (W.contents writer.new)
-        (W.failed writer.new) ending) }
+        (W.failed writer.new) listed) }
     ensures refused { OnErr result (writer.new ≡ writer.old) }
 {
     let Captured { cpus, names, .. } = captured;
     let mut names = names;
     names.add(collecting.formats)?;
-    let shown = shown_names(collecting.names, &names);
-    let ending = print_listing(alloc, collecting.form, shown, &cpus, writer)?;
-    Ok(ending)
+    print_captured(alloc, collecting, &names, &cpus, writer)
 }
 
 /// Lists what was read, or reports that memory was refused.
@@ -113,17 +147,17 @@ fn list_or_tell<W: Sink>(
     collecting: &Collecting<'_>,
     captured: Captured,
     writer: &mut W,
-) -> Ending
+) -> Listed
     requires sound { W.failed writer.old ≡ false }
     requires read { (files : List File) × AreCaptured collecting.now.page files captured }
     ensures { (files : List File) → AreCaptured collecting.now.page files captured
         → ListsFiles collecting.now files (W.contents writer.old) (W.contents writer.new)
         (W.failed writer.new) result
-        ⊎ IsMemoryLine (W.contents writer.old) (W.contents writer.new) (W.failed writer.new) result }
+        ⊎ TellsMemory (W.contents writer.old) (W.contents writer.new) (W.failed writer.new) result }
 {
     match list_captured(alloc, collecting, captured, writer) {
-        Ok(ending) => ending,
-        Err(NoMemory) => tell_memory(writer),
+        Ok(listed) => listed,
+        Err(NoMemory) => Listed::nothing(alloc, tell_memory(writer)),
     }
 }
 
@@ -146,13 +180,13 @@ pub fn collect_to<R: Source, W: Sink>(
     match read_inputs(alloc, collecting.page, inputs) {
         Ok(captured) => {
             let instances = captured.instances;
-            let ending = list_or_tell(alloc, collecting, captured, writer);
-            Collected { ending, instances }
+            let listed = list_or_tell(alloc, collecting, captured, writer);
+            Collected { listed, instances }
         }
         Err(unread) => {
             let ending = tell_fault(alloc, unread, writer);
             Collected {
-                ending,
+                listed: Listed::nothing(alloc, ending),
                 instances: 0,
             }
         }

@@ -2,6 +2,8 @@
 
 use capture::files::FileFault;
 use command_io::{DONE, END_FAILED, NO_MEMORY, REFUSED};
+use event_fields::MalformedEvent;
+use std::alloc::Global;
 
 /// How a command that lists ends. An input is named by its index.
 #[derive(Clone, Copy, Debug, PartialEq, Eq)]
@@ -51,11 +53,54 @@ impl Ending {
     }
 }
 
-/// What a command answers that lists captures.
-#[derive(Clone, Copy, Debug, PartialEq, Eq)]
-pub struct Collected {
+/// What is said of a listing of captures.
+#[derive(Debug, Drop)]
+pub struct Listed {
     /// How it ends.
     pub ending: Ending,
+    /// How many lines have a field without a value: one whose bytes aren't all in its record. It is 2^64 - 1 if there
+    /// are more.
+    pub cut: u64,
+    /// The events whose formats are malformed, if fields are printed.
+    pub malformed: Vec<MalformedEvent>,
+}
+
+impl Listed {
+    ghost use Rattle.std.specs.Prelude.{◌≡◌};
+    ghost use Rattle.collect_command.specs.Listings.{SaysNothing};
+    ghost use Rattle.collect_command.specs.Statuses.{status_of_listing};
+
+    /// Nothing was listed.
+    pub(crate) fn nothing(alloc: Global, ending: Ending) -> Listed
+        ensures ending { result.ending ≡ ending }
+        ensures nothing { SaysNothing result }
+    {
+        Listed {
+            ending,
+            cut: 0,
+            malformed: Vec::new(alloc),
+        }
+    }
+
+    /// The exit status: 1 if all is printed, but a field has no value or a format is malformed, and else that of the
+    /// ending.
+    pub fn status(&self) -> u8
+        ensures { result ≡ status_of_listing self.now }
+    {
+        let status = self.ending.status();
+        if status == DONE && (self.cut > 0 || !self.malformed.is_empty()) {
+            REFUSED
+        } else {
+            status
+        }
+    }
+}
+
+/// What `collect` answers.
+#[derive(Debug, Drop)]
+pub struct Collected {
+    /// What is said of the listing.
+    pub listed: Listed,
     /// How many instances the files of trace-cmd have, which aren't listed: buffers beside the main one. It is 2^64 - 1
     /// if there are more, and 0 if a file can't be read.
     pub instances: u64,

@@ -12,5 +12,5 @@ mod memory;
 pub mod recovery;
 pub mod streams;
 
-pub use collect::{Collecting, collect_to};
-pub use ending::{Collected, Ending, Outcome};
+pub use collect::{Collecting, Detail, collect_to};
+pub use ending::{Collected, Ending, Listed, Outcome};

@@ -1,23 +1,24 @@
 //! The listing of captures.
-ghost use Rattle.std.specs.Prelude.{◌≡◌, ◌==◌, false, List, Option, length, IfOk, OnErr};
-ghost use Rattle.trace_dat.specs.Contents.{EventFormat};
+ghost use Rattle.std.specs.Prelude.{◌≡◌, ◌==◌, false, List, length, IfOk, OnErr};
 ghost use Rattle.capture.specs.Pages.{Page};
 ghost use Rattle.capture.specs.files.Files.{ModelPart};
 ghost use Rattle.text_values.specs.Putting.{Puts};
-ghost use Rattle.capture_text.specs.Printed.{AreNames};
+ghost use Rattle.capture_text.specs.Printed.{IsSound};
+ghost use Rattle.capture_text.specs.Printing.{Detail};
 ghost use Rattle.collect_command.specs.Gathered.{AreReadFrom};
-ghost use Rattle.collect_command.specs.Listings.{all_unknown, all_damaged, are_all_intact, ending_of, IsListed};
+ghost use Rattle.collect_command.specs.Listings.{all_unknown, all_damaged, are_all_intact, ending_of};
+ghost use Rattle.collect_command.specs.Listings.{Describes, IsListed};
 
-use crate::ending::Ending;
+use crate::ending::{Ending, Listed};
 use crate::gather::gather;
 use capture::Capture;
 use capture::files::CpuCapture;
-use capture_text::{Form, Printer};
+use capture_text::{Form, Naming, Printer};
 use command_io::Sink;
+use event_fields::MalformedEvent;
 use std::alloc::Global;
 use text_values::{Out, TextBuffer};
 use time_merge::walk_lines;
-use trace_dat::kernel_texts::EventNames;
 use trace_model::NoMemory;
 
 /// Prints the losses of unknown number of each CPU.
@@ -74,31 +75,41 @@ fn ending_of(is_written: bool, is_intact: bool) -> Ending
     }
 }
 
-/// Prints what captures have and miss, in this form; with names, what each record's event is. If memory is refused,
-/// nothing is written.
+/// Prints what captures have and miss, in this form, with what the naming says of each record's event; these are the
+/// events whose formats are malformed. If memory is refused, nothing is written.
 pub(crate) fn print_listing<W: Sink>(
     alloc: Global,
     form: Form,
-    names: Option<&EventNames>,
+    naming: Naming<'_>,
+    malformed: Vec<MalformedEvent>,
     cpus: &[CpuCapture],
     writer: &mut W,
-) -> Result<Ending, NoMemory>
+) -> Result<Listed, NoMemory>
     requires sound { W.failed writer.old ≡ false }
+    requires sound_naming { IsSound naming }
     requires read { (parts : List ModelPart) × (captures : List (List Page)) × AreReadFrom parts 0 cpus.now captures }
-    ensures listed { (formats : Option (List EventFormat)) (parts : List ModelPart) (captures : List (List Page))
-        → AreNames names.entry formats → AreReadFrom parts 0 cpus.now captures → IfOk result (λ ending.
-        IsListed form formats parts captures (W.contents writer.old) (W.contents writer.new) (W.failed writer.new)
-        ending) }
+    ensures listed { (detail : Detail) (parts : List ModelPart) (captures : List (List Page))
+        → Describes naming.entry malformed detail → AreReadFrom parts 0 cpus.now captures → IfOk result (λ listed.
+        IsListed form detail parts captures (W.contents writer.old) (W.contents writer.new) (W.failed writer.new)
+        listed) }
     ensures refused { OnErr result (writer.new ≡ writer.old) }
 {
     let collector = gather(alloc, cpus)?;
     let mut buffer = TextBuffer::new(alloc)?;
     let mut out = Out::new(&mut buffer, writer);
-    let mut printer = Printer { form, names };
+    let mut printer = Printer {
+        form,
+        naming,
+        cut: 0,
+    };
     walk_lines(alloc, &collector, &mut printer, &mut out)?;
     printer.put_missing(&mut out, &collector);
     print_unknown(&printer, &mut out, cpus);
     print_damaged(&printer, &mut out, cpus);
     let is_written = out.finish().is_ok();
-    Ok(ending_of(is_written, are_intact(cpus)))
+    Ok(Listed {
+        ending: ending_of(is_written, are_intact(cpus)),
+        cut: printer.cut,
+        malformed,
+    })
 }

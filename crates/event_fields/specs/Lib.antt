@@ -4,6 +4,7 @@ pub mod Declarations
 pub mod Lines
 pub mod Fields
 pub mod Events
+pub mod Malformed
 pub mod Cutting
 pub mod Numbers
 pub mod Values

@@ -10,11 +10,11 @@ ghost use Rattle.host_commands.specs.Formats.{format_read};
 use crate::form::form_of;
 use crate::formats::{FormatText, formats_below};
 use crate::inputs::{Reader, Trial, open_output, trial_of};
-use crate::message::Trouble;
+use crate::message::{FormatMessage, Trouble};
 use crate::telling::tell_ending;
 use capture::files::Input;
 use capture_text::Form;
-use collect_command::{Collected, Collecting, collect_to};
+use collect_command::{Collected, Collecting, Detail, Listed, collect_to};
 use command_line::CollectCall;
 use trace_dat::Format;
 
@@ -56,19 +56,44 @@ fn tell_instances(rt: &HostRuntime, instances: u64) {
     }
 }
 
+/// Says on standard error which formats are malformed, and how many records have a field that isn't whole, if there are
+/// any.
+fn tell_fields(rt: &HostRuntime, listed: &Listed) {
+    for event in &listed.malformed {
+        let message = FormatMessage { event };
+        let _ = eprintln!(rt; "{message}");
+    }
+    let cut = listed.cut;
+    if cut > 0 {
+        let _ = eprintln!(rt; "tracering: records with a field that is not whole: {cut}");
+    }
+}
+
+/// What a line says of its record.
+fn detail_of(names: bool, fields: bool) -> Detail
+    ensures { result ≡ (if fields then Detail.Fields else if names then Detail.Names else Detail.Payload) }
+{
+    match (names, fields) {
+        (_, true) => Detail::Fields,
+        (true, false) => Detail::Names,
+        (false, false) => Detail::Payload,
+    }
+}
+
 /// How the files are listed.
 fn collecting_of<'a>(asked: &CollectCall<'_>, formats: &'a [Format<'a>]) -> Collecting<'a>
     requires { IsInRange asked.now }
     ensures form { result.form ≡ (if asked.now.json then Form.Json else Form.Text) }
     ensures page { result.page ≡ page_bytes asked.now.page }
     ensures least { MIN_PAGE ≤ result.page }
-    ensures names { result.names ≡ asked.now.names }
+    ensures detail { result.detail ≡ (if asked.now.fields then Detail.Fields
+        else if asked.now.names then Detail.Names else Detail.Payload) }
     ensures formats { result.formats.now ≡ formats.now }
 {
     Collecting {
         form: form_of(asked.json),
         page: asked.page_bytes() as usize,
-        names: asked.names,
+        detail: detail_of(asked.names, asked.fields),
         formats,
     }
 }
@@ -103,7 +128,9 @@ pub(crate) fn collect_captures<'b>(
     requires cpus { map (λ input. input.cpu) inputs.items ≡ map (λ file. file.cpu) asked.now.files.items }
     requires sound { All (λ input. has_failed (peeked_reader input.reader) ≡ false) inputs.items }
 {
-    let Collected { ending, instances } = list(rt, asked, inputs, is_watched)?;
+    let Collected { listed, instances } = list(rt, asked, inputs, is_watched)?;
     tell_instances(rt, instances);
-    Ok(tell_ending(rt, &asked.files, ending))
+    tell_fields(rt, &listed);
+    tell_ending(rt, &asked.files, listed.ending);
+    Ok(listed.status())
 }

@@ -1,5 +1,8 @@
 //! What the program says on standard error of a file.
+use capture_text::shown_byte;
+use event_fields::MalformedEvent;
 use std::fmt;
+use std::fmt::Write;
 
 /// What is the matter with a file.
 #[derive(Clone, Copy, Debug, PartialEq, Eq)]
@@ -44,5 +47,43 @@ impl<'a> fmt::Display for FileMessage<'a> {
             ),
             Trouble::Malformed => write!(f, "tracering: {name} is malformed"),
         }
+    }
+}
+
+/// The line for an event whose format is malformed, without a line feed. It takes no memory.
+#[derive(Clone, Copy, Debug)]
+pub struct FormatMessage<'a> {
+    /// The event.
+    pub event: &'a MalformedEvent,
+}
+
+/// A name as lines show it.
+#[derive(Clone, Copy)]
+struct ShownName<'a> {
+    name: &'a [u8],
+}
+
+impl<'a> fmt::Display for ShownName<'a> {
+    fn fmt<W: fmt::Write>(&self, f: &mut fmt::Formatter<W>) -> fmt::Result {
+        for byte in self.name {
+            f.write_char(char::from(shown_byte(*byte)))?;
+        }
+        Ok(())
+    }
+}
+
+impl<'a> fmt::Display for FormatMessage<'a> {
+    fn fmt<W: fmt::Write>(&self, f: &mut fmt::Formatter<W>) -> fmt::Result {
+        let system = ShownName {
+            name: &self.event.system,
+        };
+        let name = ShownName {
+            name: &self.event.name,
+        };
+        let at = self.event.at;
+        write!(
+            f,
+            "tracering: the format of {system}:{name} is malformed at byte {at}"
+        )
     }
 }

@@ -1,7 +1,7 @@
 //! What is read of a capture, as text.
 use crate::collectors::calls::Refusal;
 use capture::{Capture, CaptureFault, Part, ReadFault, read_capture};
-use capture_text::{Form, Printer};
+use capture_text::{Form, Naming, Printer};
 use command_io::Std;
 use page_numbers::Parcel;
 use std::alloc::Global;
@@ -40,7 +40,8 @@ fn put_lost(
     let mut lost = Out::new(&mut buffer, &mut writer);
     let printer = Printer {
         form: Form::Text,
-        names: None,
+        naming: Naming::Payload,
+        cut: 0,
     };
     printer.put_unknown(&mut lost, capture);
     printer.put_damaged(&mut lost, capture, &[part]);

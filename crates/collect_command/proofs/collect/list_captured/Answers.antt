@@ -3,12 +3,11 @@ use Rattle.capture.specs.declared.files.captured.CpuCapture.{CpuCapture}
 use Rattle.capture.specs.files.Files.{all_formats}
 use Rattle.capture.specs.files.Losses.{overrun_in}
 use Rattle.collect_command.specs.Gathered.{AreReadFrom}
-use Rattle.collect_command.specs.Runs.{formats_for}
 use Rattle.collect_command.proofs.PagesOfAll.{pages_captured}
 use Rattle.collect_command.proofs.collect.list_captured.Goals as goal
 
-pub print_listing-requires-clause-read : goal.print_listing-requires-clause-read
-print_listing-requires-clause-read g c =
+pub print_captured-requires-clause-read : goal.print_captured-requires-clause-read
+print_captured-requires-clause-read g c =
     let (files, captured) = c.requires.read in
     let all = pages_captured (overrun_in files) captured.parts c.args.captured.cpus.items captured.cpus_are in
     let read = subst (λ (cpus : List CpuCapture). AreReadFrom captured.parts 0 cpus all.captures)
@@ -19,7 +18,7 @@ pub returns-clause-listed : goal.returns-clause-listed
 returns-clause-listed g c files captured =
     let parts = captured.parts in
     let all = pages_captured (overrun_in files) parts c.args.captured.cpus.items captured.cpus_are in
-    let names = c.shown_names-shown.ensures _ (c.in_ok-add.ensures.added (all_formats files) captured.names_are) in
+    let names = c.in_ok-add.ensures.added (all_formats files) captured.names_are in
     let read = subst (λ (cpus : List CpuCapture). AreReadFrom parts 0 cpus all.captures)
     (sym c.deref.ensures.value) all.read in
     record {
@@ -28,6 +27,5 @@ returns-clause-listed g c files captured =
       captures = all.captures;
       pages_are = all.pages_are;
       count = all.count ∙ captured.cpus_are.count;
-      listed = c.in_ok-ending.ensures.listed (formats_for c.args.collecting.now files) parts all.captures
-          names read;
+      is_listed = c.print_captured.ensures.listed _ parts all.captures names read;
     }
