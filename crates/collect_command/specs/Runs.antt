@@ -21,6 +21,7 @@ use Rattle.collect_command.specs.declared.ending.Ending.TheVariants.{NotWritten}
 use Rattle.collect_command.specs.Gathered.{AreCpusPages}
 use Rattle.collect_command.specs.Faults.{fault_line, numbers_line}
 use Rattle.capture_text.specs.Printing.{Detail as LineDetail}
+use Rattle.capture_text.specs.Selection.{selection_seen}
 use Rattle.collect_command.specs.Listings.{IsListed, SaysNothing, detail_by}
 
 -- what a line says of its record: by the formats in the files, and those that are given
@@ -33,6 +34,7 @@ pub record AskTheSame (one other : Collecting) : Type 0 where
   pub form : one.form ≡ other.form
   pub page : one.page ≡ other.page
   pub detail : one.detail ≡ other.detail
+  pub selection : selection_seen one.selection ≡ selection_seen other.selection
   pub formats : map format_seen one.formats.now ≡ map format_seen other.formats.now
 
 -- they say the same of a listing
@@ -49,7 +51,8 @@ pub record ListsFiles (collecting : Collecting) (files : List File) (contents af
   pub captures : List (List Page)
   pub pages_are : AreCpusPages (overrun_in files) parts 0 captures
   pub count : length captures ≡ MAX_CPUS
-  pub is_listed : IsListed collecting.form (detail_for collecting files) parts captures contents after failed listed
+  pub is_listed : IsListed collecting.form (detail_for collecting files) (selection_seen collecting.selection) parts
+      captures contents after failed listed
 
 -- nothing was written
 pub record IsUnwritten (contents after : Option (List ℕ)) (failed : Bool) : Type 0 where

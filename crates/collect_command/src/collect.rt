@@ -6,6 +6,7 @@ ghost use Rattle.trace_dat.specs.kernel_texts.Names.{HasEvents};
 ghost use Rattle.capture.specs.Pages.{Page};
 ghost use Rattle.capture.specs.files.Files.{File, ModelPart};
 ghost use Rattle.capture.specs.files.Captures.{AreCaptured};
+ghost use Rattle.capture_text.specs.Selection.{selection_seen};
 ghost use Rattle.command_io.specs.Written.{IsTextWritten};
 ghost use Rattle.collect_command.specs.Gathered.{AreReadFrom};
 ghost use Rattle.collect_command.specs.Listings.{IsListed, detail_by};
@@ -16,7 +17,7 @@ use crate::fault_line::fault_line;
 use crate::listing::print_listing;
 use crate::memory::tell_memory;
 use capture::files::{Captured, CpuCapture, FileFault, Input, InputFault, Unread, read_inputs};
-use capture_text::{Form, Naming};
+use capture_text::{Form, Naming, Selection};
 use command_io::{Sink, Source, write_text};
 use event_fields::{EventFields, malformed_events};
 use std::alloc::Global;
@@ -48,6 +49,8 @@ pub struct Collecting<'a> {
     pub page: usize,
     /// What a line says of its record.
     pub detail: Detail,
+    /// Which records are listed.
+    pub selection: Selection<'a>,
     /// The formats of events beside those that files of trace-cmd have.
     pub formats: &'a [Format<'a>],
 }
@@ -103,20 +106,26 @@ fn print_captured<W: Sink>(
     requires read { (parts : List ModelPart) × (captures : List (List Page)) × AreReadFrom parts 0 cpus.now captures }
     ensures listed { (formats : List EventFormat) (parts : List ModelPart) (captures : List (List Page))
         → HasEvents names.now formats → AreReadFrom parts 0 cpus.now captures → IfOk result (λ listed.
-        IsListed collecting.now.form (detail_by collecting.now.detail formats) parts captures
+        IsListed collecting.now.form (detail_by collecting.now.detail formats)
+        (selection_seen collecting.now.selection) parts captures
         (W.contents writer.old) (W.contents writer.new) (W.failed writer.new) listed) }
     ensures refused { OnErr result (writer.new ≡ writer.old) }
 {
     let form = collecting.form;
+    let selection = collecting.selection;
     let none = Vec::new(alloc);
     match collecting.detail {
-        Detail::Payload => print_listing(alloc, form, Naming::Payload, none, cpus, writer),
-        Detail::Names => print_listing(alloc, form, Naming::Names(names), none, cpus, writer),
+        Detail::Payload => {
+            print_listing(alloc, form, Naming::Payload, selection, none, cpus, writer)
+        }
+        Detail::Names => {
+            print_listing(alloc, form, Naming::Names(names), selection, none, cpus, writer)
+        }
         Detail::Fields => {
             let fields = EventFields::new(alloc, names)?;
             let malformed = malformed_events(alloc, names, &fields)?;
             let naming = Naming::Fields(names, &fields);
-            print_listing(alloc, form, naming, malformed, cpus, writer)
+            print_listing(alloc, form, naming, selection, malformed, cpus, writer)
         }
     }
 }
