@@ -1,8 +1,8 @@
 // tracering-unpack FILE: writes a compressed file of trace-cmd, version 7, to standard output, as one that isn't
 // compressed.
 //
-// tracering-unpack PROGRAM WORDS..: runs PROGRAM. If the first word is `collect`, each FILE among the words that is such
-// a file is given to it unpacked, in a file without a name; what it prints on standard error names FILE as the words do.
+// tracering-unpack PROGRAM WORDS..: runs PROGRAM. If the first word is `collect`, each FILE of the words that is such a
+// file is given to it unpacked, in a file without a name; what it prints on standard error names FILE as the words do.
 // The exit status is that of PROGRAM. If a FILE can't be unpacked, PROGRAM isn't run.
 #include "packed.h"
 
@@ -182,7 +182,7 @@ static int print_unpacked(const char *name)
     if (!open_packed(name, &file)) {
         if (errno)
             fail(&file);
-        fprintf(stderr, "tracering: cannot unpack %s: it is no file of trace-cmd, version 7, with zstd or zlib\n", name);
+        fprintf(stderr, "tracering: cannot unpack %s: it isn't a trace.dat of version 7 with zstd or zlib\n", name);
         return REFUSED;
     }
     int fd = unpack(&file);

@@ -1,6 +1,6 @@
-// How a file of version 7 is unpacked. It is a head and sections, one after the other. The sections of options say where
-// the others are, and where each CPU's pages are in the section of a buffer. First all places in the new file are found,
-// by the lengths that are stated; then it is written from its front on.
+// How a file of version 7 is unpacked. It is a head and sections, one after the other. The sections of options say
+// where the others are, and where each CPU's pages are in the section of a buffer. First all places in the new file are
+// found, by the lengths that are stated; then it is written from its front on.
 #include "output.h"
 
 #include <fcntl.h>

@@ -96,7 +96,7 @@ class Writer:
         self.places, self.ranges = [0] * len(sections), {}
 
     def file(self):
-        """The file, made twice, as the places are known only then; more often, as compressed options get another size."""
+        """The file, made twice, as the places are known only then, or more often if options are compressed."""
         made = b""
         for _ in range(9 if self.packs_options else 2):
             made = HEAD + struct.pack("<I", PAGE) + self.name + b"\0" + self.release + b"\0"
