@@ -1,7 +1,6 @@
 -- What a printer prints of a record.
 use Rattle.std.specs.Prelude.{◌≡◌, ℕ, ◌+◌, ◌-◌, ◌^◌, Bool, if◌then◌else◌, min, Option, ⊤}
 use Rattle.trace_model.specs.Listing.{Line}
-use Rattle.trace_dat.specs.Contents.{EventFormat}
 use Rattle.trace_dat.specs.kernel_texts.Names.{HasEvents, events_of}
 use Rattle.event_fields.specs.Events.{HasFields}
 use Rattle.command_io.specs.declared.ends.Sink.{Ghosts}

@@ -1,7 +1,7 @@
 //! What prints a collection.
 
 use crate::form::Form;
-use crate::lines::put_record;
+use crate::lines::put_listed;
 use crate::losses::{put_damages, put_losses, put_runs};
 use crate::naming::Naming;
 use crate::selection::Selection;
@@ -73,10 +73,8 @@ impl<W: Sink> TakesLines<Out<'_, W>> for Printer<'_> {
     ghost takes = { λ p line q. PrintsRecord line p.0 p.1 q.0 q.1 };
 
     fn take_line(&mut self, out: &mut Out<'_, W>, line: &Line<'_>) {
-        if self.selection.has(line) {
-            let is_cut = put_record(out, self.form, self.naming, line);
-            self.cut = self.cut.saturating_add(u64::from(is_cut));
-        }
+        let is_cut = put_listed(out, self.form, self.naming, &self.selection, line);
+        self.cut = self.cut.saturating_add(u64::from(is_cut));
         self.window.note(&self.selection, line);
     }
 }

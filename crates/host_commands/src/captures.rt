@@ -13,7 +13,7 @@ use crate::inputs::{Reader, Trial, open_output, trial_of};
 use crate::message::{FormatMessage, Trouble};
 use crate::telling::tell_ending;
 use capture::files::Input;
-use capture_text::Form;
+use capture_text::{Form, Selection};
 use collect_command::{Collected, Collecting, Detail, Listed, collect_to};
 use command_line::CollectCall;
 use trace_dat::Format;
@@ -94,6 +94,7 @@ fn collecting_of<'a>(asked: &CollectCall<'_>, formats: &'a [Format<'a>]) -> Coll
         form: form_of(asked.json),
         page: asked.page_bytes() as usize,
         detail: detail_of(asked.names, asked.fields),
+        selection: Selection::all(),
         formats,
     }
 }

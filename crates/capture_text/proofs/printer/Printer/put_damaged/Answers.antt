@@ -2,7 +2,7 @@ use Rattle.std.proofs.Common.{ap, ◌∙◌, List, Option, flat_map}
 use Rattle.capture.specs.Pages.{damages_from}
 use Rattle.capture.specs.declared.pages.Damaged.{Damaged}
 use Rattle.capture_text.specs.Window.{KnownBound}
-use Rattle.capture_text.specs.Listed.{listed_page, listed_damages}
+use Rattle.capture_text.specs.Listed.{listed_page}
 use Rattle.capture_text.specs.Printed.{bounds_of}
 use Rattle.text_values.proofs.Chains.{put_same}
 use Rattle.capture_text.proofs.Damages.{all_lines}
