@@ -29,13 +29,13 @@ use Rattle.collect_command.specs.Runs.{formats_for, AskTheSame, ListsFiles}
 one_own : (read : Checked (List ModelPart)) (own other : List ModelPart) → read ≡ Ok own → read ≡ Ok other → own ≡ other
 one_own read own other is too = cc
 
-one_parts : (page : ℕ) (files : List File) (parts others : List ModelPart) → ArePartsOf page files parts
-    → ArePartsOf page files others → parts ≡ others
-one_parts page [] parts others none too = none ∙ sym too
-one_parts page (file ∷ files) parts others (own, more, is, first, rest) (own_b, more_b, is_b, first_b, rest_b) =
+one_parts : (page : ℕ) (name : List ℕ) (files : List File) (parts others : List ModelPart)
+    → ArePartsOf page name files parts → ArePartsOf page name files others → parts ≡ others
+one_parts page name [] parts others none too = none ∙ sym too
+one_parts page name (file ∷ files) parts others (own, more, is, first, rest) (own_b, more_b, is_b, first_b, rest_b) =
     is
-    ∙ ap₂ (λ (xs ys : List ModelPart). xs ++ ys) (one_own (parts_of page file) own own_b first first_b)
-    (one_parts page files more more_b rest rest_b)
+    ∙ ap₂ (λ (xs ys : List ModelPart). xs ++ ys) (one_own (parts_of page name file) own own_b first first_b)
+    (one_parts page name files more more_b rest rest_b)
     ∙ sym is_b
 
 one_cuts : (parts : List ModelPart) (pages others : List Page) → CutsOf parts pages → CutsOf parts others
@@ -100,9 +100,9 @@ one_run : (collecting : Collecting) (files : List File) (start text other : List
     → ListsFiles collecting files (Some start) (Some text) false ending
     → ListsFiles collecting files (Some start) (Some other) false end → (text ≡ other) × (ending ≡ end)
 one_run collecting files start text other ending end a b =
-    let overrun = overrun_in files in
+    let overrun = overrun_in [] files in
     let formats = formats_for collecting files in
-    let parts : b.parts ≡ a.parts = one_parts collecting.page files b.parts a.parts b.parts_are a.parts_are in
+    let parts : b.parts ≡ a.parts = one_parts collecting.page [] files b.parts a.parts b.parts_are a.parts_are in
     let pages = subst (λ (ps : List ModelPart). AreCpusPages overrun ps 0 b.captures) parts b.pages_are in
     let captures : b.captures ≡ a.captures =
     one_captures overrun a.parts 0 b.captures a.captures pages a.pages_are (b.count ∙ sym a.count) in
@@ -125,7 +125,7 @@ listed_too : (one other : Collecting) (files : List File) (contents after : Opti
     → ListsFiles one files contents after failed ending
 listed_too one other files contents after failed ending same b = record {
   parts = b.parts;
-  parts_are = subst (λ (n : ℕ). ArePartsOf n files b.parts) (sym same.page) b.parts_are;
+  parts_are = subst (λ (n : ℕ). ArePartsOf n [] files b.parts) (sym same.page) b.parts_are;
   captures = b.captures;
   pages_are = b.pages_are;
   count = b.count;

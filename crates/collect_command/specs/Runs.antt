@@ -1,6 +1,6 @@
 -- What a run of `collect` does with its inputs and its sink.
 use Rattle.std.specs.Prelude.{◌≡◌, ◌⊎◌, ℕ, ◌^◌, ◌-◌, Bool, false, if◌then◌else◌, List, ◌++◌, length, map, min, Option}
-use Rattle.std.specs.Prelude.{Some, None}
+use Rattle.std.specs.Prelude.{[], Some, None}
 use Rattle.trace_model.specs.declared.limits.TheConstants.{MAX_CPUS}
 use Rattle.trace_dat.specs.Contents.{EventFormat, format_seen}
 use Rattle.command_io.specs.declared.command.TheConstants.{MEMORY_LINE}
@@ -37,9 +37,9 @@ pub record AskTheSame (one other : Collecting) : Type 0 where
 pub record ListsFiles (collecting : Collecting) (files : List File) (contents after : Option (List ℕ)) (failed : Bool)
     (ending : Ending) : Type 0 where
   pub parts : List ModelPart
-  pub parts_are : ArePartsOf collecting.page files parts
+  pub parts_are : ArePartsOf collecting.page [] files parts
   pub captures : List (List Page)
-  pub pages_are : AreCpusPages (overrun_in files) parts 0 captures
+  pub pages_are : AreCpusPages (overrun_in [] files) parts 0 captures
   pub count : length captures ≡ MAX_CPUS
   pub listed : IsListed collecting.form (formats_for collecting files) parts captures contents after failed ending
 
@@ -71,14 +71,14 @@ module _ {R : Type 0} (remaining : R → Option (List ℕ)) (has_failed : R → 
     pub are_read : AreRead remaining has_failed old new files
     pub told : ListsFiles collecting files contents after failed collected.ending
         ⊎ IsMemoryLine contents after failed collected.ending
-    pub instances_are : collected.instances ≡ min (all_instances files) (2 ^ 64 - 1)
+    pub instances_are : collected.instances ≡ min (all_instances [] files) (2 ^ 64 - 1)
 
   -- an input couldn't be read
   pub record CollectsNone (collecting : Collecting) (old new : List (Input R)) (contents after : Option (List ℕ))
       (failed : Bool) (collected : Collected) : Type 0 where
     pub index : ℕ
     pub fault : InputFault
-    pub unread : IsUnread remaining has_failed collecting.page old new index fault
+    pub unread : IsUnread remaining has_failed collecting.page [] old new index fault
     pub told : TellsFault index fault contents after failed collected.ending
     pub no_instances : collected.instances ≡ 0
 

@@ -1,5 +1,5 @@
 //! The command `collect`.
-ghost use Rattle.std.specs.Prelude.{◌≡◌, ◌<◌, ◌≤◌, ◌⊎◌, false, if◌then◌else◌, List, All, length, Some, None, IfOk};
+ghost use Rattle.std.specs.Prelude.{◌≡◌, ◌<◌, ◌≤◌, ◌⊎◌, false, if◌then◌else◌, List, [], All, length, Some, None, IfOk};
 ghost use Rattle.std.specs.Prelude.{OnErr};
 ghost use Rattle.trace_model.specs.declared.limits.TheConstants.{MAX_CPUS};
 ghost use Rattle.trace_dat.specs.Contents.{EventFormat};
@@ -93,8 +93,8 @@ fn list_captured<W: Sink>(
     writer: &mut W,
 ) -> Result<Ending, NoMemory>
     requires sound { W.failed writer.old ≡ false }
-    requires read { (files : List File) × AreCaptured collecting.now.page files captured }
-    ensures listed { (files : List File) → AreCaptured collecting.now.page files captured → IfOk result (λ ending.
+    requires read { (files : List File) × AreCaptured collecting.now.page [] files captured }
+    ensures listed { (files : List File) → AreCaptured collecting.now.page [] files captured → IfOk result (λ ending.
         ListsFiles collecting.now files (W.contents writer.old) (W.contents writer.new)
         (W.failed writer.new) ending) }
     ensures refused { OnErr result (writer.new ≡ writer.old) }
@@ -115,8 +115,8 @@ fn list_or_tell<W: Sink>(
     writer: &mut W,
 ) -> Ending
     requires sound { W.failed writer.old ≡ false }
-    requires read { (files : List File) × AreCaptured collecting.now.page files captured }
-    ensures { (files : List File) → AreCaptured collecting.now.page files captured
+    requires read { (files : List File) × AreCaptured collecting.now.page [] files captured }
+    ensures { (files : List File) → AreCaptured collecting.now.page [] files captured
         → ListsFiles collecting.now files (W.contents writer.old) (W.contents writer.new)
         (W.failed writer.new) result
         ⊎ IsMemoryLine (W.contents writer.old) (W.contents writer.new) (W.failed writer.new) result }
@@ -143,7 +143,7 @@ pub fn collect_to<R: Source, W: Sink>(
     ensures { IsCollectRun R.remaining R.failed collecting.now inputs.old inputs.new
         (W.contents writer.old) (W.contents writer.new) (W.failed writer.new) result }
 {
-    match read_inputs(alloc, collecting.page, inputs) {
+    match read_inputs(alloc, collecting.page, &[], inputs) {
         Ok(captured) => {
             let instances = captured.instances;
             let ending = list_or_tell(alloc, collecting, captured, writer);
