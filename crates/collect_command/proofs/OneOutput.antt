@@ -33,13 +33,13 @@ use Rattle.collect_command.specs.Runs.{detail_for, AskTheSame, SayTheSame, Lists
 one_own : (read : Checked (List ModelPart)) (own other : List ModelPart) → read ≡ Ok own → read ≡ Ok other → own ≡ other
 one_own read own other is too = cc
 
-one_parts : (page : ℕ) (files : List File) (parts others : List ModelPart) → ArePartsOf page files parts
-    → ArePartsOf page files others → parts ≡ others
-one_parts page [] parts others none too = none ∙ sym too
-one_parts page (file ∷ files) parts others (own, more, is, first, rest) (own_b, more_b, is_b, first_b, rest_b) =
+one_parts : (page : ℕ) (name : List ℕ) (files : List File) (parts others : List ModelPart)
+    → ArePartsOf page name files parts → ArePartsOf page name files others → parts ≡ others
+one_parts page name [] parts others none too = none ∙ sym too
+one_parts page name (file ∷ files) parts others (own, more, is, first, rest) (own_b, more_b, is_b, first_b, rest_b) =
     is
-    ∙ ap₂ (λ (xs ys : List ModelPart). xs ++ ys) (one_own (parts_of page file) own own_b first first_b)
-    (one_parts page files more more_b rest rest_b)
+    ∙ ap₂ (λ (xs ys : List ModelPart). xs ++ ys) (one_own (parts_of page name file) own own_b first first_b)
+    (one_parts page name files more more_b rest rest_b)
     ∙ sym is_b
 
 one_cuts : (parts : List ModelPart) (pages others : List Page) → CutsOf parts pages → CutsOf parts others
@@ -111,11 +111,12 @@ one_run : (collecting : Collecting) (files : List File) (start text other : List
     → ListsFiles collecting files (Some start) (Some text) false one
     → ListsFiles collecting files (Some start) (Some other) false too → (text ≡ other) × SayTheSame one too
 one_run collecting files start text other one too a b =
-    let overrun = overrun_in files in
+    let name = collecting.buffer.now in
+    let overrun = overrun_in name files in
     let form = collecting.form in
     let detail = detail_for collecting files in
     let selected = selection_seen collecting.selection in
-    let parts : b.parts ≡ a.parts = one_parts collecting.page files b.parts a.parts b.parts_are a.parts_are in
+    let parts : b.parts ≡ a.parts = one_parts collecting.page name files b.parts a.parts b.parts_are a.parts_are in
     let pages = subst (λ (ps : List ModelPart). AreCpusPages overrun ps 0 b.captures) parts b.pages_are in
     let captures : b.captures ≡ a.captures =
     one_captures overrun a.parts 0 b.captures a.captures pages a.pages_are (b.count ∙ sym a.count) in
@@ -137,9 +138,11 @@ listed_too : (one other : Collecting) (files : List File) (contents after : Opti
     → ListsFiles one files contents after failed listed
 listed_too one other files contents after failed listed same b = record {
   parts = b.parts;
-  parts_are = subst (λ (n : ℕ). ArePartsOf n files b.parts) (sym same.page) b.parts_are;
+  parts_are = subst (λ (n : ℕ). ArePartsOf n one.buffer.now files b.parts) (sym same.page)
+      (subst (λ (name : List ℕ). ArePartsOf other.page name files b.parts) (sym same.buffer) b.parts_are);
   captures = b.captures;
-  pages_are = b.pages_are;
+  pages_are = subst (λ (name : List ℕ). AreCpusPages (overrun_in name files) b.parts 0 b.captures) (sym same.buffer)
+      b.pages_are;
   count = b.count;
   is_listed = subst (λ (f : Form).
       IsListed f (detail_for one files) (selection_seen one.selection) b.parts b.captures contents after failed listed)
