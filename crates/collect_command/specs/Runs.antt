@@ -86,10 +86,10 @@ pub record KeepsOthers (old new : Captured) : Type 0 where
   pub others : new.others ≡ old.others
   pub found : new.found ≡ old.found
 
--- an instance is asked for that no file has
-abbrev pub is_missing : (name : List ℕ) → List File → Bool
-is_missing [] files = false
-is_missing (b ∷ bs) files = not (is_in_any (b ∷ bs) files)
+-- an instance is asked for, by its name, that wasn't found
+abbrev pub is_missing : (name : List ℕ) → (found : Bool) → Bool
+is_missing [] found = false
+is_missing (b ∷ bs) found = not found
 
 module _ {R : Type 0} (remaining : R → Option (List ℕ)) (has_failed : R → Bool) where
   -- All inputs were read, and are listed, or memory was refused before anything was written. `collected` says which
@@ -101,7 +101,7 @@ module _ {R : Type 0} (remaining : R → Option (List ℕ)) (has_failed : R → 
     pub told : ListsFiles collecting files contents after failed collected.listed
         ⊎ TellsMemory contents after failed collected.listed
     pub others_are : texts_held collected.others.items ≡ all_others collecting.buffer.now files
-    pub missing_is : collected.is_missing ≡ is_missing collecting.buffer.now files
+    pub missing_is : collected.is_missing ≡ is_missing collecting.buffer.now (is_in_any collecting.buffer.now files)
 
   -- an input couldn't be read
   pub record CollectsNone (collecting : Collecting) (old new : List (Input R)) (contents after : Option (List ℕ))

@@ -10,7 +10,8 @@ ghost use Rattle.capture_text.specs.Selection.{selection_seen};
 ghost use Rattle.command_io.specs.Written.{IsTextWritten};
 ghost use Rattle.collect_command.specs.Gathered.{AreReadFrom};
 ghost use Rattle.collect_command.specs.Listings.{IsListed, detail_by};
-ghost use Rattle.collect_command.specs.Runs.{ListsFiles, TellsFault, TellsMemory, KeepsOthers, IsCollectRun};
+ghost use Rattle.collect_command.specs.Runs.{ListsFiles, TellsFault, TellsMemory, KeepsOthers, is_missing};
+ghost use Rattle.collect_command.specs.Runs.{IsCollectRun};
 
 use crate::ending::{Collected, Ending, Listed};
 use crate::fault_line::fault_line;
@@ -182,6 +183,13 @@ fn list_or_tell<W: Sink>(
     }
 }
 
+/// Whether the buffer of this name is that of an instance, and wasn't found.
+fn is_missing(name: &[u8], found: bool) -> bool
+    ensures { result ≡ is_missing name.now found }
+{
+    !name.is_empty() && !found
+}
+
 /// Lists files that a kernel's trace was read to: all that they have, by time, and what was lost. Nothing is written
 /// before all are read, and memory is asked for only before the first byte is written.
 pub fn collect_to<R: Source, W: Sink>(
@@ -205,7 +213,7 @@ pub fn collect_to<R: Source, W: Sink>(
             let Captured { others, found, .. } = captured;
             Collected {
                 listed,
-                is_missing: !collecting.buffer.is_empty() && !found,
+                is_missing: is_missing(collecting.buffer, found),
                 others,
             }
         }

@@ -91,7 +91,7 @@ pub(crate) fn print_listing<W: Sink>(
     requires sound_naming { IsSound naming }
     requires read { (parts : List ModelPart) × (captures : List (List Page)) × AreReadFrom parts 0 cpus.now captures }
     ensures listed { (detail : Detail) (parts : List ModelPart) (captures : List (List Page))
-        → Describes naming.entry malformed detail → AreReadFrom parts 0 cpus.now captures → IfOk result (λ listed.
+        → Describes naming.entry malformed.items detail → AreReadFrom parts 0 cpus.now captures → IfOk result (λ listed.
         IsListed form detail (selection_seen selection.entry) parts captures (W.contents writer.old)
         (W.contents writer.new) (W.failed writer.new) listed) }
     ensures refused { OnErr result (writer.new ≡ writer.old) }
@@ -99,12 +99,13 @@ pub(crate) fn print_listing<W: Sink>(
     let collector = gather(alloc, cpus)?;
     let mut buffer = TextBuffer::new(alloc)?;
     let mut out = Out::new(&mut buffer, writer);
+    let window = Window::new();
     let mut printer = Printer {
         form,
         naming,
         selection,
         cut: 0,
-        window: Window::new(),
+        window,
     };
     walk_lines(alloc, &collector, &mut printer, &mut out)?;
     printer.put_missing(&mut out, &collector);

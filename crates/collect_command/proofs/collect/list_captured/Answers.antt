@@ -1,4 +1,5 @@
 use Rattle.std.proofs.Common.{List, sym, subst, ◌∙◌}
+use Rattle.std.proofs.lemmas.Result.{IfOk-weaker}
 use Rattle.capture.specs.declared.files.captured.CpuCapture.{CpuCapture}
 use Rattle.capture.specs.files.Files.{all_formats}
 use Rattle.capture.specs.files.Losses.{overrun_in}
@@ -21,11 +22,11 @@ returns-clause-listed g c files captured =
     let names = c.in_ok-add.ensures.added (all_formats files) captured.names_are in
     let read = subst (λ (cpus : List CpuCapture). AreReadFrom parts 0 cpus all.captures)
     (sym c.deref.ensures.value) all.read in
-    record {
+    IfOk-weaker c.print_captured.result _ _ (λ listed is. record {
       parts = parts;
       parts_are = captured.parts_are;
       captures = all.captures;
       pages_are = all.pages_are;
       count = all.count ∙ captured.cpus_are.count;
-      is_listed = c.print_captured.ensures.listed _ parts all.captures names read;
-    }
+      is_listed = is;
+    }) (c.print_captured.ensures.listed _ parts all.captures names read)

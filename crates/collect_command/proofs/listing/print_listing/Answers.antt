@@ -1,6 +1,6 @@
 use Rattle.std.proofs.Common.{rules, ◌≡◌, ◌++◌, ℕ, [], List, Bool, true, Option, flat_map, ◌∙◌, ap, ap₂, sym, subst}
-use Rattle.std.proofs.Common.{arith}
-use Rattle.std.specs.Prelude.{fold}
+use Rattle.std.proofs.Common.{◌+◌, ◌-◌, ◌^◌, min, arith}
+use Rattle.std.specs.Prelude.{count_by, fold}
 use Rattle.std.specs.Result.{is_ok}
 use Rattle.world_model.specs.Printing.{Shown}
 use Rattle.capture.specs.Rings.{parcels_of_captures}
@@ -8,7 +8,7 @@ use Rattle.capture_text.specs.declared.form.Form.{Form}
 use Rattle.capture_text.specs.declared.printer.Printer.{Printer}
 use Rattle.capture_text.specs.Selection.{selection_seen}
 use Rattle.capture_text.specs.Window.{KnownBound, bound_at, bound_by, listed_bound, noted_of}
-use Rattle.capture_text.specs.Listed.{listed_line, listed_runs}
+use Rattle.capture_text.specs.Listed.{listed_line, is_listed_cut, listed_runs}
 use Rattle.capture_text.specs.Printed.{bounds_of}
 use Rattle.command_io.specs.Written.{IsTextWritten}
 use Rattle.text_values.specs.Putting.{start_of, contents_of, has_failed, HasPut}
@@ -20,6 +20,9 @@ use Rattle.collect_command.specs.Listings.{listing_text, IsListed}
 use Rattle.collect_command.proofs.Printing.{walked, walked_form, walked_selection, walked_cut, walked_bound}
 use Rattle.collect_command.proofs.Printing.{same_put, same_print, ended}
 use Rattle.collect_command.proofs.listing.print_listing.Goals as goal
+
+from_none : (n : ℕ) → 0 + n ≡ n
+from_none n = omega arith
 
 pub returns-clause-listed : goal.returns-clause-listed
 returns-clause-listed g c detail parts captures describes read =
@@ -97,7 +100,7 @@ returns-clause-listed g c detail parts captures describes read =
           IsTextWritten NotWritten start.contents (contents_of after) (has_failed after) text
           (ending_of true (are_all_intact captures)) e)
           ending end;
-      cut_is = cut;
+      cut_is = cut ∙ ap (λ (n : ℕ). min n (2 ^ 64 - 1)) (from_none (count_by (is_listed_cut detail selected) walk.0));
       malformed_are = describes.malformed_are;
     } in
     let name = c.finish.ensures.writer start _ damaged ∙ c.new-out.ensures.same_writer in
