@@ -14,6 +14,8 @@ FAULT = re.compile(rb"(line \d+|image): ")
 ESCAPES = {b"n": b"\n", b"r": b"\r", b"t": b"\t", b"\\": b"\\", b"\"": b"\""}
 ESCAPE = re.compile(rb"\\(?:x(..)|(.))", re.DOTALL)
 REPEATED = re.compile(r"\{([^{}]*)\*(\d+)\}")
+# The text of `--help`, as the code has it.
+HELP = re.search(r'(?s)HELP: &str = "\\\n(.*?)";', (TOP / "crates/command_line/src/usage.rt").read_text())[1].encode()
 QUOTED = re.compile(r'"((?:[^"\\]|\\.)*)"')
 # The words of a call, and files as its standard input and output.
 ASKED = re.compile(r"(.*?)(?:(?:^| )< (\S+))?(?:(?:^| )> (\S+))?")
@@ -135,6 +137,8 @@ class Table:
         kind, _, rest = text.partition(" ")
         if text == "usage":
             call.status, call.errors = 2, self.usage
+        elif text == "help":
+            call.wanted = HELP
         elif kind == "!":
             status, _, line = rest.partition(" ")
             call.status, call.errors = int(status), f"{line}\n".encode()

@@ -8,7 +8,7 @@ use Rattle.command_line.specs.Calls.{Asked, AsksFor, AreUnread, IsAsked, SaysFla
 use Rattle.command_line.specs.Calls.{page_matched, without_options}
 use Rattle.command_line.specs.CommandLine.{IsParseOf, IsAccepted, names_command, rows_named}
 use Rattle.command_line.specs.declared.call.Call.{Call}
-use Rattle.command_line.specs.declared.call.Call.TheVariants.{Replay, Run, Steps, Dump, Collect, Recover, Version}
+use Rattle.command_line.specs.declared.call.Call.TheVariants.{Replay, Run, Steps, Dump, Collect, Recover, Version, Help}
 use Rattle.command_line.specs.declared.call.CallFault.{CallFault}
 use Rattle.command_line.specs.declared.call.CallFault.TheVariants.{Usage, NoMemory}
 
@@ -142,6 +142,7 @@ module _ (words : List Text) (named : names_command words ≡ Some (codes "colle
   asks asked (Ok (Recover call)) accepted says a =
       absurd (collect_is_not_recover (sym named ∙ a.named (Recover call) refl))
   asks asked (Ok Version) accepted says a = absurd (a.no_version refl)
+  asks asked (Ok Help) accepted says a = absurd (a.no_help refl)
   asks asked (Err Usage) accepted says a = absurd (unread (a.no_collect refl accepted named))
     where
       unread : AreUnread (rows_named words) → ⊥
@@ -159,6 +160,7 @@ module _ (words : List Text) (named : names_command words ≡ Some (codes "colle
   unreadable (Ok Dump) none a = absurd (let wrong = sym named ∙ a.named Dump refl in cc)
   unreadable (Ok (Recover call)) none a = absurd (collect_is_not_recover (sym named ∙ a.named (Recover call) refl))
   unreadable (Ok Version) none a = absurd (a.no_version refl)
+  unreadable (Ok Help) none a = absurd (a.no_help refl)
   unreadable (Err Usage) none a = inl refl
   unreadable (Err NoMemory) none a = inr refl
 
@@ -285,6 +287,21 @@ parcels_calls first = (refl, refl, refl)
 pub asked_parcels : (first : List ℕ) (result : Result Call CallFault) → IsParseOf (parcels_words first) result
     → IsAsked result parcels_asked
 asked_parcels first result a = called (parcels_words first) parcels_asked result (parcels_calls first) a
+
+-- behind `--` there are files alone
+abbrev dashes_words : (first : List ℕ) → List Text
+dashes_words first = first ∷ codes "collect" ∷ codes "--" ∷ codes "--help" ∷ []
+
+abbrev dashes_asked : Asked
+dashes_asked = without_options ((0, codes "--help") ∷ [])
+
+dashes_calls : (first : List ℕ) → Calls (dashes_words first) dashes_asked
+unfolding clap_on_literals names_command rows_named
+dashes_calls first = (refl, refl, refl)
+
+pub asked_dashes : (first : List ℕ) (result : Result Call CallFault) → IsParseOf (dashes_words first) result
+    → IsAsked result dashes_asked
+asked_dashes first result a = called (dashes_words first) dashes_asked result (dashes_calls first) a
 
 high_named : (first : List ℕ) → names_command (first ∷ codes "collect" ∷ codes "256=a" ∷ []) ≡ Some (codes "collect")
 unfolding clap_on_literals names_command

@@ -4,7 +4,7 @@ use Rattle.std.proofs.Common.{sym, ◌∙◌}
 use Rattle.clap.proofs.OnLiterals.{clap_on_literals}
 use Rattle.command_line.specs.CommandLine.{IsParseOf, IsAccepted, log_text, names_command}
 use Rattle.command_line.specs.declared.call.Call.{Call}
-use Rattle.command_line.specs.declared.call.Call.TheVariants.{Replay, Run, Steps, Dump, Collect, Recover, Version}
+use Rattle.command_line.specs.declared.call.Call.TheVariants.{Replay, Run, Steps, Dump, Collect, Recover, Version, Help}
 use Rattle.command_line.specs.declared.call.CallFault.{CallFault}
 use Rattle.command_line.specs.declared.call.CallFault.TheVariants.{Usage, NoMemory}
 
@@ -77,6 +77,7 @@ call_of_replay first (Ok (Collect call)) a =
 call_of_replay first (Ok (Recover call)) a =
     absurd (let wrong = sym (replay_named first) ∙ a.named (Recover call) refl in cc)
 call_of_replay first (Ok Version) a = absurd (a.no_version refl)
+call_of_replay first (Ok Help) a = absurd (a.no_help refl)
 call_of_replay first (Err Usage) a = absurd (a.no_replay refl (replay_accepted first) (replay_named first))
 call_of_replay first (Err NoMemory) a = inr refl
 
@@ -93,6 +94,7 @@ call_of_replay_log first (Ok (Collect call)) a =
 call_of_replay_log first (Ok (Recover call)) a =
     absurd (let wrong = sym (replay_log_named first) ∙ a.named (Recover call) refl in cc)
 call_of_replay_log first (Ok Version) a = absurd (a.no_version refl)
+call_of_replay_log first (Ok Help) a = absurd (a.no_help refl)
 call_of_replay_log first (Err Usage) a = absurd (a.no_replay refl (replay_log_accepted first) (replay_log_named first))
 call_of_replay_log first (Err NoMemory) a = inr refl
 
@@ -105,6 +107,7 @@ call_of_run first (Ok Steps) a = absurd (let wrong = sym (run_named first) ∙ a
 call_of_run first (Ok (Collect call)) a = absurd (let wrong = sym (run_named first) ∙ a.named (Collect call) refl in cc)
 call_of_run first (Ok (Recover call)) a = absurd (let wrong = sym (run_named first) ∙ a.named (Recover call) refl in cc)
 call_of_run first (Ok Version) a = absurd (a.no_version refl)
+call_of_run first (Ok Help) a = absurd (a.no_help refl)
 call_of_run first (Err Usage) a = absurd (a.no_run refl (run_accepted first) (run_named first))
 call_of_run first (Err NoMemory) a = inr refl
 
@@ -125,6 +128,7 @@ call_of_steps first (Ok (Collect call)) a =
 call_of_steps first (Ok (Recover call)) a =
     absurd (let wrong = sym (steps_named first) ∙ a.named (Recover call) refl in cc)
 call_of_steps first (Ok Version) a = absurd (a.no_version refl)
+call_of_steps first (Ok Help) a = absurd (a.no_help refl)
 call_of_steps first (Err Usage) a = absurd (a.no_steps refl (steps_accepted first) (steps_named first))
 call_of_steps first (Err NoMemory) a = inr refl
 
@@ -139,6 +143,7 @@ call_of_dump first (Ok (Collect call)) a =
 call_of_dump first (Ok (Recover call)) a =
     absurd (let wrong = sym (dump_named first) ∙ a.named (Recover call) refl in cc)
 call_of_dump first (Ok Version) a = absurd (a.no_version refl)
+call_of_dump first (Ok Help) a = absurd (a.no_help refl)
 call_of_dump first (Err Usage) a = absurd (a.no_dump refl (dump_accepted first) (dump_named first))
 call_of_dump first (Err NoMemory) a = inr refl
 

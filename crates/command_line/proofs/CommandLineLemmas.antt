@@ -14,13 +14,13 @@ use Rattle.clap.proofs.OnLiterals.{clap_on_literals}
 use Rattle.clap.proofs.WalkLemmas.{one_text-rows}
 use Rattle.command_line.proofs.Names.{collect_is_not_recover, recover_is_not_collect}
 use Rattle.command_line.specs.CommandLine.{HasSource, IsAccepted, IsCallOf, IsParseOf, command_line, fault_of_kind}
-use Rattle.command_line.specs.CommandLine.{flag_text, is_version, log_text, name_of, names_command, rows_found}
-use Rattle.command_line.specs.CommandLine.{rows_named}
+use Rattle.command_line.specs.CommandLine.{flag_text, is_help, is_version, log_text, name_of, names_command}
+use Rattle.command_line.specs.CommandLine.{rows_found, rows_named}
 use Rattle.command_line.specs.Calls.{AreUnread, AsksFor, AsksToRecover, asked_of, recovering_of, regions_matched}
 use Rattle.command_line.specs.declared.call.CollectCall.{CollectCall}
 use Rattle.command_line.specs.declared.call.RecoverCall.{RecoverCall}
 use Rattle.command_line.specs.declared.call.Call.{Call}
-use Rattle.command_line.specs.declared.call.Call.TheVariants.{Replay, Collect, Recover, Version}
+use Rattle.command_line.specs.declared.call.Call.TheVariants.{Replay, Collect, Recover, Version, Help}
 use Rattle.command_line.specs.declared.call.CallFault.{CallFault}
 use Rattle.command_line.specs.declared.call.CallFault.TheVariants.{Usage, NoMemory}
 
@@ -85,6 +85,7 @@ call_of_matches-words words m None has accepted other unlike named none log no_l
     let name = name_of_matches command_line words m refl has in
     record {
       no_version = λ is. cc;
+      no_help = λ is. cc;
       accepted = λ x is. accepted;
       named = λ x is. absurd (cc);
       log = λ _ is. cc;
@@ -103,6 +104,7 @@ call_of_matches-words words m (Some x) has accepted other unlike named none log 
     let flag = flag_of_matches command_line words m refl has in
     record {
       no_version = λ is. let same : x ≡ Version = cc in subst HasSource same named.0;
+      no_help = λ is. let same : x ≡ Help = cc in subst HasSource same named.0;
       accepted = λ y is. accepted;
       named = λ y is. sym name ∙ named.1 ∙ (let same : x ≡ y = cc in ap (λ (call : Call). Some (name_of call)) same);
       log = λ asked is. log (flag ∙ asked) (let same : x ≡ Replay false = cc in ap Some same);
@@ -130,6 +132,7 @@ collect_call-words words m found call has accepted named rows asks =
     subst (λ (rows : List Row). AsksFor rows (asked_of call)) same_rows asks in
     record {
       no_version = λ is. cc;
+      no_help = λ is. cc;
       accepted = λ y is. accepted;
       named =
           λ y is.
@@ -152,6 +155,7 @@ collect_call-words words m found call has accepted named rows asks =
 pub no_memory-words : (words : List Text) → IsParseOf words (Err NoMemory)
 no_memory-words words = record {
   no_version = λ is. cc;
+  no_help = λ is. cc;
   accepted = λ y is. absurd (cc);
   named = λ y is. absurd (cc);
   log = λ _ is. cc;
@@ -176,6 +180,7 @@ unread-words words m found has named rows unread =
     let same_rows = rows_of_found (subcommand_rows_of m) found rows ∙ rows_of_matches command_line words m refl has in
     record {
       no_version = λ is. cc;
+      no_help = λ is. cc;
       accepted = λ y is. absurd (cc);
       named = λ y is. absurd (cc);
       log = λ _ is. cc;
@@ -211,6 +216,7 @@ recovered-words words m found call has accepted named rows asks =
     subst (λ (rows : List Row). AsksToRecover rows (recovering_of call)) same_rows asks in
     record {
       no_version = λ is. cc;
+      no_help = λ is. cc;
       accepted = λ y is. accepted;
       named =
           λ y is.
@@ -238,6 +244,7 @@ no_regions-words words m found has named rows unread =
     let same_rows = rows_of_found (subcommand_rows_of m) found rows ∙ rows_of_matches command_line words m refl has in
     record {
       no_version = λ is. cc;
+      no_help = λ is. cc;
       accepted = λ y is. absurd (cc);
       named = λ y is. absurd (cc);
       log = λ _ is. cc;
@@ -265,6 +272,7 @@ pub refused-words : (words : List Text) (fault : CallFault) → (IsAccepted word
     → IsParseOf words (Err fault)
 refused-words words fault memory = record {
   no_version = λ is. cc;
+  no_help = λ is. cc;
   accepted = λ y is. absurd (cc);
   named = λ y is. absurd (cc);
   log = λ _ is. cc;
@@ -287,8 +295,11 @@ failed-words words (Err fault) kind is memory =
     refused-words words fault (λ accepted. is ∙ ap fault_of_kind (memory accepted))
 
 -- and what the program makes of words is of `collect` only if the parse makes it of them
-pub parsed_collect : (words : List Text) (result : Result Call CallFault) (asked : CollectCall) (version : Bool)
-    → is_version words ≡ version → IsCallOf words result → result ≡ Ok (Collect asked)
+pub parsed_collect : (words : List Text) (result : Result Call CallFault) (asked : CollectCall) (version help : Bool)
+    → is_version words ≡ version → is_help words ≡ help → IsCallOf words result → result ≡ Ok (Collect asked)
     → AsksFor (rows_named words) (asked_of asked)
-parsed_collect words result asked true is call same = absurd (let wrong = sym (call.version is) ∙ same in cc)
-parsed_collect words result asked false is call same = (call.parsed is).collect asked same
+parsed_collect words result asked true help is not_help call same =
+    absurd (let wrong = sym (call.version is) ∙ same in cc)
+parsed_collect words result asked false true is not_help call same =
+    absurd (let wrong = sym (call.help not_help) ∙ same in cc)
+parsed_collect words result asked false false is not_help call same = (call.parsed is not_help).collect asked same

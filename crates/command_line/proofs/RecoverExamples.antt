@@ -7,7 +7,7 @@ use Rattle.command_line.proofs.Names.{recover_is_not_collect}
 use Rattle.command_line.specs.Calls.{Recovering, AsksToRecover, IsAskedToRecover, recovering_of, regions_matched}
 use Rattle.command_line.specs.CommandLine.{IsParseOf, IsAccepted, names_command, rows_named}
 use Rattle.command_line.specs.declared.call.Call.{Call}
-use Rattle.command_line.specs.declared.call.Call.TheVariants.{Replay, Run, Steps, Dump, Collect, Recover, Version}
+use Rattle.command_line.specs.declared.call.Call.TheVariants.{Replay, Run, Steps, Dump, Collect, Recover, Version, Help}
 use Rattle.command_line.specs.declared.call.CallFault.{CallFault}
 use Rattle.command_line.specs.declared.call.CallFault.TheVariants.{Usage, NoMemory}
 
@@ -40,6 +40,7 @@ module _ (words : List Text) (named : names_command words ≡ Some (codes "recov
   asks asked (Ok Steps) accepted says a = absurd (let wrong = sym named ∙ a.named Steps refl in cc)
   asks asked (Ok Dump) accepted says a = absurd (let wrong = sym named ∙ a.named Dump refl in cc)
   asks asked (Ok Version) accepted says a = absurd (a.no_version refl)
+  asks asked (Ok Help) accepted says a = absurd (a.no_help refl)
   asks asked (Err Usage) accepted says a =
       absurd (let wrong = sym (a.no_recover refl accepted named) ∙ says.files in cc)
   asks asked (Err NoMemory) accepted says a = tt
@@ -53,6 +54,7 @@ module _ (words : List Text) (named : names_command words ≡ Some (codes "recov
   unreadable (Ok Steps) none a = absurd (let wrong = sym named ∙ a.named Steps refl in cc)
   unreadable (Ok Dump) none a = absurd (let wrong = sym named ∙ a.named Dump refl in cc)
   unreadable (Ok Version) none a = absurd (a.no_version refl)
+  unreadable (Ok Help) none a = absurd (a.no_help refl)
   unreadable (Err Usage) none a = inl refl
   unreadable (Err NoMemory) none a = inr refl
 

@@ -5,7 +5,7 @@ use Rattle.trace_model.specs.declared.limits.TheConstants.{MAX_CPUS}
 use Rattle.clap.specs.Words.{Row, Text, all_of, first_of, one_of}
 use Rattle.command_line.specs.FileWords.{file_list, number_word, path_list}
 use Rattle.command_line.specs.declared.call.Call.{Call}
-use Rattle.command_line.specs.declared.call.Call.TheVariants.{Replay, Run, Steps, Dump, Collect, Recover, Version}
+use Rattle.command_line.specs.declared.call.Call.TheVariants.{Replay, Run, Steps, Dump, Collect, Recover, Version, Help}
 use Rattle.command_line.specs.declared.call.CallFault.{CallFault}
 use Rattle.command_line.specs.declared.call.CallFault.TheVariants.{Usage, NoMemory}
 use Rattle.command_line.specs.declared.call.CollectCall.{CollectCall}
@@ -110,6 +110,7 @@ IsAsked (Ok Steps) asked = ⊥
 IsAsked (Ok Dump) asked = ⊥
 IsAsked (Ok (Recover call)) asked = ⊥
 IsAsked (Ok Version) asked = ⊥
+IsAsked (Ok Help) asked = ⊥
 IsAsked (Err Usage) asked = ⊥
 IsAsked (Err NoMemory) asked = ⊤
 
@@ -148,5 +149,6 @@ IsAskedToRecover (Ok Run) asked = ⊥
 IsAskedToRecover (Ok Steps) asked = ⊥
 IsAskedToRecover (Ok Dump) asked = ⊥
 IsAskedToRecover (Ok Version) asked = ⊥
+IsAskedToRecover (Ok Help) asked = ⊥
 IsAskedToRecover (Err Usage) asked = ⊥
 IsAskedToRecover (Err NoMemory) asked = ⊤

@@ -1,13 +1,13 @@
 -- The program's command line as `clap` parses it.
 use Rattle.std.specs.Prelude.{◌≡◌, ◌≢◌, Bool, List, [], ◌∷◌, Option, None, Some, Result, Ok, Err, true, false, codes}
-use Rattle.std.specs.Prelude.{bytes_eq, option_and_then, option_map, ⊤}
+use Rattle.std.specs.Prelude.{bytes_eq, not, ◌&&◌, ◌||◌, option_and_then, option_map, ⊤}
 use Rattle.clap.specs.Words.{App, Row, Rule, Text, fault_of, new_app, new_rule, one_of, subcommand_of, with_rule}
 use Rattle.clap.specs.Words.{with_subcommand}
 use Rattle.clap.specs.declared.builder.action.ArgAction.TheVariants.{Append, Set, SetTrue}
 use Rattle.clap.specs.declared.error.ErrorKind.{ErrorKind}
 use Rattle.clap.specs.declared.error.ErrorKind.TheVariants.{OutOfMemory}
 use Rattle.command_line.specs.declared.call.Call.{Call}
-use Rattle.command_line.specs.declared.call.Call.TheVariants.{Replay, Run, Steps, Dump, Collect, Recover, Version}
+use Rattle.command_line.specs.declared.call.Call.TheVariants.{Replay, Run, Steps, Dump, Collect, Recover, Version, Help}
 use Rattle.command_line.specs.Calls.{AreUnread, AsksFor, AsksToRecover, asked_of, recovering_of, regions_matched}
 use Rattle.command_line.specs.declared.call.CollectCall.{CollectCall}
 use Rattle.command_line.specs.declared.call.RecoverCall.{RecoverCall}
@@ -112,13 +112,15 @@ name_of Dump = codes "dump"
 name_of (Collect call) = codes "collect"
 name_of (Recover call) = codes "recover"
 name_of Version = codes "--version"
+name_of Help = codes "--help"
 
--- the command that is called reads one source; `collect` and `recover` have files of their own, and the version is
--- printed without any
+-- the command that is called reads one source; `collect` and `recover` have files of their own, and the version and the
+-- help are printed without any
 abbrev pub HasSource : Call → Type 0
 HasSource (Collect call) = ⊥
 HasSource (Recover call) = ⊥
 HasSource Version = ⊥
+HasSource Help = ⊥
 HasSource _ = ⊤
 
 -- What the parse makes of the words: the command and what else it finds, if it accepts the words; if it doesn't, or
@@ -126,6 +128,7 @@ HasSource _ = ⊤
 -- of them.
 pub record IsParseOf (words : List Text) (result : Result Call CallFault) : Type 0 where
   pub no_version : result ≢ Ok Version
+  pub no_help : result ≢ Ok Help
   pub accepted : (call : Call) → result ≡ Ok call → IsAccepted words
   pub named : (call : Call) → result ≡ Ok call → names_command words ≡ Some (name_of call)
   pub log : log_text words ≡ Some (codes "true") → result ≢ Ok (Replay false)
@@ -149,11 +152,32 @@ is_version [] = false
 is_version (first ∷ []) = false
 is_version (first ∷ word ∷ other ∷ words) = false
 
--- What the program makes of its words: the version, for which no memory is needed, if they ask for it; and else what
--- the parse makes of them.
+-- a word by which help is asked for
+abbrev pub is_help_word : Text → Bool
+is_help_word word = bytes_eq word (codes "--help") || bytes_eq word (codes "-h")
+
+-- whether there is one of them among these words, before `--`, which ends options
+abbrev pub has_help_word : List Text → Bool
+has_help_word [] = false
+has_help_word (word ∷ words) = not (bytes_eq word (codes "--")) && (is_help_word word || has_help_word words)
+
+-- whether the first of these words is `help`
+abbrev pub begins_with_help : List Text → Bool
+begins_with_help [] = false
+begins_with_help (word ∷ words) = bytes_eq word (codes "help")
+
+-- whether the words ask for help: behind the program's name is the word `help`, or anywhere before `--` there is
+-- `--help` or `-h`; what else there is doesn't matter
+abbrev pub is_help : List Text → Bool
+is_help [] = false
+is_help (first ∷ words) = begins_with_help words || has_help_word words
+
+-- What the program makes of its words: the version or the help, for which no memory is needed, if they ask for it; and
+-- else what the parse makes of them.
 pub record IsCallOf (words : List Text) (result : Result Call CallFault) : Type 0 where
   pub version : is_version words ≡ true → result ≡ Ok Version
-  pub parsed : is_version words ≡ false → IsParseOf words result
+  pub help : is_help words ≡ true → result ≡ Ok Help
+  pub parsed : is_version words ≡ false → is_help words ≡ false → IsParseOf words result
 
 -- the parse fails because memory was refused, or at the words
 abbrev pub fault_of_kind : ErrorKind → CallFault

@@ -85,12 +85,14 @@ pub enum Call<'a> {
     Recover(RecoverCall<'a>),
     /// `tracering --version`.
     Version,
+    /// `tracering --help`, or a call for the help of a command.
+    Help,
 }
 
 /// Why the command line asks for nothing.
 #[derive(Clone, Copy, Debug, PartialEq, Eq)]
 pub enum CallFault {
-    /// A word can't be read, or the parse refuses the words, or they call for help, or they name no command.
+    /// A word can't be read, or the parse refuses the words, or they name no command.
     Usage,
     /// Memory was refused.
     NoMemory,

@@ -6,6 +6,7 @@ use crate::usage::USAGE_LINE;
 /// The usage line is the one that is stated here.
 pub fn usage_line_is()
     ensures { USAGE_LINE.now ≡ codes "usage: tracering replay [--log] | run | dump | steps"
-        ++ codes " | collect [--page BYTES] [--names] [--fields] [--formats DIR] [--json] [--keep KEPT] [--parcels] FILE.."
+        ++ codes " | collect [--page BYTES] [--names] [--fields] [--formats DIR] [--json] [--keep KEPT]"
+        ++ codes " [--parcels] FILE.."
         ++ codes " | recover [--json] [--keep KEPT] FILE.." }
 {}

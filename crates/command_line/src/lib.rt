@@ -13,5 +13,5 @@ mod words;
 pub use call::{Call, CallFault, CollectCall, CpuFile, RecoverCall};
 pub use given::given_call;
 pub use parse::call_of;
-pub use usage::USAGE_LINE;
+pub use usage::{HELP, USAGE_LINE};
 pub use words::{DEFAULT_PAGE, MAX_FILES, MAX_PAGE, MIN_PAGE};

@@ -8,9 +8,9 @@ ghost use Rattle.command_line.specs.Calls.{IsAsked, IsAskedToRecover, IsInRange,
 ghost use Rattle.command_line.specs.declared.call.CollectCall.{CollectCall};
 ghost use Rattle.command_line.specs.CommandLine.{HasSource, IsAccepted, IsCallOf, IsParseOf, collect_command};
 ghost use Rattle.command_line.specs.CommandLine.{collect_commands, collect_options, command_line, first_command};
-ghost use Rattle.command_line.specs.CommandLine.{flag_rule, flag_text, image_commands, is_version, name_of};
-ghost use Rattle.command_line.specs.CommandLine.{option_rule, reading_options, recover_command, script_commands};
-ghost use Rattle.command_line.specs.CommandLine.{values_rule};
+ghost use Rattle.command_line.specs.CommandLine.{flag_rule, flag_text, has_help_word, image_commands, is_help};
+ghost use Rattle.command_line.specs.CommandLine.{is_version, name_of, option_rule, reading_options, recover_command};
+ghost use Rattle.command_line.specs.CommandLine.{script_commands, values_rule};
 
 use crate::call::{Call, CallFault};
 use crate::collect::collect_call;
@@ -223,19 +223,49 @@ fn asks_for_version<S: AsStr>(words: &[S]) -> bool
     }
 }
 
-/// The call that the words make: that for the version, or else what their parse finds.
+/// Whether one of these words, of those before `--` if that is there, asks for help.
+fn has_help<S: AsStr>(words: &[S]) -> bool
+    ensures { result ≡ has_help_word (map S.text words.now) }
+{
+    for word in words {
+        let word = word.as_str();
+        if word == "--" {
+            return false;
+        }
+        if word == "--help" || word == "-h" {
+            return true;
+        }
+    }
+    false
+}
+
+/// Whether the words ask for help: `help` follows the program's name, or `--help` or `-h` is before `--`.
+fn asks_for_help<S: AsStr>(words: &[S]) -> bool
+    ensures { result ≡ is_help (map S.text words.now) }
+{
+    match words {
+        [_, word, ..] if word.as_str() == "help" => true,
+        [_, words @ ..] => has_help(words),
+        [] => false,
+    }
+}
+
+/// The call that the words make: that for the version or the help, or else what their parse finds.
 fn read_words<'a, S: AsStr>(alloc: Global, words: &'a [S]) -> Result<Call<'a>, CallFault>
     ensures { IsCallOf (map S.text words.now) result }
 {
     if asks_for_version(words) {
         return Ok(Call::Version);
     }
+    if asks_for_help(words) {
+        return Ok(Call::Help);
+    }
     parse_words(alloc, words)
 }
 
 /// What these words ask for. The first is the program's own name, whatever it is.
 pub fn call_of<'a, S: AsStr>(alloc: Global, words: &'a [S]) -> Result<Call<'a>, CallFault>
-    // Except that memory may be refused, it is the version, or what the parse of the words finds.
+    // Except that memory may be refused, it is the version, the help, or what the parse of the words finds.
     ensures call { IsCallOf (map S.text words.now) result }
     ensures in_range { (asked : CollectCall) → result ≡ Ok (Call.Collect asked) → IsInRange asked }
 
@@ -290,6 +320,9 @@ pub fn call_of<'a, S: AsStr>(alloc: Global, words: &'a [S]) -> Result<Call<'a>, 
     ensures collect_parcels { (first : List ℕ)
         → map S.text words.now ≡ first ∷ codes "collect" ∷ codes "--parcels" ∷ codes "a" ∷ []
         → IsAsked result (record (without_options ((0, codes "a") ∷ [])) { parcels = true }) }
+    ensures collect_dashes { (first : List ℕ)
+        → map S.text words.now ≡ first ∷ codes "collect" ∷ codes "--" ∷ codes "--help" ∷ []
+        → IsAsked result (without_options ((0, codes "--help") ∷ [])) }
     ensures collect_none { (first : List ℕ) → map S.text words.now ≡ first ∷ codes "collect" ∷ []
         → (result ≡ Err CallFault.Usage) ⊎ (result ≡ Err CallFault.NoMemory) }
     ensures collect_high { (first : List ℕ)
@@ -337,6 +370,19 @@ pub fn call_of<'a, S: AsStr>(alloc: Global, words: &'a [S]) -> Result<Call<'a>, 
     ensures replay_version { (first : List ℕ)
         → map S.text words.now ≡ first ∷ codes "replay" ∷ codes "--version" ∷ []
         → (result ≡ Err CallFault.Usage) ⊎ (result ≡ Err CallFault.NoMemory) }
+
+    // Or of the help, whatever else there is, but `--` before it.
+    ensures help { (first : List ℕ) → map S.text words.now ≡ first ∷ codes "--help" ∷ [] → result ≡ Ok Call.Help }
+    ensures help_short { (first : List ℕ) → map S.text words.now ≡ first ∷ codes "-h" ∷ [] → result ≡ Ok Call.Help }
+    ensures help_of_collect { (first : List ℕ)
+        → map S.text words.now ≡ first ∷ codes "collect" ∷ codes "--help" ∷ [] → result ≡ Ok Call.Help }
+    ensures help_and_more { (first : List ℕ)
+        → map S.text words.now ≡ first ∷ codes "collect" ∷ codes "--page" ∷ codes "47" ∷ codes "-h" ∷ []
+        → result ≡ Ok Call.Help }
+    ensures help_word { (first : List ℕ)
+        → map S.text words.now ≡ first ∷ codes "help" ∷ codes "collect" ∷ [] → result ≡ Ok Call.Help }
+    ensures version_and_help { (first : List ℕ)
+        → map S.text words.now ≡ first ∷ codes "--version" ∷ codes "--help" ∷ [] → result ≡ Ok Call.Help }
 {
     read_words(alloc, words)
 }

@@ -1,5 +1,5 @@
-//! The program `tracering` with the command `replay` alone. A command line that begins with this word is answered as by
-//! the whole program, and fewer crates have to be proved for it.
+//! The program `tracering` with the command `replay` alone. What asks for `replay` is answered as by the whole program,
+//! and fewer crates have to be proved for it; each other command line is refused by the usage line alone.
 #![tactic(auto)]
 
 mod answer;

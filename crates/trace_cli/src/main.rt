@@ -4,6 +4,7 @@
 
 mod answer;
 mod laws;
+mod told;
 mod version;
 
 use crate::answer::answer_to;
