@@ -1,13 +1,15 @@
 -- Files, and one more.
-use Rattle.std.proofs.Common.{◌≡◌, ◌≢◌, ◌∙◌, ℕ, ◌+◌, ◌-◌, ◌^◌, inl, Bool, true, false, List, [], ◌∷◌, ◌++◌, length, Ok}
-use Rattle.std.proofs.Common.{Err, refl, sym, ap, subst, arith, append-nil, append_assoc}
-use Rattle.std.specs.Prelude.{if◌then◌else◌, min, Result, IsOk}
+use Rattle.std.proofs.Common.{◌≡◌, ◌≢◌, ◌∙◌, ℕ, ◌-◌, ◌^◌, inl, Bool, true, false, List, [], ◌∷◌, ◌++◌, length, Ok}
+use Rattle.std.proofs.Common.{Err, refl, sym, ap, subst, arith, append-nil, append_assoc, Vec, Global}
+use Rattle.std.proofs.lemmas.List.{length-map}
+use Rattle.std.specs.Prelude.{◌||◌, ◌<◌, if◌then◌else◌, min, Result, IsOk}
 use Rattle.trace_model.specs.Image.{unknown}
 use Rattle.trace_dat.specs.Fields.{Reading}
 use Rattle.trace_dat.specs.Contents.{EventFormat, Contents}
 use Rattle.trace_dat.specs.Versions.{reading_of}
 use Rattle.trace_dat.specs.declared.kernel_texts.names.EventNames.{EventNames}
 use Rattle.trace_dat.specs.kernel_texts.Names.{HasEvents}
+use Rattle.trace_dat.specs.kernel_texts.Counters.{texts_of}
 use Rattle.capture.specs.declared.pages.CaptureFault.{CaptureFault}
 use Rattle.capture.specs.declared.pages.CaptureFault.TheVariants as captures
 use Rattle.capture.specs.declared.files.captured.CpuCapture.{CpuCapture}
@@ -15,13 +17,14 @@ use Rattle.capture.specs.declared.files.captured.Captured.{Captured}
 use Rattle.capture.specs.declared.files.dat.Losses.{Losses}
 use Rattle.capture.specs.declared.files.dat.Losses.TheVariants.{Kept, Settled}
 use Rattle.capture.specs.files.Files.{Checked, ◌>>=◌, File, ModelPart, is_dat, formatted, parts_in, parts_of, held}
-use Rattle.capture.specs.files.Files.{held_by, formats_of, instances_of, counters_of, count_instances, ArePartsOf}
-use Rattle.capture.specs.files.Files.{all_formats, all_instances}
+use Rattle.capture.specs.files.Files.{held_by, formats_of, others_of, names_of_others, has_named, has_listed}
+use Rattle.capture.specs.files.Files.{counters_of, ArePartsOf, all_formats, all_others, all_instances, is_in_any}
 use Rattle.capture.specs.files.Losses.{overrun_of}
 use Rattle.capture.specs.files.Captures.{AreCpusRead, AreCpusCaptured, IsCpuPast, IsOwnPast, AreFilesRead}
-use Rattle.capture.specs.files.Captures.{AreFilesPast, unsaid}
+use Rattle.capture.specs.files.Captures.{AreFilesPast, unsaid, texts_held}
 use Rattle.capture.specs.files.Giving.{input_fault}
 use Rattle.capture.specs.files.FilesRead.{said_by, IsAlone, AddsFile, IsFileFault}
+use Rattle.capture.proofs.Prefixes.{raw-reading}
 
 -- ---- what a file of trace-cmd holds
 
@@ -30,34 +33,34 @@ formatted-ok : (reading : Reading Contents) (contents : Contents) → formatted 
 formatted-ok (Ok x) contents e = cc
 formatted-ok (Err f) contents e = absurd cc
 
-pub parts-of-dat : (page : ℕ) (file : File) (contents : Contents) (own : List ModelPart) → is_dat file.bytes ≡ true
-    → formatted (reading_of file.bytes) ≡ Ok contents → parts_in (length file.bytes) contents ≡ Ok own
-    → parts_of page file ≡ Ok own
-parts-of-dat page file contents own dat reads parts =
-    ap (λ (b : Bool). if b then (formatted (reading_of file.bytes) >>= parts_in (length file.bytes))
+pub parts-of-dat : (page : ℕ) (name : List ℕ) (file : File) (contents : Contents) (own : List ModelPart)
+    → is_dat name file.bytes ≡ true
+    → formatted (reading_of file.bytes) ≡ Ok contents → parts_in name (length file.bytes) contents ≡ Ok own
+    → parts_of page name file ≡ Ok own
+parts-of-dat page name file contents own dat reads parts =
+    ap (λ (b : Bool). if b then (formatted (reading_of file.bytes) >>= parts_in name (length file.bytes))
     else Ok (record { cpu = file.cpu; size = page; bytes = file.bytes } ∷ [])) dat
-    ∙ ap (λ (r : Checked Contents). r >>= parts_in (length file.bytes)) reads ∙ parts
+    ∙ ap (λ (r : Checked Contents). r >>= parts_in name (length file.bytes)) reads ∙ parts
 
 pub held-dat : {A : Type 0} (of : Contents → A) (otherwise : A) (file : File) (contents : Contents)
-    → is_dat file.bytes ≡ true
     → formatted (reading_of file.bytes) ≡ Ok contents → held_by of otherwise file ≡ of contents
-held-dat {A = A} of otherwise file contents dat reads =
-    ap (λ (b : Bool). if b then held of otherwise (reading_of file.bytes) else otherwise) dat
-    ∙ ap (λ (r : Reading Contents). held of otherwise r) (formatted-ok (reading_of file.bytes) contents reads)
+held-dat {A = A} of otherwise file contents reads =
+    ap (λ (r : Reading Contents). held of otherwise r) (formatted-ok (reading_of file.bytes) contents reads)
 
 -- ---- one file more
 
-parts-more : (page : ℕ) (files : List File) (parts : List ModelPart) (file : File) (own : List ModelPart)
-    → ArePartsOf page files parts
-    → parts_of page file ≡ Ok own → ArePartsOf page (files ++ file ∷ []) (parts ++ own)
-parts-more page [] parts file own none is =
+parts-more : (page : ℕ) (name : List ℕ) (files : List File) (parts : List ModelPart) (file : File)
+    (own : List ModelPart)
+    → ArePartsOf page name files parts
+    → parts_of page name file ≡ Ok own → ArePartsOf page name (files ++ file ∷ []) (parts ++ own)
+parts-more page name [] parts file own none is =
     (own, [], subst (λ (ps : List ModelPart). ps ++ own ≡ own ++ []) (sym none) (sym (append-nil own)), is, refl)
-parts-more page (first ∷ files) parts file own (front, others, joined, here, rest) is = (
+parts-more page name (first ∷ files) parts file own (front, others, joined, here, rest) is = (
   front,
   others ++ own,
   ap (λ (ps : List ModelPart). ps ++ own) joined ∙ append_assoc front others own,
   here,
-  parts-more page files others file own rest is,
+  parts-more page name files others file own rest is,
 )
 
 formats-more : (files : List File) (file : File)
@@ -67,10 +70,27 @@ formats-more (first ∷ files) file =
     ap (λ (fs : List EventFormat). formats_of first ++ fs) (formats-more files file)
     ∙ sym (append_assoc (formats_of first) (all_formats files) (formats_of file))
 
-instances-more : (files : List File) (file : File)
-    → all_instances (files ++ file ∷ []) ≡ all_instances files + instances_of file
-instances-more [] file = omega arith
-instances-more (first ∷ files) file = omega (arith, instances-more files file)
+others-more : (name : List ℕ) (files : List File) (file : File)
+    → all_others name (files ++ file ∷ []) ≡ all_others name files ++ others_of name file
+others-more name [] file = append-nil (others_of name file)
+others-more name (first ∷ files) file =
+    ap (λ (ns : List (List ℕ)). others_of name first ++ ns) (others-more name files file)
+    ∙ sym (append_assoc (others_of name first) (all_others name files) (others_of name file))
+
+or-more : (a b c : Bool) → (a || (b || c)) ≡ ((a || b) || c)
+or-more true b c = refl
+or-more false b c = refl
+
+or-none : (a : Bool) → (a || false) ≡ a
+or-none true = refl
+or-none false = refl
+
+found-more : (name : List ℕ) (files : List File) (file : File)
+    → is_in_any name (files ++ file ∷ []) ≡ (is_in_any name files || has_listed name file)
+found-more name [] file = or-none (has_listed name file)
+found-more name (first ∷ files) file =
+    ap (λ (b : Bool). has_listed name first || b) (found-more name files file)
+    ∙ or-more (has_listed name first) (is_in_any name files) (has_listed name file)
 
 -- nothing is said of what was overwritten
 pub as-captured : (parts : List ModelPart) (cpus : List CpuCapture) → AreCpusRead unknown parts cpus
@@ -107,85 +127,103 @@ as-read parts cpus captured = record {
       };
 }
 
-no-files : (page : ℕ) (files : List File) (parts : List ModelPart) → files ≡ [] → ArePartsOf page files parts
+no-files : (page : ℕ) (name : List ℕ) (files : List File) (parts : List ModelPart) → files ≡ []
+    → ArePartsOf page name files parts
     → parts ≡ []
-no-files page [] parts none are = are
-no-files page (file ∷ files) parts none are = absurd cc
+no-files page name [] parts none are = are
+no-files page name (file ∷ files) parts none are = absurd cc
 
 -- what is read of all CPUs, with one file more
-cpus-said : (losses : Losses) (page : ℕ) (files : List File) (parts : List ModelPart) (file : File)
+cpus-said : (losses : Losses) (page : ℕ) (name : List ℕ) (files : List File) (parts : List ModelPart) (file : File)
     (own : List ModelPart) (mid new : List CpuCapture)
-    → IsAlone losses files → ArePartsOf page files parts → AreCpusRead unknown (parts ++ own) mid
+    → IsAlone losses files → ArePartsOf page name files parts → AreCpusRead unknown (parts ++ own) mid
     → (losses ≡ Kept → new ≡ mid)
-    → (losses ≡ Settled → AreCpusCaptured (λ cpu. overrun_of cpu (counters_of file)) own new)
-    → AreCpusCaptured (said_by losses file) (parts ++ own) new
-cpus-said Kept page files parts file own mid new alone are read kept settled =
+    → (losses ≡ Settled → AreCpusCaptured (λ cpu. overrun_of cpu (counters_of name file)) own new)
+    → AreCpusCaptured (said_by losses name file) (parts ++ own) new
+cpus-said Kept page name files parts file own mid new alone are read kept settled =
     subst (AreCpusCaptured unsaid (parts ++ own)) (sym (kept refl)) (as-captured (parts ++ own) mid read)
-cpus-said Settled page files parts file own mid new alone are read kept settled =
-    subst (λ (ps : List ModelPart). AreCpusCaptured (said_by Settled file) (ps ++ own) new)
-    (sym (no-files page files parts alone are)) (settled refl)
+cpus-said Settled page name files parts file own mid new alone are read kept settled =
+    subst (λ (ps : List ModelPart). AreCpusCaptured (said_by Settled name file) (ps ++ own) new)
+    (sym (no-files page name files parts alone are)) (settled refl)
 
-min-more : (a b n limit : ℕ) → n ≡ min a limit → min (n + b) limit ≡ min (a + b) limit
-min-more a b n limit is = omega (arith, is)
+-- a count that fits is the one that stops at the limit
+stopped : (a n : ℕ) → n ≡ a → n < 2 ^ 63 → n ≡ min a (2 ^ 64 - 1)
+stopped a n is fits = omega (arith, is, fits)
 
-pub file-added : (losses : Losses) (page : ℕ) (files : List File) (file : File) (own : List ModelPart)
+pub file-added : (losses : Losses) (page : ℕ) (name : List ℕ) (files : List File) (file : File) (own : List ModelPart)
     (old new : Captured) (mid : List CpuCapture)
-    → IsAlone losses files → (was : AreFilesRead unsaid page files old) → parts_of page file ≡ Ok own
+    → IsAlone losses files → (was : AreFilesRead unsaid page name files old) → parts_of page name file ≡ Ok own
     → AreCpusRead unknown (was.parts ++ own) mid
     → (losses ≡ Kept → new.cpus.items ≡ mid)
-    → (losses ≡ Settled → AreCpusCaptured (λ cpu. overrun_of cpu (counters_of file)) own new.cpus.items)
+    → (losses ≡ Settled → AreCpusCaptured (λ cpu. overrun_of cpu (counters_of name file)) own new.cpus.items)
     → HasEvents new.names (all_formats files ++ formats_of file)
-    → new.instances ≡ min (old.instances + instances_of file) (2 ^ 64 - 1)
-    → AddsFile losses page files file new
-file-added losses page files file own old new mid alone was is read kept settled names instances = record {
-  parts = was.parts ++ own;
-  parts_are = parts-more page files was.parts file own was.parts_are is;
-  cpus_are = cpus-said losses page files was.parts file own mid new.cpus.items alone was.parts_are read kept settled;
-  names_are = subst (HasEvents new.names) (sym (formats-more files file)) names;
-  instances_are =
-      instances ∙ min-more (all_instances files) (instances_of file) old.instances (2 ^ 64 - 1) was.instances_are
-      ∙ ap (λ (n : ℕ). min n (2 ^ 64 - 1)) (sym (instances-more files file));
-}
+    → texts_held new.others.items ≡ texts_held old.others.items ++ others_of name file
+    → new.instances ≡ length new.others.items → new.instances < 2 ^ 63
+    → new.found ≡ (old.found || has_listed name file)
+    → AddsFile losses page name files file new
+file-added losses page name files file own old new mid alone was is read kept settled names others instances fits
+    found =
+    let all : texts_held new.others.items ≡ all_others name (files ++ file ∷ []) =
+    others ∙ ap (λ (ns : List (List ℕ)). ns ++ others_of name file) was.others_are
+    ∙ sym (others-more name files file) in
+    record {
+      parts = was.parts ++ own;
+      parts_are = parts-more page name files was.parts file own was.parts_are is;
+      cpus_are = cpus-said losses page name files was.parts file own mid new.cpus.items alone was.parts_are read kept
+          settled;
+      names_are = subst (HasEvents new.names) (sym (formats-more files file)) names;
+      instances_are =
+          stopped (all_instances name (files ++ file ∷ [])) new.instances
+          (instances ∙ sym (length-map new.others.items (λ (v : Vec ℕ Global). v.items))
+          ∙ ap (length {A = List ℕ}) all) fits;
+      others_are = all;
+      found_is =
+          found ∙ ap (λ (b : Bool). b || has_listed name file) was.found_is ∙ sym (found-more name files file);
+    }
 
 -- ---- faults
 
 -- numbers don't fit while nothing is known of losses
-pub added-fault : (losses : Losses) (page : ℕ) (files : List File) (file : File) (own : List ModelPart) (old : Captured)
-    (was : AreFilesRead unsaid page files old)
-    (fault : CaptureFault) → parts_of page file ≡ Ok own
+pub added-fault : (losses : Losses) (page : ℕ) (name : List ℕ) (files : List File) (file : File)
+    (own : List ModelPart) (old : Captured)
+    (was : AreFilesRead unsaid page name files old)
+    (fault : CaptureFault) → parts_of page name file ≡ Ok own
     → (fault ≡ captures.Numbers → (cpu : ℕ) × IsCpuPast unknown cpu (was.parts ++ own))
-    → IsFileFault losses page files file (input_fault fault)
-added-fault losses page files file own old was captures.NoMemory is past = tt
-added-fault losses page files file own old was captures.Numbers is past = record {
+    → IsFileFault losses page name files file (input_fault fault)
+added-fault losses page name files file own old was captures.NoMemory is past = tt
+added-fault losses page name files file own old was captures.Numbers is past = record {
   parts = was.parts ++ own;
-  parts_are = parts-more page files was.parts file own was.parts_are is;
+  parts_are = parts-more page name files was.parts file own was.parts_are is;
   cpu = (past refl).0;
   past = (unknown, inl refl, (past refl).1);
 }
 
 -- or once losses are settled
-pub settled-fault : (losses : Losses) (page : ℕ) (files : List File) (file : File) (own : List ModelPart)
-    (old : Captured) (was : AreFilesRead unsaid page files old)
-    (fault : CaptureFault) → IsAlone losses files → parts_of page file ≡ Ok own → losses ≢ Kept
-    → (losses ≡ Settled → fault ≡ captures.Numbers → (cpu : ℕ) × IsOwnPast (overrun_of cpu (counters_of file)) cpu own)
-    → IsFileFault losses page files file (input_fault fault)
-settled-fault losses page files file own old was captures.NoMemory alone is not past = tt
-settled-fault Kept page files file own old was captures.Numbers alone is not past = absurd (not refl)
-settled-fault Settled page files file own old was captures.Numbers alone is not past = record {
+pub settled-fault : (losses : Losses) (page : ℕ) (name : List ℕ) (files : List File) (file : File)
+    (own : List ModelPart)
+    (old : Captured) (was : AreFilesRead unsaid page name files old)
+    (fault : CaptureFault) → IsAlone losses files → parts_of page name file ≡ Ok own → losses ≢ Kept
+    → (losses ≡ Settled → fault ≡ captures.Numbers → (cpu : ℕ)
+    × IsOwnPast (overrun_of cpu (counters_of name file)) cpu own)
+    → IsFileFault losses page name files file (input_fault fault)
+settled-fault losses page name files file own old was captures.NoMemory alone is not past = tt
+settled-fault Kept page name files file own old was captures.Numbers alone is not past = absurd (not refl)
+settled-fault Settled page name files file own old was captures.Numbers alone is not past = record {
   parts = was.parts ++ own;
-  parts_are = parts-more page files was.parts file own was.parts_are is;
+  parts_are = parts-more page name files was.parts file own was.parts_are is;
   cpu = (past refl refl).0;
   past =
       subst (λ (ps : List ModelPart).
-      IsOwnPast (overrun_of (past refl refl).0 (counters_of file)) (past refl refl).0 (ps ++ own))
-      (sym (no-files page files was.parts alone was.parts_are)) (past refl refl).1;
+      IsOwnPast (overrun_of (past refl refl).0 (counters_of name file)) (past refl refl).0 (ps ++ own))
+      (sym (no-files page name files was.parts alone was.parts_are)) (past refl refl).1;
 }
 
-pub alone-parts : (losses : Losses) (page : ℕ) (files : List File) (parts : List ModelPart) → losses ≡ Settled
+pub alone-parts : (losses : Losses) (page : ℕ) (name : List ℕ) (files : List File) (parts : List ModelPart)
+    → losses ≡ Settled
     → IsAlone losses files
-    → ArePartsOf page files parts → parts ≡ []
-alone-parts Kept page files parts e alone are = absurd cc
-alone-parts Settled page files parts e alone are = no-files page files parts alone are
+    → ArePartsOf page name files parts → parts ≡ []
+alone-parts Kept page name files parts e alone are = absurd cc
+alone-parts Settled page name files parts e alone are = no-files page name files parts alone are
 
 pub ok-not-err : {A E : Type 0} (result : Result A E) (e : E) → IsOk result → result ≡ Err e → ⊥
 ok-not-err (Ok x) e ok is = cc
@@ -193,56 +231,65 @@ ok-not-err (Err f) e ok is = cc
 
 -- ---- a raw file
 
-parts-of-raw : (page : ℕ) (file : File) → is_dat file.bytes ≡ false
-    → parts_of page file ≡ Ok (record { cpu = file.cpu; size = page; bytes = file.bytes } ∷ [])
-parts-of-raw page file raw =
-    ap (λ (b : Bool). if b then (formatted (reading_of file.bytes) >>= parts_in (length file.bytes))
+parts-of-raw : (page : ℕ) (name : List ℕ) (file : File) → is_dat name file.bytes ≡ false
+    → parts_of page name file ≡ Ok (record { cpu = file.cpu; size = page; bytes = file.bytes } ∷ [])
+parts-of-raw page name file raw =
+    ap (λ (b : Bool). if b then (formatted (reading_of file.bytes) >>= parts_in name (length file.bytes))
     else Ok (record { cpu = file.cpu; size = page; bytes = file.bytes } ∷ [])) raw
 
-held-raw : {A : Type 0} (of : Contents → A) (otherwise : A) (file : File) → is_dat file.bytes ≡ false
-    → held_by of otherwise file ≡ otherwise
-held-raw of otherwise file raw =
-    ap (λ (b : Bool). if b then held of otherwise (reading_of file.bytes) else otherwise) raw
+held-raw : {A : Type 0} (of : Contents → A) (otherwise : A) (name : List ℕ) (file : File)
+    → is_dat name file.bytes ≡ false → held_by of otherwise file ≡ otherwise
+held-raw of otherwise name file raw = ap (λ (r : Reading Contents). held of otherwise r)
+    (raw-reading name file.bytes raw)
 
-raw-said : (losses : Losses) (file : File) (parts : List ModelPart) (cpus : List CpuCapture) → is_dat file.bytes ≡ false
-    → AreCpusRead unknown parts cpus
-    → AreCpusCaptured (said_by losses file) parts cpus
-raw-said Kept file parts cpus raw read = as-captured parts cpus read
-raw-said Settled file parts cpus raw read =
+raw-said : (losses : Losses) (name : List ℕ) (file : File) (parts : List ModelPart) (cpus : List CpuCapture)
+    → is_dat name file.bytes ≡ false → AreCpusRead unknown parts cpus
+    → AreCpusCaptured (said_by losses name file) parts cpus
+raw-said Kept name file parts cpus raw read = as-captured parts cpus read
+raw-said Settled name file parts cpus raw read =
     subst (λ (ts : List (List ℕ)). AreCpusCaptured (λ cpu. overrun_of cpu ts) parts cpus)
-    (sym (held-raw (λ (contents : Contents). contents.counters) [] file raw))
+    (sym (held-raw (λ (contents : Contents). texts_of name contents.counters) [] name file raw))
     (as-captured parts cpus read)
 
-pub raw-added : (losses : Losses) (page : ℕ) (files : List File) (file : File) (old new : Captured)
-    (was : AreFilesRead unsaid page files old)
-    → is_dat file.bytes ≡ false
+pub raw-added : (losses : Losses) (page : ℕ) (name : List ℕ) (files : List File) (file : File) (old new : Captured)
+    (was : AreFilesRead unsaid page name files old)
+    → is_dat name file.bytes ≡ false
     → AreCpusRead unknown (was.parts ++ record { cpu = file.cpu; size = page; bytes = file.bytes } ∷ []) new.cpus.items
-    → new.names ≡ old.names → new.instances ≡ old.instances → AddsFile losses page files file new
-raw-added losses page files file old new was raw read names instances = record {
-  parts = was.parts ++ record { cpu = file.cpu; size = page; bytes = file.bytes } ∷ [];
-  parts_are = parts-more page files was.parts file _ was.parts_are (parts-of-raw page file raw);
-  cpus_are = raw-said losses file _ new.cpus.items raw read;
-  names_are = subst (λ (n : EventNames). HasEvents n (all_formats (files ++ file ∷ []))) (sym names)
-      (subst (HasEvents old.names) (sym (formats-more files file
-      ∙ ap (λ (fs : List EventFormat). all_formats files ++ fs)
-      (held-raw (λ (contents : Contents). contents.formats) [] file raw)
-      ∙ append-nil (all_formats files))) was.names_are);
-  instances_are = instances ∙ was.instances_are
-      ∙ ap (λ (n : ℕ). min n (2 ^ 64 - 1))
-      (let none = held-raw (λ (contents : Contents). count_instances contents.buffers) 0 file raw in
-      let same : all_instances files ≡ all_instances (files ++ file ∷ []) =
-      omega (arith, none, instances-more files file) in
-      same);
-}
+    → new.names ≡ old.names → new.instances ≡ old.instances → new.others ≡ old.others → new.found ≡ old.found
+    → AddsFile losses page name files file new
+raw-added losses page name files file old new was raw read names instances others found =
+    let none : others_of name file ≡ [] =
+    held-raw (λ (contents : Contents). names_of_others name contents.buffers) [] name file raw in
+    let lacks : has_listed name file ≡ false =
+    held-raw (λ (contents : Contents). has_named name contents.buffers) false name file raw in
+    let all : all_others name files ≡ all_others name (files ++ file ∷ []) =
+    sym (others-more name files file
+    ∙ ap (λ (ns : List (List ℕ)). all_others name files ++ ns) none ∙ append-nil (all_others name files)) in
+    record {
+      parts = was.parts ++ record { cpu = file.cpu; size = page; bytes = file.bytes } ∷ [];
+      parts_are = parts-more page name files was.parts file _ was.parts_are (parts-of-raw page name file raw);
+      cpus_are = raw-said losses name file _ new.cpus.items raw read;
+      names_are = subst (λ (n : EventNames). HasEvents n (all_formats (files ++ file ∷ []))) (sym names)
+          (subst (HasEvents old.names) (sym (formats-more files file
+          ∙ ap (λ (fs : List EventFormat). all_formats files ++ fs)
+          (held-raw (λ (contents : Contents). contents.formats) [] name file raw)
+          ∙ append-nil (all_formats files))) was.names_are);
+      instances_are =
+          instances ∙ was.instances_are ∙ ap (λ (ns : List (List ℕ)). min (length ns) (2 ^ 64 - 1)) all;
+      others_are = ap (λ (v : Vec (Vec ℕ Global) Global). texts_held v.items) others ∙ was.others_are ∙ all;
+      found_is = found ∙ was.found_is
+          ∙ sym (found-more name files file ∙ ap (λ (b : Bool). is_in_any name files || b) lacks
+          ∙ or-none (is_in_any name files));
+    }
 
-pub raw-past : (losses : Losses) (page : ℕ) (files : List File) (file : File) (old : Captured)
-    (was : AreFilesRead unsaid page files old)
-    → is_dat file.bytes ≡ false
+pub raw-past : (losses : Losses) (page : ℕ) (name : List ℕ) (files : List File) (file : File) (old : Captured)
+    (was : AreFilesRead unsaid page name files old)
+    → is_dat name file.bytes ≡ false
     → IsCpuPast unknown file.cpu (was.parts ++ record { cpu = file.cpu; size = page; bytes = file.bytes } ∷ [])
-    → AreFilesPast (said_by losses file) page (files ++ file ∷ [])
-raw-past losses page files file old was raw past = record {
+    → AreFilesPast (said_by losses name file) page name (files ++ file ∷ [])
+raw-past losses page name files file old was raw past = record {
   parts = was.parts ++ record { cpu = file.cpu; size = page; bytes = file.bytes } ∷ [];
-  parts_are = parts-more page files was.parts file _ was.parts_are (parts-of-raw page file raw);
+  parts_are = parts-more page name files was.parts file _ was.parts_are (parts-of-raw page name file raw);
   cpu = file.cpu;
   past = (unknown, inl refl, past);
 }

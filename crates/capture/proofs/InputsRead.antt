@@ -19,47 +19,51 @@ use Rattle.capture.specs.files.FilesRead.{said_by, IsAlone, AddsFile, AddsRestOf
 use Rattle.capture.specs.files.Inputs.{IsReadOf, AreRead, IsWhy, IsUnread}
 
 -- what is read of files so far: the counters of the only one are used
-abbrev pub AreSoFar : Losses → (page : ℕ) → List File → Captured → Type 0
-AreSoFar Kept page files captured = AreFilesRead unsaid page files captured
-AreSoFar Settled page [] captured = AreFilesRead unsaid page [] captured
-AreSoFar Settled page (file ∷ []) captured = AreFilesRead (overrun_in (file ∷ [])) page (file ∷ []) captured
-AreSoFar Settled page (file ∷ other ∷ files) captured = ⊥
+abbrev pub AreSoFar : Losses → (page : ℕ) → (name : List ℕ) → List File → Captured → Type 0
+AreSoFar Kept page name files captured = AreFilesRead unsaid page name files captured
+AreSoFar Settled page name [] captured = AreFilesRead unsaid page name [] captured
+AreSoFar Settled page name (file ∷ []) captured =
+    AreFilesRead (overrun_in name (file ∷ [])) page name (file ∷ []) captured
+AreSoFar Settled page name (file ∷ other ∷ files) captured = ⊥
 
 -- the losses are settled if there is one input alone
 abbrev pub IsChosen : Losses → (count : ℕ) → Type 0
 IsChosen Kept count = count ≢ 1
 IsChosen Settled count = count ≡ 1
 
-pub none-read : (losses : Losses) (page : ℕ) (captured : Captured) → AreFilesRead unsaid page [] captured
-    → AreSoFar losses page [] captured
-none-read Kept page captured read = read
-none-read Settled page captured read = read
+pub none-read : (losses : Losses) (page : ℕ) (name : List ℕ) (captured : Captured)
+    → AreFilesRead unsaid page name [] captured
+    → AreSoFar losses page name [] captured
+none-read Kept page name captured read = read
+none-read Settled page name captured read = read
 
 -- before the last file nothing is said yet
-pub still-unsaid : (losses : Losses) (count page : ℕ) (files : List File) (captured : Captured) → IsChosen losses count
+pub still-unsaid : (losses : Losses) (count page : ℕ) (name : List ℕ) (files : List File) (captured : Captured)
+    → IsChosen losses count
     → length files < count
-    → AreSoFar losses page files captured → IsAlone losses files × AreFilesRead unsaid page files captured
-still-unsaid Kept count page files captured chosen below read = (tt, read)
-still-unsaid Settled count page [] captured chosen below read = (refl, read)
-still-unsaid Settled count page (file ∷ files) captured chosen below read = absurd (omega (arith, chosen, below))
+    → AreSoFar losses page name files captured → IsAlone losses files × AreFilesRead unsaid page name files captured
+still-unsaid Kept count page name files captured chosen below read = (tt, read)
+still-unsaid Settled count page name [] captured chosen below read = (refl, read)
+still-unsaid Settled count page name (file ∷ files) captured chosen below read = absurd (omega (arith, chosen, below))
 
-pub one-more : (losses : Losses) (page : ℕ) (files : List File) (file : File) (captured : Captured)
+pub one-more : (losses : Losses) (page : ℕ) (name : List ℕ) (files : List File) (file : File) (captured : Captured)
     → IsAlone losses files
-    → AddsFile losses page files file captured → AreSoFar losses page (files ++ file ∷ []) captured
-one-more Kept page files file captured alone added = added
-one-more Settled page [] file captured alone added = added
-one-more Settled page (first ∷ files) file captured alone added = absurd cc
+    → AddsFile losses page name files file captured → AreSoFar losses page name (files ++ file ∷ []) captured
+one-more Kept page name files file captured alone added = added
+one-more Settled page name [] file captured alone added = added
+one-more Settled page name (first ∷ files) file captured alone added = absurd cc
 
 -- and then all files are read
-pub all-read : (losses : Losses) (count page : ℕ) (files : List File) (captured : Captured) → IsChosen losses count
+pub all-read : (losses : Losses) (count page : ℕ) (name : List ℕ) (files : List File) (captured : Captured)
+    → IsChosen losses count
     → length files ≡ count
-    → AreSoFar losses page files captured → AreCaptured page files captured
-all-read Kept count page [] captured chosen is read = read
-all-read Kept count page (file ∷ []) captured chosen is read = absurd (chosen (sym is))
-all-read Kept count page (file ∷ other ∷ files) captured chosen is read = read
-all-read Settled count page [] captured chosen is read = absurd (omega (arith, is, chosen))
-all-read Settled count page (file ∷ []) captured chosen is read = read
-all-read Settled count page (file ∷ other ∷ files) captured chosen is read = absurd read
+    → AreSoFar losses page name files captured → AreCaptured page name files captured
+all-read Kept count page name [] captured chosen is read = read
+all-read Kept count page name (file ∷ []) captured chosen is read = absurd (chosen (sym is))
+all-read Kept count page name (file ∷ other ∷ files) captured chosen is read = read
+all-read Settled count page name [] captured chosen is read = absurd (omega (arith, is, chosen))
+all-read Settled count page name (file ∷ []) captured chosen is read = read
+all-read Settled count page name (file ∷ other ∷ files) captured chosen is read = absurd read
 
 -- ---- why one wasn't read
 
@@ -67,39 +71,42 @@ known-none : (overrun : Option ℕ) (parts : List ModelPart) (known : Missed) �
     → IsKnown overrun parts known
 known-none overrun parts known is = ⊎_elim (λ none. inl none) (λ found. inl found.2) is
 
-past-said : (losses : Losses) (page : ℕ) (files : List File) (file : File) → IsAlone losses files
-    → AreFilesPast (said_by losses file) page (files ++ file ∷ []) → ArePast page (files ++ file ∷ [])
-past-said Kept page files file alone past = record {
+past-said : (losses : Losses) (page : ℕ) (name : List ℕ) (files : List File) (file : File) → IsAlone losses files
+    → AreFilesPast (said_by losses name file) page name (files ++ file ∷ []) → ArePast page name (files ++ file ∷ [])
+past-said Kept page name files file alone past = record {
   parts = past.parts;
   parts_are = past.parts_are;
   cpu = past.cpu;
   past = (
     past.past.0,
-    known-none (overrun_in (files ++ file ∷ []) past.cpu) (parts_of_cpu past.cpu past.parts) past.past.0 past.past.1,
+    known-none (overrun_in name (files ++ file ∷ []) past.cpu)
+        (parts_of_cpu past.cpu past.parts) past.past.0 past.past.1,
     past.past.2,
   );
 }
-past-said Settled page [] file alone past = past
-past-said Settled page (first ∷ files) file alone past = absurd cc
+past-said Settled page name [] file alone past = past
+past-said Settled page name (first ∷ files) file alone past = absurd cc
 
 module _ {R : Type 0} (remaining : R → Option (List ℕ)) (failed : R → Bool) where
-  pub why-unread : (losses : Losses) (page : ℕ) (files : List File) (old new : Input R) → IsAlone losses files
+  pub why-unread : (losses : Losses) (page : ℕ) (name : List ℕ) (files : List File) (old new : Input R)
+      → IsAlone losses files
       → (fault : InputFault)
-      → IsRestFault losses page old.cpu.0 [] (remaining old.reader) (remaining new.reader) (failed new.reader) files
+      → IsRestFault losses page name old.cpu.0 [] (remaining old.reader) (remaining new.reader)
+      (failed new.reader) files
       fault
-      → IsWhy remaining failed page files old new fault
-  why-unread losses page files old new alone faults.Read why = why
-  why-unread losses page files old new alone (faults.File fault) (sound, end, (more, taken, is)) =
+      → IsWhy remaining failed page name files old new fault
+  why-unread losses page name files old new alone faults.Read why = why
+  why-unread losses page name files old new alone (faults.File fault) (sound, end, (more, taken, is)) =
       (sound, end, (record { cpu = old.cpu.0; bytes = more }, record { cpu_is = refl; taken = taken }, is))
-  why-unread losses page files old new alone faults.Numbers (sound, (more, taken, past)) = (
+  why-unread losses page name files old new alone faults.Numbers (sound, (more, taken, past)) = (
     sound,
     (
       record { cpu = old.cpu.0; bytes = more },
       record { cpu_is = refl; taken = taken },
-      past-said losses page files (record { cpu = old.cpu.0; bytes = more }) alone past,
+      past-said losses page name files (record { cpu = old.cpu.0; bytes = more }) alone past,
     ),
   )
-  why-unread losses page files old new alone faults.NoMemory why = why
+  why-unread losses page name files old new alone faults.NoMemory why = why
 
   -- one input more was read
   read-more : (olds news : List (Input R)) (files : List File) (old new : Input R) (file : File)
@@ -125,7 +132,8 @@ module _ {R : Type 0} (remaining : R → Option (List ℕ)) (failed : R → Bool
       let more = lengths olds news files rest in (ap suc more.0, ap suc more.1)
 
   -- some inputs are read, and these are left
-  pub record ReadsTo (losses : Losses) (page : ℕ) (inputs now : List (Input R)) (at : ℕ) (captured : Captured) : Type 0
+  pub record ReadsTo (losses : Losses) (page : ℕ) (name : List ℕ) (inputs now : List (Input R)) (at : ℕ)
+      (captured : Captured) : Type 0
     where
       pub before : List (Input R)
       pub before_new : List (Input R)
@@ -135,12 +143,12 @@ module _ {R : Type 0} (remaining : R → Option (List ℕ)) (failed : R → Bool
       pub now_are : now ≡ before_new ++ after
       pub at_is : at ≡ length before
       pub are_read : AreRead remaining failed before before_new files
-      pub so_far : AreSoFar losses page files captured
+      pub so_far : AreSoFar losses page name files captured
 
-  pub reads-none : (losses : Losses) (page : ℕ) (inputs : List (Input R)) (captured : Captured)
-      → AreFilesRead unsaid page [] captured
-      → ReadsTo losses page inputs inputs 0 captured
-  reads-none losses page inputs captured read = record {
+  pub reads-none : (losses : Losses) (page : ℕ) (name : List ℕ) (inputs : List (Input R)) (captured : Captured)
+      → AreFilesRead unsaid page name [] captured
+      → ReadsTo losses page name inputs inputs 0 captured
+  reads-none losses page name inputs captured read = record {
     before = [];
     before_new = [];
     after = inputs;
@@ -149,7 +157,7 @@ module _ {R : Type 0} (remaining : R → Option (List ℕ)) (failed : R → Bool
     now_are = refl;
     at_is = refl;
     are_read = tt;
-    so_far = none-read losses page captured read;
+    so_far = none-read losses page name captured read;
   }
 
   get-at : (before after : List (Input R)) (at : ℕ) (d : Input R) → at ≡ length before → at < length (before ++ after)
@@ -176,8 +184,8 @@ module _ {R : Type 0} (remaining : R → Option (List ℕ)) (failed : R → Bool
   item-at (b ∷ before) rest x (suc at) d is = item-at before rest x at d (omega (arith, is))
 
   -- what is at the place is the next input, as it was first
-  module _ (losses : Losses) (page : ℕ) (inputs now : List (Input R)) (at : ℕ) (captured : Captured)
-      (was : ReadsTo losses page inputs now at captured)
+  module _ (losses : Losses) (page : ℕ) (name : List ℕ) (inputs now : List (Input R)) (at : ℕ) (captured : Captured)
+      (was : ReadsTo losses page name inputs now at captured)
       (d : Input R) (below : at < length now) where
     place : at ≡ length was.before_new
     place = was.at_is ∙ sym (lengths was.before was.before_new was.files was.are_read).0
@@ -216,14 +224,15 @@ module _ {R : Type 0} (remaining : R → Option (List ℕ)) (failed : R → Bool
         omega (arith, was.at_is, long, length-append was.before (get_or now at d ∷ next.0))
 
     pub is-unsaid : IsChosen losses (length inputs)
-        → IsAlone losses was.files × AreFilesRead unsaid page was.files captured
-    is-unsaid chosen = still-unsaid losses (length inputs) page was.files captured chosen count-below was.so_far
+        → IsAlone losses was.files × AreFilesRead unsaid page name was.files captured
+    is-unsaid chosen = still-unsaid losses (length inputs) page name was.files captured chosen count-below was.so_far
 
     pub reads-next : (new : Input R) (after : Captured) → IsChosen losses (length inputs)
-        → AddsRestOf losses page (get_or now at d).cpu.0 [] (remaining (get_or now at d).reader) (remaining new.reader)
+        → AddsRestOf losses page name (get_or now at d).cpu.0 [] (remaining (get_or now at d).reader)
+        (remaining new.reader)
         was.files after
         → IsAtEnd (remaining new.reader) → failed new.reader ≡ false
-        → ReadsTo losses page inputs (set now at new) (at + 1) after
+        → ReadsTo losses page name inputs (set now at new) (at + 1) after
     reads-next new after chosen adds end sound =
         let file : File = record { cpu = (get_or now at d).cpu.0; bytes = adds.more } in
         record {
@@ -237,13 +246,14 @@ module _ {R : Type 0} (remaining : R → Option (List ℕ)) (failed : R → Bool
           are_read =
               read-more was.before was.before_new was.files (get_or now at d) new file was.are_read
               (record { cpu_is = refl; taken = adds.taken }) end sound;
-          so_far = one-more losses page was.files file after (is-unsaid chosen).0 adds.added;
+          so_far = one-more losses page name was.files file after (is-unsaid chosen).0 adds.added;
         }
 
     pub reads-unread : (new : Input R) (fault : InputFault) → IsChosen losses (length inputs)
-        → IsRestFault losses page (get_or now at d).cpu.0 [] (remaining (get_or now at d).reader) (remaining new.reader)
+        → IsRestFault losses page name (get_or now at d).cpu.0 [] (remaining (get_or now at d).reader)
+        (remaining new.reader)
         (failed new.reader) was.files fault
-        → IsUnread remaining failed page inputs (set now at new) at fault
+        → IsUnread remaining failed page name inputs (set now at new) at fault
     reads-unread new fault chosen why = record {
       before = was.before;
       before_new = was.before_new;
@@ -255,14 +265,15 @@ module _ {R : Type 0} (remaining : R → Option (List ℕ)) (failed : R → Bool
       index_is = was.at_is;
       files = was.files;
       are_read = was.are_read;
-      why = why-unread losses page was.files (get_or now at d) new (is-unsaid chosen).0 fault why;
+      why = why-unread losses page name was.files (get_or now at d) new (is-unsaid chosen).0 fault why;
     }
 
-  pub reads-all : (losses : Losses) (page : ℕ) (inputs now : List (Input R)) (at : ℕ) (captured : Captured)
+  pub reads-all : (losses : Losses) (page : ℕ) (name : List ℕ) (inputs now : List (Input R)) (at : ℕ)
+      (captured : Captured)
       → IsChosen losses (length inputs)
-      → length inputs ≤ at → ReadsTo losses page inputs now at captured
-      → (files : List File) × AreRead remaining failed inputs now files × AreCaptured page files captured
-  reads-all losses page inputs now at captured chosen past was =
+      → length inputs ≤ at → ReadsTo losses page name inputs now at captured
+      → (files : List File) × AreRead remaining failed inputs now files × AreCaptured page name files captured
+  reads-all losses page name inputs now at captured chosen past was =
       let count = ap (length {A = Input R}) was.inputs_are in
       let none : was.after ≡ [] =
       nil_from_length was.after (omega (arith, count, past, was.at_is, length-append was.before was.after)) in
@@ -275,15 +286,16 @@ module _ {R : Type 0} (remaining : R → Option (List ℕ)) (failed : R → Bool
         subst (λ (is : List (Input R)). AreRead remaining failed is now was.files) (sym all)
             (subst (λ (is : List (Input R)). AreRead remaining failed was.before is was.files) (sym all_new)
             was.are_read),
-        all-read losses (length inputs) page was.files captured chosen (files_are ∙ ap (length {A = Input R}) (sym all))
+        all-read losses (length inputs) page name was.files captured chosen (files_are
+            ∙ ap (length {A = Input R}) (sym all))
             was.so_far,
       )
 
-  pub first-unread : (page : ℕ) (inputs : List (Input R)) → 0 < length inputs
+  pub first-unread : (page : ℕ) (name : List ℕ) (inputs : List (Input R)) → 0 < length inputs
       → All (λ input. failed input.reader ≡ false) inputs
-      → IsUnread remaining failed page inputs inputs 0 faults.NoMemory
-  first-unread page [] some sound = absurd (omega (arith, some))
-  first-unread page (input ∷ inputs) some sound = record {
+      → IsUnread remaining failed page name inputs inputs 0 faults.NoMemory
+  first-unread page name [] some sound = absurd (omega (arith, some))
+  first-unread page name (input ∷ inputs) some sound = record {
     before = [];
     before_new = [];
     this = input;

@@ -25,85 +25,98 @@ if_err (Ok x) f p = p
 if_err (Err e) f p = f e p
 
 -- all its bytes were read
-pub read-rest-fault : (losses : Losses) (page cpu : ℕ) (first more bytes : List ℕ) (unread left : Option (List ℕ))
+pub read-rest-fault : (losses : Losses) (page : ℕ) (name : List ℕ) (cpu : ℕ) (first more bytes : List ℕ)
+    (unread left : Option (List ℕ))
     (failed : Bool) (files : List File)
     → bytes ≡ first ++ more → failed ≡ false → IsAtEnd left → Consumes unread left more
-    → (fault : InputFault) → IsFileFault losses page files (record { cpu = cpu; bytes = bytes }) fault
-    → IsRestFault losses page cpu first unread left failed files fault
-read-rest-fault losses page cpu first more bytes unread left failed files is sound end taken faults.Read why =
+    → (fault : InputFault) → IsFileFault losses page name files (record { cpu = cpu; bytes = bytes }) fault
+    → IsRestFault losses page name cpu first unread left failed files fault
+read-rest-fault losses page name cpu first more bytes unread left failed files is sound end taken faults.Read why =
     absurd why
-read-rest-fault losses page cpu first more bytes unread left failed files is sound end taken (faults.File fault) why = (
+read-rest-fault losses page name cpu first more bytes unread left failed files is sound end taken
+    (faults.File fault) why = (
+      sound,
+      end,
+      (
+        more,
+        taken,
+        subst (λ (bs : List ℕ). IsFileFault losses page name files (record { cpu = cpu; bytes = bs })
+            (faults.File fault)) is
+            why,
+      ),
+    )
+read-rest-fault losses page name cpu first more bytes unread left failed files is sound end taken faults.Numbers why = (
   sound,
-  end,
   (
     more,
     taken,
-    subst (λ (bs : List ℕ). IsFileFault losses page files (record { cpu = cpu; bytes = bs }) (faults.File fault)) is
-        why,
+    subst (λ (bs : List ℕ). IsFileFault losses page name files
+        (record { cpu = cpu; bytes = bs }) faults.Numbers) is why,
   ),
 )
-read-rest-fault losses page cpu first more bytes unread left failed files is sound end taken faults.Numbers why = (
-  sound,
-  (
-    more,
-    taken,
-    subst (λ (bs : List ℕ). IsFileFault losses page files (record { cpu = cpu; bytes = bs }) faults.Numbers) is why,
-  ),
-)
-read-rest-fault losses page cpu first more bytes unread left failed files is sound end taken faults.NoMemory why = sound
+read-rest-fault losses page name cpu first more bytes unread left failed files is sound end taken faults.NoMemory why
+    = sound
 
 -- what had been read already was read before
-pub fault-before : (losses : Losses) (page cpu : ℕ) (first : List ℕ) (start unread left : Option (List ℕ))
+pub fault-before : (losses : Losses) (page : ℕ) (name : List ℕ) (cpu : ℕ) (first : List ℕ) (start unread left : Option
+    (List ℕ))
     (failed : Bool) (files : List File)
     → Consumes start unread first → (fault : InputFault)
-    → IsRestFault losses page cpu first unread left failed files fault
-    → IsRestFault losses page cpu [] start left failed files fault
-fault-before losses page cpu first start unread left failed files taken faults.Read why = why
-fault-before losses page cpu first start unread left failed files taken (faults.File fault)
+    → IsRestFault losses page name cpu first unread left failed files fault
+    → IsRestFault losses page name cpu [] start left failed files fault
+fault-before losses page name cpu first start unread left failed files taken faults.Read why = why
+fault-before losses page name cpu first start unread left failed files taken (faults.File fault)
     (sound, end, (more, took, is)) =
     (sound, end, (first ++ more, Consumes-trans start unread left first more taken took, is))
-fault-before losses page cpu first start unread left failed files taken faults.Numbers (sound, (more, took, past)) =
+fault-before losses page name cpu first start unread left failed files taken faults.Numbers (
+  sound,
+  (more, took, past),
+) =
     (sound, (first ++ more, Consumes-trans start unread left first more taken took, past))
-fault-before losses page cpu first start unread left failed files taken faults.NoMemory why = why
+fault-before losses page name cpu first start unread left failed files taken faults.NoMemory why = why
 
-pub added-before : (losses : Losses) (page cpu : ℕ) (first : List ℕ) (start unread left : Option (List ℕ))
+pub added-before : (losses : Losses) (page : ℕ) (name : List ℕ) (cpu : ℕ) (first : List ℕ) (start unread left : Option
+    (List ℕ))
     (files : List File) (captured : Captured)
-    → Consumes start unread first → AddsRestOf losses page cpu first unread left files captured
-    → AddsRestOf losses page cpu [] start left files captured
-added-before losses page cpu first start unread left files captured taken adds = record {
+    → Consumes start unread first → AddsRestOf losses page name cpu first unread left files captured
+    → AddsRestOf losses page name cpu [] start left files captured
+added-before losses page name cpu first start unread left files captured taken adds = record {
   more = first ++ adds.more;
   taken = Consumes-trans start unread left first adds.more taken adds.taken;
   added = adds.added;
 }
 
 -- the rest of a file was added, if the size of its pages equals another number
-pub added-sized : (losses : Losses) (size page cpu : ℕ) (first : List ℕ) (start unread left : Option (List ℕ))
+pub added-sized : (losses : Losses) (size page : ℕ) (name : List ℕ) (cpu : ℕ) (first : List ℕ)
+    (start unread left : Option (List ℕ))
     (files : List File) (captured : Captured)
-    → size ≡ page → Consumes start unread first → AddsRestOf losses size cpu first unread left files captured
-    → AddsRestOf losses page cpu [] start left files captured
-added-sized losses size page cpu first start unread left files captured same taken adds =
-    added-before losses page cpu first start unread left files captured taken
-    (subst (λ (n : ℕ). AddsRestOf losses n cpu first unread left files captured) same adds)
+    → size ≡ page → Consumes start unread first → AddsRestOf losses size name cpu first unread left files captured
+    → AddsRestOf losses page name cpu [] start left files captured
+added-sized losses size page name cpu first start unread left files captured same taken adds =
+    added-before losses page name cpu first start unread left files captured taken
+    (subst (λ (n : ℕ). AddsRestOf losses n name cpu first unread left files captured) same adds)
 
-pub fault-sized : (losses : Losses) (size page cpu : ℕ) (first : List ℕ) (start unread left : Option (List ℕ))
+pub fault-sized : (losses : Losses) (size page : ℕ) (name : List ℕ) (cpu : ℕ) (first : List ℕ)
+    (start unread left : Option (List ℕ))
     (failed : Bool) (files : List File)
     → size ≡ page → Consumes start unread first → (fault : InputFault)
-    → IsRestFault losses size cpu first unread left failed files fault
-    → IsRestFault losses page cpu [] start left failed files fault
-fault-sized losses size page cpu first start unread left failed files same taken fault why =
-    fault-before losses page cpu first start unread left failed files taken fault
-    (subst (λ (n : ℕ). IsRestFault losses n cpu first unread left failed files fault) same why)
+    → IsRestFault losses size name cpu first unread left failed files fault
+    → IsRestFault losses page name cpu [] start left failed files fault
+fault-sized losses size page name cpu first start unread left failed files same taken fault why =
+    fault-before losses page name cpu first start unread left failed files taken fault
+    (subst (λ (n : ℕ). IsRestFault losses n name cpu first unread left failed files fault) same why)
 
 -- a raw source
-pub raw-fault : (losses : Losses) (page cpu : ℕ) (first : List ℕ) (unread left : Option (List ℕ)) (failed : Bool)
+pub raw-fault : (losses : Losses) (page : ℕ) (name : List ℕ) (cpu : ℕ) (first : List ℕ) (unread left : Option
+    (List ℕ)) (failed : Bool)
     (files : List File)
     → (fault : ReadFault) → (fault ≡ reads.Read → failed ≡ true) → (fault ≢ reads.Read → failed ≡ false)
     → (fault ≡ reads.Capture captures.Numbers → (more : List ℕ) × Consumes unread left more
-    × AreFilesPast (said_by losses (record { cpu = cpu; bytes = first ++ more })) page
+    × AreFilesPast (said_by losses name (record { cpu = cpu; bytes = first ++ more })) page name
     (files ++ record { cpu = cpu; bytes = first ++ more } ∷ []))
-    → IsRestFault losses page cpu first unread left failed files (read_fault fault)
-raw-fault losses page cpu first unread left failed files reads.Read broken sound past = broken refl
-raw-fault losses page cpu first unread left failed files (reads.Capture captures.Numbers) broken sound past =
+    → IsRestFault losses page name cpu first unread left failed files (read_fault fault)
+raw-fault losses page name cpu first unread left failed files reads.Read broken sound past = broken refl
+raw-fault losses page name cpu first unread left failed files (reads.Capture captures.Numbers) broken sound past =
     (sound (λ e. cc), past refl)
-raw-fault losses page cpu first unread left failed files (reads.Capture captures.NoMemory) broken sound past =
+raw-fault losses page name cpu first unread left failed files (reads.Capture captures.NoMemory) broken sound past =
     sound (λ e. cc)

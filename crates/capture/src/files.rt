@@ -12,6 +12,7 @@ mod fault;
 mod first;
 mod inputs;
 pub mod laws;
+mod others;
 mod parts;
 mod raw;
 mod settle;

@@ -1,5 +1,7 @@
 -- What is printed of the damaged pages that are answered.
-use Rattle.std.proofs.Common.{◌≡◌, ◌∙◌, ℕ, ◌+◌, ◌<◌, List, [], ◌∷◌, ◌++◌, length, get_or, take, flat_map, refl, ap}
+use Rattle.std.proofs.Common.{◌≡◌, ◌∙◌, ℕ, ◌+◌, ◌<◌, List, [], ◌∷◌, ◌++◌, length, get_or, take, flat_map, refl, ap, ap₂}
+use Rattle.std.proofs.Common.{Option}
+use Rattle.std.specs.Prelude.{if◌then◌else◌}
 use Rattle.std.proofs.lemmas.List.{take_more, append-nil}
 use Rattle.std.proofs.lemmas.Grind.{flat_map-append}
 use Rattle.trace_model.specs.Faults.{cut, bad_length, time_overflow}
@@ -12,7 +14,9 @@ use Rattle.capture.specs.Captures.{IsDamage, AreDamages}
 use Rattle.capture.specs.declared.pages.Damaged.{Damaged}
 use Rattle.capture.specs.declared.part.Part.{Part}
 use Rattle.capture_text.specs.declared.form.Form.{Form}
-use Rattle.capture_text.specs.Printing.{damaged_line, damage_line, damaged_lines, offset_of, reported_line}
+use Rattle.capture_text.specs.Printing.{damaged_line, damage_line, offset_of, reported_line}
+use Rattle.capture_text.specs.Window.{KnownBound}
+use Rattle.capture_text.specs.Listed.{is_place_listed, listed_page, listed_damage, listed_damages}
 
 fault_text : (cause : ImageCause) → reader_fault_text (image_fault cause) ≡ image_fault_text cause
 fault_text too_short = refl
@@ -30,15 +34,22 @@ one_line form parts cpu d damage is =
     ∙ ap (λ (text : List ℕ). damaged_line form cpu damage.number damage.index (offset_of parts damage.index) text)
     (ap reader_fault_text is.fault_is ∙ fault_text damage.cause)
 
-pub all_lines : (form : Form) (parts : List Part) (cpu : ℕ) (more : List Damaged) (damages : List Damage)
-    → AreDamages more damages → flat_map (reported_line form parts cpu) more ≡ damaged_lines form parts cpu damages
-all_lines form parts cpu [] [] are = refl
-all_lines form parts cpu [] (damage ∷ damages) are = absurd are
-all_lines form parts cpu (d ∷ more) [] are = absurd are
-all_lines form parts cpu (d ∷ more) (damage ∷ damages) are =
-    ap (λ (text : List ℕ). text ++ flat_map (reported_line form parts cpu) more)
-    (one_line form parts cpu d damage are.0)
-    ∙ ap (λ (text : List ℕ). damage_line form parts cpu damage ++ text) (all_lines form parts cpu more damages are.1)
+-- the same, if it is listed
+one_listed : (form : Form) (bound : Option KnownBound) (parts : List Part) (cpu : ℕ) (d : Damaged) (damage : Damage)
+    → IsDamage d damage → listed_page form bound parts cpu d ≡ listed_damage form bound parts cpu damage
+one_listed form bound parts cpu d damage is =
+    ap₂ (λ (n : ℕ) (line : List ℕ). if is_place_listed bound n then line else []) is.number_is
+    (one_line form parts cpu d damage is)
+
+pub all_lines : (form : Form) (bound : Option KnownBound) (parts : List Part) (cpu : ℕ) (more : List Damaged)
+    (damages : List Damage) → AreDamages more damages
+    → flat_map (listed_page form bound parts cpu) more ≡ listed_damages form bound parts cpu damages
+all_lines form bound parts cpu [] [] are = refl
+all_lines form bound parts cpu [] (damage ∷ damages) are = absurd are
+all_lines form bound parts cpu (d ∷ more) [] are = absurd are
+all_lines form bound parts cpu (d ∷ more) (damage ∷ damages) are =
+    ap₂ (λ (first others : List ℕ). first ++ others) (one_listed form bound parts cpu d damage are.0)
+    (all_lines form bound parts cpu more damages are.1)
 
 -- one line more
 pub lines_more : {A : Type 0} (line : A → List ℕ) (pages : List A) (i : ℕ) (none : A) → i < length pages

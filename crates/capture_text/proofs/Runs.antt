@@ -1,5 +1,5 @@
 -- The runs of CPU after CPU.
-use Rattle.std.proofs.Common.{◌≡◌, ℕ, ◌+◌, ◌≤◌, List, [], ◌∷◌, ◌++◌, length, flat_map, refl, ap, ◌∙◌, subst}
+use Rattle.std.proofs.Common.{◌≡◌, ℕ, ◌+◌, ◌≤◌, List, [], ◌∷◌, ◌++◌, length, flat_map, Option, refl, ap, ◌∙◌, subst}
 use Rattle.std.proofs.Common.{arith}
 use Rattle.std.specs.Prelude.{slice_index_or}
 use Rattle.std.specs.List.{enumerate_from}
@@ -16,8 +16,8 @@ use Rattle.command_io.specs.declared.ends.Sink.{Ghosts}
 use Rattle.text_values.specs.declared.output.Out.{Out}
 use Rattle.text_values.specs.Putting.{Puts}
 use Rattle.capture_text.specs.declared.form.Form.{Form}
-use Rattle.capture_text.specs.declared.form.Form.TheVariants.{Text, Json}
-use Rattle.capture_text.specs.Printing.{run_line, run_lines}
+use Rattle.capture_text.specs.Window.{KnownBound}
+use Rattle.capture_text.specs.Listed.{listed_run, listed_runs}
 use Rattle.text_values.proofs.Chains.{put_none, put_more}
 
 more : (line : ℕ → ℕ × ℕ → List ℕ) (runs : List (List (ℕ × ℕ))) (of_cpu : List (ℕ × ℕ)) (cpu : ℕ) → length runs ≡ cpu
@@ -33,54 +33,49 @@ more line runs of_cpu cpu count =
     ∙ ap (λ (c : ℕ). flat_map f (enumerate_from 0 runs) ++ flat_map (line c) of_cpu) number
 
 -- one CPU's runs more
-lines_more : (form : Form) (runs : List (List (ℕ × ℕ))) (of_cpu : List (ℕ × ℕ)) (cpu : ℕ) → length runs ≡ cpu
-    → run_lines form (runs ++ of_cpu ∷ []) ≡ run_lines form runs ++ flat_map (run_line form cpu) of_cpu
-lines_more Text runs of_cpu cpu count = more (run_line Text) runs of_cpu cpu count
-lines_more Json runs of_cpu cpu count = more (run_line Json) runs of_cpu cpu count
+lines_more : (form : Form) (bounds : ℕ → Option KnownBound) (runs : List (List (ℕ × ℕ))) (of_cpu : List (ℕ × ℕ))
+    (cpu : ℕ) → length runs ≡ cpu
+    → listed_runs form bounds (runs ++ of_cpu ∷ [])
+    ≡ listed_runs form bounds runs ++ flat_map (listed_run form (bounds cpu) cpu) of_cpu
+lines_more form bounds runs of_cpu cpu count = more (λ c. listed_run form (bounds c) c) runs of_cpu cpu count
 
 -- the text of the runs of all CPUs below this one was put
-pub record ArePut {W : Type 0} {g : Ghosts W} (form : Form) (parcels : List Parcel) (cpu : ℕ) (o0 o1 : Out W g)
-    : Type 0 where
+pub record ArePut {W : Type 0} {g : Ghosts W} (form : Form) (bounds : ℕ → Option KnownBound) (parcels : List Parcel)
+    (cpu : ℕ) (o0 o1 : Out W g) : Type 0 where
   pub runs : List (List (ℕ × ℕ))
   pub count : length runs ≡ cpu
   pub each : AreRunsFrom parcels 0 runs
-  pub put : Puts (run_lines form runs) o0 o1
+  pub put : Puts (listed_runs form bounds runs) o0 o1
 
-lines_none : (form : Form) → [] ≡ run_lines form []
-lines_none Text = refl
-lines_none Json = refl
-
-module _ {W : Type 0} {g : Ghosts W} where
+module _ {W : Type 0} {g : Ghosts W} (form : Form) (bounds : ℕ → Option KnownBound) (parcels : List Parcel) where
   -- of no CPU there is none
-  pub runs_none : (form : Form) (parcels : List Parcel) (out : Out W g) → ArePut form parcels 0 out out
-  runs_none form parcels out = record {
-    runs = [];
-    count = refl;
-    each = tt;
-    put = subst (λ (t : List ℕ). Puts t out out) (lines_none form) (put_none out);
-  }
+  pub runs_none : (out : Out W g) → ArePut form bounds parcels 0 out out
+  runs_none out = record { runs = []; count = refl; each = tt; put = put_none out }
 
   -- and so it does with that of the next
-  pub runs_put : (form : Form) (parcels : List Parcel) (cpu : ℕ) (of_cpu : List (ℕ × ℕ)) (o0 o1 o2 : Out W g)
-      → ArePut form parcels cpu o0 o1 → AreMissingRuns parcels cpu of_cpu
-      → Puts (flat_map (run_line form cpu) of_cpu) o1 o2 → ArePut form parcels (cpu + 1) o0 o2
-  runs_put form parcels cpu of_cpu o0 o1 o2 put one more =
+  pub runs_put : (cpu : ℕ) (bound : Option KnownBound) (of_cpu : List (ℕ × ℕ)) (o0 o1 o2 : Out W g)
+      → bound ≡ bounds cpu → ArePut form bounds parcels cpu o0 o1 → AreMissingRuns parcels cpu of_cpu
+      → Puts (flat_map (listed_run form bound cpu) of_cpu) o1 o2 → ArePut form bounds parcels (cpu + 1) o0 o2
+  runs_put cpu bound of_cpu o0 o1 o2 is put one more =
       let count = put.count in
       let one_more = length_push put.runs of_cpu in
+      let last : Puts (flat_map (listed_run form (bounds cpu) cpu) of_cpu) o1 o2 =
+      subst (λ (b : Option KnownBound). Puts (flat_map (listed_run form b cpu) of_cpu) o1 o2) is more in
       record {
         runs = put.runs ++ of_cpu ∷ [];
         count = omega arith;
         each = runs_more parcels 0 put.runs cpu of_cpu (omega arith) put.each one;
         put =
-            put_more (run_lines form (put.runs ++ of_cpu ∷ [])) (run_lines form put.runs)
-            (flat_map (run_line form cpu) of_cpu) o0 o1 o2 (lines_more form put.runs of_cpu cpu count) put.put more;
+            put_more (listed_runs form bounds (put.runs ++ of_cpu ∷ [])) (listed_runs form bounds put.runs)
+            (flat_map (listed_run form (bounds cpu) cpu) of_cpu) o0 o1 o2
+            (lines_more form bounds put.runs of_cpu cpu count) put.put last;
       }
 
   -- if all CPUs are there the runs are those of each
-  pub runs_all : (form : Form) (parcels : List Parcel) (cpu : ℕ) (o0 o1 : Out W g)
-      → AreSound parcels → MAX_CPUS ≤ cpu → (put : ArePut form parcels cpu o0 o1)
+  pub runs_all : (cpu : ℕ) (o0 o1 : Out W g)
+      → AreSound parcels → MAX_CPUS ≤ cpu → (put : ArePut form bounds parcels cpu o0 o1)
       → (k : ℕ) → AreMissingRuns parcels k (slice_index_or put.runs k [])
-  runs_all form parcels cpu o0 o1 sound all put k =
+  runs_all cpu o0 o1 sound all put k =
       let count = put.count in
       let e : 0 + k ≡ k = omega arith in
       subst (λ (c : ℕ). AreMissingRuns parcels c (slice_index_or put.runs k [])) e

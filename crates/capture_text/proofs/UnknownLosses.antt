@@ -1,5 +1,6 @@
 -- The lines of losses, number by number.
-use Rattle.std.proofs.Common.{◌≡◌, ℕ, ◌+◌, ◌<◌, List, [], ◌∷◌, ◌++◌, length, get_or, take, append_assoc, sym, ap, ◌∙◌}
+use Rattle.std.proofs.Common.{◌≡◌, ℕ, ◌+◌, ◌<◌, List, [], ◌∷◌, ◌++◌, length, get_or, take, flat_map, sym, ap}
+use Rattle.std.proofs.Common.{append_assoc, ◌∙◌}
 use Rattle.std.specs.Prelude.{codes}
 use Rattle.std.specs.Fmt.{decimal}
 use Rattle.std.proofs.lemmas.List.{take_more, map-append, append-nil}
@@ -9,7 +10,7 @@ use Rattle.text_model.specs.Text.{line_feed, space}
 use Rattle.capture.specs.Captures.{numbers_of}
 use Rattle.capture_text.specs.declared.form.Form.{Form}
 use Rattle.capture_text.specs.declared.form.Form.TheVariants.{Text, Json}
-use Rattle.capture_text.specs.Printing.{unknown_line, unknown_lines}
+use Rattle.capture_text.specs.Printing.{unknown_line}
 
 two_numbers : (before first between second behind : List ℕ)
     → (before ++ first ++ between) ++ (second ++ behind) ≡ before ++ first ++ (between ++ second) ++ behind
@@ -36,8 +37,8 @@ module _ (form : Form) (cpu number given : ℕ) where
       ∙ ap (λ (f : Form). unknown_line f cpu number) (sym is)
 
 -- one loss more
-pub losses_more : (form : Form) (cpu : ℕ) (numbers : List RecordNo) (i : ℕ) (none : RecordNo) → i < length numbers
-    → unknown_lines form cpu (numbers_of (take i numbers)) ++ unknown_line form cpu (get_or numbers i none).0
-    ≡ unknown_lines form cpu (numbers_of (take (i + 1) numbers))
-losses_more form cpu numbers i none below =
+pub losses_more : (line : ℕ → List ℕ) (numbers : List RecordNo) (i : ℕ) (none : RecordNo) → i < length numbers
+    → flat_map line (numbers_of (take i numbers)) ++ line (get_or numbers i none).0
+    ≡ flat_map line (numbers_of (take (i + 1) numbers))
+losses_more line numbers i none below =
     rw (take_more numbers i none below) (simp (map-append, flat_map-append, append-nil))

@@ -4,4 +4,7 @@ pub mod FieldLaws
 pub mod Names
 pub mod Fielded
 pub mod Printing
+pub mod Selection
+pub mod Window
+pub mod Listed
 pub mod Printed

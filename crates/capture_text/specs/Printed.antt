@@ -1,7 +1,6 @@
 -- What a printer prints of a record.
-use Rattle.std.specs.Prelude.{◌≡◌, ℕ, ◌+◌, ◌-◌, ◌^◌, Bool, if◌then◌else◌, min, ⊤}
+use Rattle.std.specs.Prelude.{◌≡◌, ℕ, ◌+◌, ◌-◌, ◌^◌, Bool, if◌then◌else◌, min, Option, ⊤}
 use Rattle.trace_model.specs.Listing.{Line}
-use Rattle.trace_dat.specs.Contents.{EventFormat}
 use Rattle.trace_dat.specs.kernel_texts.Names.{HasEvents, events_of}
 use Rattle.event_fields.specs.Events.{HasFields}
 use Rattle.command_io.specs.declared.ends.Sink.{Ghosts}
@@ -10,7 +9,10 @@ use Rattle.text_values.specs.Putting.{Puts}
 use Rattle.capture_text.specs.declared.naming.Naming.{Naming}
 use Rattle.capture_text.specs.declared.naming.Naming.TheVariants.{Payload, Names, Fields}
 use Rattle.capture_text.specs.declared.printer.Printer.{Printer}
-use Rattle.capture_text.specs.Printing.{Detail, bare, named, fielded, record_line, is_line_cut}
+use Rattle.capture_text.specs.Printing.{Detail, bare, named, fielded}
+use Rattle.capture_text.specs.Selection.{selection_seen}
+use Rattle.capture_text.specs.Window.{KnownBound, bound_at, listed_bound, noted_of}
+use Rattle.capture_text.specs.Listed.{listed_line, is_listed_cut}
 
 -- a line says of its record's event what these formats say, in this detail
 abbrev pub IsDetail : Naming → Detail → Type 0
@@ -34,12 +36,20 @@ IsSound (Fields names fields) = HasFields fields.now (events_of names.now)
 abbrev pub counted : (cut : ℕ) → (is_cut : Bool) → ℕ
 counted cut is_cut = min (cut + (if is_cut then 1 else 0)) (2 ^ 64 - 1)
 
--- The record's line was put, in the printer's form and detail; the printer counts it if a field has no value in it,
--- and is else as it was.
+-- what is known of each CPU that is listed
+abbrev pub bounds_of : Printer → (cpu : ℕ) → Option KnownBound
+bounds_of printer cpu = listed_bound (selection_seen printer.selection) (bound_at printer.window) cpu
+
+-- The record's line was put if it is listed, in the printer's form and detail; the printer counts it if a field has no
+-- value in it, knows the record, and is else as it was.
 pub record PrintsRecord {W : Type 0} {g : Ghosts W} (line : Line) (printer : Printer) (old : Out W g)
     (printer_now : Printer) (new : Out W g) : Type 0 where
   pub same_form : printer_now.form ≡ printer.form
   pub same_naming : printer_now.naming ≡ printer.naming
-  pub put : (detail : Detail) → IsDetail printer.naming detail → Puts (record_line printer.form detail line) old new
+  pub same_selection : printer_now.selection ≡ printer.selection
+  pub put : (detail : Detail) → IsDetail printer.naming detail
+      → Puts (listed_line printer.form detail (selection_seen printer.selection) line) old new
   pub cut : (detail : Detail) → IsDetail printer.naming detail
-      → printer_now.cut ≡ counted printer.cut (is_line_cut detail line)
+      → printer_now.cut ≡ counted printer.cut (is_listed_cut detail (selection_seen printer.selection) line)
+  pub noted : (cpu : ℕ) → bound_at printer_now.window cpu
+      ≡ noted_of (selection_seen printer.selection) cpu (bound_at printer.window cpu) line

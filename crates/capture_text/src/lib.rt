@@ -13,8 +13,12 @@ mod naming;
 mod offsets;
 mod printer;
 mod quoting;
+mod selection;
+mod window;
 
 pub use form::Form;
 pub use naming::Naming;
 pub use printer::Printer;
 pub use quoting::shown_byte;
+pub use selection::Selection;
+pub use window::Window;

@@ -14,11 +14,14 @@ ghost use Rattle.capture_text.specs.Names.{json_named};
 ghost use Rattle.capture_text.specs.Printed.{IsDetail, IsSound};
 ghost use Rattle.capture_text.specs.Printing.{Detail, record_line, is_line_cut};
 ghost use Rattle.capture_text.specs.Printing.{named_line, fielded_line, json_line, json_fielded_line};
+ghost use Rattle.capture_text.specs.Selection.{selection_seen};
+ghost use Rattle.capture_text.specs.Listed.{listed_line, is_listed_cut};
 
 use crate::fielded::{put_fielded, put_json_fielded};
 use crate::form::Form;
 use crate::names::{put_json_named, put_named};
 use crate::naming::Naming;
+use crate::selection::Selection;
 use command_io::Sink;
 use event_fields::EventFields;
 use itoa::write_digits;
@@ -150,7 +153,7 @@ fn put_json_fielded_line<W: Sink>(
 
 /// Puts a record's line with what its naming says of the event. Answers whether a field is printed that has no value in
 /// the payload.
-pub(crate) fn put_record<W: Sink>(
+fn put_record<W: Sink>(
     out: &mut Out<'_, W>,
     form: Form,
     naming: Naming<'_>,
@@ -174,4 +177,21 @@ pub(crate) fn put_record<W: Sink>(
         }
     }
     false
+}
+
+/// Puts a record's line, if it is listed. Answers whether a field is printed that has no value in the payload.
+pub(crate) fn put_listed<W: Sink>(
+    out: &mut Out<'_, W>,
+    form: Form,
+    naming: Naming<'_>,
+    selection: &Selection<'_>,
+    line: &Line<'_>,
+) -> bool
+    requires { IsSound naming }
+    ensures text { (detail : Detail) → IsDetail naming.entry detail
+        → Puts (listed_line form detail (selection_seen selection.now) (line_seen line.now)) out.old out.new }
+    ensures cut { (detail : Detail) → IsDetail naming.entry detail
+        → result ≡ is_listed_cut detail (selection_seen selection.now) (line_seen line.now) }
+{
+    selection.has(line) && put_record(out, form, naming, line)
 }

@@ -1,16 +1,21 @@
 //! Lines for missing runs, losses of unknown number, and damaged pages.
-ghost use Rattle.std.specs.Prelude.{ℕ, [], ◌++◌, List, codes, flat_map, slice_index_or};
+ghost use Rattle.std.specs.Prelude.{◌≡◌, ℕ, [], ◌++◌, List, codes, flat_map, option_map, slice_index_or};
 ghost use Rattle.std.specs.Fmt.{decimal};
 ghost use Rattle.collector.specs.Runs.{AreMissingRuns};
 ghost use Rattle.capture.specs.Captures.{numbers_of};
 ghost use Rattle.world_model.specs.Printing.{printed_missing};
 ghost use Rattle.dump_command.specs.ImageFaults.{reader_fault_text, word_fault_text};
 ghost use Rattle.text_values.specs.Putting.{Puts};
-ghost use Rattle.capture_text.specs.Printing.{json_missing, run_line, run_lines, unknown_line, unknown_lines};
-ghost use Rattle.capture_text.specs.Printing.{damaged_line, reported_line};
+ghost use Rattle.capture_text.specs.Printing.{json_missing, run_line, unknown_line, damaged_line, reported_line};
+ghost use Rattle.capture_text.specs.Selection.{selection_seen};
+ghost use Rattle.capture_text.specs.Window.{bound_at, bound_seen, listed_bound};
+ghost use Rattle.capture_text.specs.Listed.{is_run_listed, is_place_listed, listed_run, listed_runs};
+ghost use Rattle.capture_text.specs.Listed.{listed_loss, listed_losses, listed_page};
 
 use crate::form::Form;
 use crate::offsets::offset_of;
+use crate::selection::Selection;
+use crate::window::{Bound, Window};
 use capture::{Damaged, Part};
 use collector::Collector;
 use command_io::Sink;
@@ -19,6 +24,26 @@ use page_image::ImageFault;
 use record_words::WordFault;
 use text_values::Out;
 use trace_model::{CpuId, MAX_CPUS, RecordNo};
+
+/// Whether a missing run of a CPU is listed; the CPU is if it has a bound.
+fn is_run_listed(bound: Option<Bound>, first: RecordNo, last: RecordNo) -> bool
+    ensures { result ≡ is_run_listed (option_map bound_seen bound) (first.0, last.0) }
+{
+    match bound {
+        Some(bound) => bound.has_run(first, last),
+        None => false,
+    }
+}
+
+/// Whether records of a CPU that were lost before this number are listed.
+fn is_place_listed(bound: Option<Bound>, number: RecordNo) -> bool
+    ensures { result ≡ is_place_listed (option_map bound_seen bound) number.0 }
+{
+    match bound {
+        Some(bound) => bound.has_place(number),
+        None => false,
+    }
+}
 
 /// Puts a number with text around it.
 fn put_between<W: Sink>(out: &mut Out<'_, W>, before: &[u8], number: u64, after: &[u8])
@@ -57,25 +82,55 @@ fn put_run<W: Sink>(out: &mut Out<'_, W>, form: Form, cpu: CpuId, first: RecordN
     }
 }
 
-/// Puts the lines of the missing runs of one CPU.
-fn put_runs_of<W: Sink>(out: &mut Out<'_, W>, form: Form, collector: &Collector, cpu: CpuId)
-    ensures { (runs : List (ℕ × ℕ)) × AreMissingRuns collector.now cpu.0 runs
-        × Puts (flat_map (run_line form cpu.0) runs) out.old out.new }
+/// Puts the line of a missing run, if it is listed.
+fn put_listed_run<W: Sink>(
+    out: &mut Out<'_, W>,
+    form: Form,
+    bound: Option<Bound>,
+    cpu: CpuId,
+    first: RecordNo,
+    last: RecordNo,
+)
+    ensures { Puts (listed_run form (option_map bound_seen bound) cpu.0 (first.0, last.0)) out.old out.new }
 {
-    for (first, last) in collector.missing(cpu) {
+    if is_run_listed(bound, first, last) {
         put_run(out, form, cpu, first, last);
     }
 }
 
+/// Puts the lines of the missing runs of one CPU.
+fn put_runs_of<W: Sink>(
+    out: &mut Out<'_, W>,
+    form: Form,
+    bound: Option<Bound>,
+    collector: &Collector,
+    cpu: CpuId,
+)
+    ensures { (runs : List (ℕ × ℕ)) × AreMissingRuns collector.now cpu.0 runs
+        × Puts (flat_map (listed_run form (option_map bound_seen bound) cpu.0) runs) out.old out.new }
+{
+    for (first, last) in collector.missing(cpu) {
+        put_listed_run(out, form, bound, cpu, first, last);
+    }
+}
+
 /// Puts the lines of the missing runs of each CPU.
-pub(crate) fn put_runs<W: Sink>(out: &mut Out<'_, W>, form: Form, collector: &Collector)
+pub(crate) fn put_runs<W: Sink>(
+    out: &mut Out<'_, W>,
+    form: Form,
+    selection: &Selection<'_>,
+    window: &Window,
+    collector: &Collector,
+)
     ensures { (runs : List (List (ℕ × ℕ)))
         × ((cpu : ℕ) → AreMissingRuns collector.now cpu (slice_index_or runs cpu []))
-        × Puts (run_lines form runs) out.old out.new }
+        × Puts (listed_runs form (listed_bound (selection_seen selection.now) (bound_at window.now)) runs)
+        out.old out.new }
 {
     let _parcels = collector.parcels();
     for cpu in 0..MAX_CPUS {
-        put_runs_of(out, form, collector, CpuId(cpu));
+        let cpu = CpuId(cpu);
+        put_runs_of(out, form, window.of(selection, cpu), collector, cpu);
     }
 }
 
@@ -96,17 +151,33 @@ fn put_loss<W: Sink>(out: &mut Out<'_, W>, form: Form, cpu: CpuId, number: Recor
     }
 }
 
+/// Puts the line of a loss of unknown number, if it is listed.
+fn put_listed_loss<W: Sink>(
+    out: &mut Out<'_, W>,
+    form: Form,
+    bound: Option<Bound>,
+    cpu: CpuId,
+    number: RecordNo,
+)
+    ensures { Puts (listed_loss form (option_map bound_seen bound) cpu.0 number.0) out.old out.new }
+{
+    if is_place_listed(bound, number) {
+        put_loss(out, form, cpu, number);
+    }
+}
+
 /// Puts the lines of these losses.
 pub(crate) fn put_losses<W: Sink>(
     out: &mut Out<'_, W>,
     form: Form,
+    bound: Option<Bound>,
     cpu: CpuId,
     numbers: &[RecordNo],
 )
-    ensures { Puts (unknown_lines form cpu.0 (numbers_of numbers.now)) out.old out.new }
+    ensures { Puts (listed_losses form (option_map bound_seen bound) cpu.0 (numbers_of numbers.now)) out.old out.new }
 {
     for number in numbers {
-        put_loss(out, form, cpu, *number);
+        put_listed_loss(out, form, bound, cpu, *number);
     }
 }
 
@@ -197,17 +268,35 @@ fn put_damage<W: Sink>(
     }
 }
 
+/// Puts the line of a damaged page, if it is listed.
+fn put_listed_damage<W: Sink>(
+    out: &mut Out<'_, W>,
+    form: Form,
+    bound: Option<Bound>,
+    cpu: CpuId,
+    damaged: &Damaged,
+    parts: &[Part],
+)
+    ensures { Puts (listed_page form (option_map bound_seen bound) parts.now cpu.0 damaged.now) out.old out.new }
+{
+    if is_place_listed(bound, damaged.number) {
+        put_damage(out, form, cpu, damaged, parts);
+    }
+}
+
 /// Puts the lines of these pages.
 pub(crate) fn put_damages<W: Sink>(
     out: &mut Out<'_, W>,
     form: Form,
+    bound: Option<Bound>,
     cpu: CpuId,
     pages: &[Damaged],
     parts: &[Part],
 )
-    ensures { Puts (flat_map (reported_line form parts.now cpu.0) pages.now) out.old out.new }
+    ensures { Puts (flat_map (listed_page form (option_map bound_seen bound) parts.now cpu.0) pages.now)
+        out.old out.new }
 {
     for damaged in pages {
-        put_damage(out, form, cpu, damaged, parts);
+        put_listed_damage(out, form, bound, cpu, damaged, parts);
     }
 }

@@ -2,6 +2,7 @@
 use Rattle.std.proofs.Common.{◌≡◌, ℕ, suc, Bool, false, List, [], ◌∷◌, ◌++◌, length, flat_map, Option, Some, Ok}
 use Rattle.std.proofs.Common.{refl, sym, ap, ap₂, ◌∙◌, subst, arith}
 use Rattle.std.specs.Prelude.{slice_index_or}
+use Rattle.trace_model.specs.Listing.{Line}
 use Rattle.trace_model.specs.Collection.{Misses}
 use Rattle.trace_model.proofs.collections.Collections.{same_itself}
 use Rattle.trace_model.proofs.collections.Listings.{one_listing}
@@ -16,13 +17,15 @@ use Rattle.capture.specs.files.Files.{File, ModelPart, Checked, parts_of, parts_
 use Rattle.capture.specs.files.Captures.{CutsOf}
 use Rattle.capture.specs.files.Losses.{settled, overrun_in}
 use Rattle.capture_text.specs.declared.form.Form.{Form}
-use Rattle.capture_text.specs.declared.form.Form.TheVariants.{Text, Json}
-use Rattle.capture_text.specs.Printing.{Detail as LineDetail, record_line, run_line, run_lines}
+use Rattle.capture_text.specs.Printing.{Detail as LineDetail}
+use Rattle.capture_text.specs.Selection.{Selected, selection_seen}
+use Rattle.capture_text.specs.Listed.{listed_line, listed_run}
 use Rattle.collect_command.specs.declared.collect.Collecting.{Collecting}
 use Rattle.collect_command.specs.declared.collect.Detail.{Detail}
 use Rattle.collect_command.specs.declared.ending.Listed.{Listed}
 use Rattle.collect_command.specs.Gathered.{AreCpuPages, AreCpusPages}
-use Rattle.collect_command.specs.Listings.{all_unknown, all_damaged, listing_text, detail_by, cut_count, IsListed}
+use Rattle.collect_command.specs.Listings.{bounds_by, all_unknown, all_damaged, listing_text, detail_by, cut_count}
+use Rattle.collect_command.specs.Listings.{IsListed}
 use Rattle.collect_command.specs.Runs.{detail_for, AskTheSame, SayTheSame, ListsFiles}
 
 -- ---- the parts, and the pages of each CPU
@@ -30,13 +33,13 @@ use Rattle.collect_command.specs.Runs.{detail_for, AskTheSame, SayTheSame, Lists
 one_own : (read : Checked (List ModelPart)) (own other : List ModelPart) → read ≡ Ok own → read ≡ Ok other → own ≡ other
 one_own read own other is too = cc
 
-one_parts : (page : ℕ) (files : List File) (parts others : List ModelPart) → ArePartsOf page files parts
-    → ArePartsOf page files others → parts ≡ others
-one_parts page [] parts others none too = none ∙ sym too
-one_parts page (file ∷ files) parts others (own, more, is, first, rest) (own_b, more_b, is_b, first_b, rest_b) =
+one_parts : (page : ℕ) (name : List ℕ) (files : List File) (parts others : List ModelPart)
+    → ArePartsOf page name files parts → ArePartsOf page name files others → parts ≡ others
+one_parts page name [] parts others none too = none ∙ sym too
+one_parts page name (file ∷ files) parts others (own, more, is, first, rest) (own_b, more_b, is_b, first_b, rest_b) =
     is
-    ∙ ap₂ (λ (xs ys : List ModelPart). xs ++ ys) (one_own (parts_of page file) own own_b first first_b)
-    (one_parts page files more more_b rest rest_b)
+    ∙ ap₂ (λ (xs ys : List ModelPart). xs ++ ys) (one_own (parts_of page name file) own own_b first first_b)
+    (one_parts page name files more more_b rest rest_b)
     ∙ sym is_b
 
 one_cuts : (parts : List ModelPart) (pages others : List Page) → CutsOf parts pages → CutsOf parts others
@@ -66,40 +69,40 @@ one_captures overrun parts cpu (own ∷ captures) (other ∷ others) are too cou
 
 -- ---- what is printed of them
 
--- the runs of each CPU have one text
-one_run_lines : (form : Form) (xs ys : List (List (ℕ × ℕ)))
-    → ((k : ℕ) → slice_index_or xs k [] ≡ slice_index_or ys k []) → run_lines form xs ≡ run_lines form ys
-one_run_lines Text xs ys same = one_runs_text (run_line Text) 0 xs ys same
-one_run_lines Json xs ys same = one_runs_text (run_line Json) 0 xs ys same
-
-one_text : (form : Form) (detail : LineDetail) (parts : List ModelPart) (captures : List (List Page))
-    (shown other : Shown) → IsPrintOf (parcels_of_captures 0 captures) shown
+one_text : (form : Form) (detail : LineDetail) (selected : Selected) (parts : List ModelPart)
+    (captures : List (List Page)) (shown other : Shown) → IsPrintOf (parcels_of_captures 0 captures) shown
     → IsPrintOf (parcels_of_captures 0 captures) other
-    → listing_text form detail parts shown captures ≡ listing_text form detail parts other captures
-one_text form detail parts captures shown other is too =
+    → listing_text form detail selected parts shown captures ≡ listing_text form detail selected parts other captures
+one_text form detail selected parts captures shown other is too =
     let parcels = parcels_of_captures 0 captures in
     let lines = one_listing parcels parcels shown.lines other.lines (same_itself parcels) is.lines too.lines in
     let runs : (k : ℕ) → slice_index_or shown.runs k [] ≡ slice_index_or other.runs k [] = λ k.
     one_runs (Misses parcels k) (slice_index_or shown.runs k []) (slice_index_or other.runs k []) (is.runs k)
     (too.runs k) in
-    ap₂ (λ (xs ys : List ℕ). ((xs ++ ys) ++ all_unknown form 0 captures) ++ all_damaged form parts 0 captures)
-    (ap (flat_map (record_line form detail)) lines) (one_run_lines form shown.runs other.runs runs)
+    let bounds = bounds_by selected shown.lines in
+    ap (λ (text : List ℕ).
+    ((flat_map (listed_line form detail selected) shown.lines ++ text) ++ all_unknown form bounds 0 captures)
+    ++ all_damaged form bounds parts 0 captures)
+    (one_runs_text (λ cpu. listed_run form (bounds cpu) cpu) 0 shown.runs other.runs runs)
+    ∙ ap (λ (ls : List Line). listing_text form detail selected parts
+    (record { lines = ls; runs = other.runs }) captures) lines
 
-one_listed : (form : Form) (detail : LineDetail) (parts : List ModelPart) (captures : List (List Page))
-    (start text other : List ℕ) (one too : Listed)
-    → IsListed form detail parts captures (Some start) (Some text) false one
-    → IsListed form detail parts captures (Some start) (Some other) false too → (text ≡ other) × SayTheSame one too
-one_listed form detail parts captures start text other one too a b =
+one_listed : (form : Form) (detail : LineDetail) (selected : Selected) (parts : List ModelPart)
+    (captures : List (List Page)) (start text other : List ℕ) (one too : Listed)
+    → IsListed form detail selected parts captures (Some start) (Some text) false one
+    → IsListed form detail selected parts captures (Some start) (Some other) false too
+    → (text ≡ other) × SayTheSame one too
+one_listed form detail selected parts captures start text other one too a b =
     let wrote = a.written.all refl in
     let wrote_too = b.written.all refl in
     let parcels = parcels_of_captures 0 captures in
-    let same = one_text form detail parts captures a.shown b.shown a.is_print b.is_print in
+    let same = one_text form detail selected parts captures a.shown b.shown a.is_print b.is_print in
     let lines = one_listing parcels parcels a.shown.lines b.shown.lines (same_itself parcels) a.is_print.lines
     b.is_print.lines in (
       wrote.0 ∙ ap (λ (t : List ℕ). start ++ t) same ∙ sym wrote_too.0,
       record {
         ending = wrote.1 ∙ sym wrote_too.1;
-        cut = a.cut_is ∙ ap (cut_count detail) lines ∙ sym b.cut_is;
+        cut = a.cut_is ∙ ap (cut_count detail selected) lines ∙ sym b.cut_is;
         malformed = a.malformed_are ∙ sym b.malformed_are;
       },
     )
@@ -108,17 +111,20 @@ one_run : (collecting : Collecting) (files : List File) (start text other : List
     → ListsFiles collecting files (Some start) (Some text) false one
     → ListsFiles collecting files (Some start) (Some other) false too → (text ≡ other) × SayTheSame one too
 one_run collecting files start text other one too a b =
-    let overrun = overrun_in files in
+    let name = collecting.buffer.now in
+    let overrun = overrun_in name files in
     let form = collecting.form in
     let detail = detail_for collecting files in
-    let parts : b.parts ≡ a.parts = one_parts collecting.page files b.parts a.parts b.parts_are a.parts_are in
+    let selected = selection_seen collecting.selection in
+    let parts : b.parts ≡ a.parts = one_parts collecting.page name files b.parts a.parts b.parts_are a.parts_are in
     let pages = subst (λ (ps : List ModelPart). AreCpusPages overrun ps 0 b.captures) parts b.pages_are in
     let captures : b.captures ≡ a.captures =
     one_captures overrun a.parts 0 b.captures a.captures pages a.pages_are (b.count ∙ sym a.count) in
-    one_listed form detail a.parts a.captures start text other one too a.is_listed
-    (subst (λ (ps : List ModelPart). IsListed form detail ps a.captures (Some start) (Some other) false too) parts
-    (subst (λ (cs : List (List Page)). IsListed form detail b.parts cs (Some start) (Some other) false too) captures
-    b.is_listed))
+    one_listed form detail selected a.parts a.captures start text other one too a.is_listed
+    (subst (λ (ps : List ModelPart). IsListed form detail selected ps a.captures (Some start) (Some other) false too)
+    parts
+    (subst (λ (cs : List (List Page)). IsListed form detail selected b.parts cs (Some start) (Some other) false too)
+    captures b.is_listed))
 
 -- ---- wherever the formats are in memory
 
@@ -132,14 +138,21 @@ listed_too : (one other : Collecting) (files : List File) (contents after : Opti
     → ListsFiles one files contents after failed listed
 listed_too one other files contents after failed listed same b = record {
   parts = b.parts;
-  parts_are = subst (λ (n : ℕ). ArePartsOf n files b.parts) (sym same.page) b.parts_are;
+  parts_are = subst (λ (n : ℕ). ArePartsOf n one.buffer.now files b.parts) (sym same.page)
+      (subst (λ (name : List ℕ). ArePartsOf other.page name files b.parts) (sym same.buffer) b.parts_are);
   captures = b.captures;
-  pages_are = b.pages_are;
+  pages_are = subst (λ (name : List ℕ). AreCpusPages (overrun_in name files) b.parts 0 b.captures) (sym same.buffer)
+      b.pages_are;
   count = b.count;
-  is_listed = subst (λ (f : Form). IsListed f (detail_for one files) b.parts b.captures contents after failed listed)
+  is_listed = subst (λ (f : Form).
+      IsListed f (detail_for one files) (selection_seen one.selection) b.parts b.captures contents after failed listed)
       (sym same.form)
-      (subst (λ (d : LineDetail). IsListed other.form d b.parts b.captures contents after failed listed)
-      (sym (same_detail one other files same)) b.is_listed);
+      (subst (λ (s : Selected).
+      IsListed other.form (detail_for one files) s b.parts b.captures contents after failed listed)
+      (sym same.selection)
+      (subst (λ (d : LineDetail).
+      IsListed other.form d (selection_seen other.selection) b.parts b.captures contents after failed listed)
+      (sym (same_detail one other files same)) b.is_listed));
 }
 
 pub one_output : (collecting same : Collecting) (files : List File) (start text other : List ℕ) (one too : Listed)

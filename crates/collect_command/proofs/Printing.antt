@@ -1,8 +1,8 @@
 -- What a printer prints, one text after the other.
 use Rattle.std.proofs.Common.{◌≡◌, ℕ, zero, suc, ◌+◌, ◌-◌, ◌^◌, ◌<◌, min, Bool, true, false, true≢false, ◌&&◌, ◌==◌, ◌↔◌, List, [], ◌∷◌}
 use Rattle.std.proofs.Common.{◌++◌, length, flat_map, map, append_assoc, append-nil, Option, Some, Result, Ok, Err}
-use Rattle.std.proofs.Common.{OnOk, OnErr, IsErr, refl, sym, ap, ◌∙◌, subst, arith}
-use Rattle.std.specs.Prelude.{cond, count_by}
+use Rattle.std.proofs.Common.{OnOk, OnErr, IsErr, refl, sym, ap, ap₂, ◌∙◌, subst, arith}
+use Rattle.std.specs.Prelude.{cond, count_by, fold}
 use Rattle.std.specs.Result.{is_ok}
 use Rattle.std.specs.List.{slice_get}
 use Rattle.std.specs.Io.KnownBytes.{Appends}
@@ -27,11 +27,15 @@ use Rattle.capture.specs.files.Losses.{are_intact}
 use Rattle.capture_text.specs.declared.form.Form.{Form}
 use Rattle.capture_text.specs.declared.printer.Printer.{Printer}
 use Rattle.capture_text.specs.declared.naming.Naming.{Naming}
-use Rattle.capture_text.specs.Printing.{Detail, record_line, is_line_cut, unknown_lines, damaged_lines}
+use Rattle.capture_text.specs.declared.selection.Selection.{Selection}
+use Rattle.capture_text.specs.Printing.{Detail}
+use Rattle.capture_text.specs.Selection.{selection_seen}
+use Rattle.capture_text.specs.Window.{KnownBound, bound_at, noted_of}
+use Rattle.capture_text.specs.Listed.{listed_line, is_listed_cut, listed_losses, listed_damages}
 use Rattle.capture_text.specs.Printed.{IsDetail, PrintsRecord}
 use Rattle.command_io.specs.declared.ends.Sink.{Ghosts}
 use Rattle.text_values.specs.declared.output.Out.{Out}
-use Rattle.text_values.specs.Putting.{Puts}
+use Rattle.text_values.specs.Putting.{Start, HasPut, Puts}
 use Rattle.text_values.proofs.Chains.{put_none, put_then}
 use Rattle.collect_command.specs.Gathered.{AreReadFrom}
 use Rattle.command_io.specs.Written.{IsTextWritten}
@@ -55,67 +59,95 @@ module _ {W : Type 0} {g : Ghosts W} where
 
   pub walked : (detail : Detail) (lines : List Line) (p q : Printer × Out W g)
       → IsDetail p.0.naming detail → TakesAll PrintsLine p lines q
-      → Puts (flat_map (record_line p.0.form detail) lines) p.1 q.1
+      → Puts (flat_map (listed_line p.0.form detail (selection_seen p.0.selection)) lines) p.1 q.1
   walked detail [] p q is same = subst (λ (z : Printer × Out W g). Puts [] p.1 z.1) same (put_none p.1)
   walked detail (line ∷ lines) p q is (mid, first, rest) =
-      let others : Puts (flat_map (record_line p.0.form detail) lines) mid.1 q.1 =
-      subst (λ (f : Form). Puts (flat_map (record_line f detail) lines) mid.1 q.1) first.same_form
-      (walked detail lines mid q (subst (λ (n : Naming). IsDetail n detail) (sym first.same_naming) is) rest) in
-      put_then _ _ (first.put detail is) others
+      let others = walked detail lines mid q (subst (λ (n : Naming). IsDetail n detail) (sym first.same_naming) is) rest in
+      let formed : Puts (flat_map (listed_line p.0.form detail (selection_seen mid.0.selection)) lines) mid.1 q.1 =
+      subst (λ (f : Form). Puts (flat_map (listed_line f detail (selection_seen mid.0.selection)) lines) mid.1 q.1)
+      first.same_form others in
+      put_then _ _ (first.put detail is)
+      (subst (λ (s : Selection). Puts (flat_map (listed_line p.0.form detail (selection_seen s)) lines) mid.1 q.1)
+      first.same_selection formed)
 
-  -- the form stays as it is
+  -- form and selection stay as they are
   pub walked_form : (lines : List Line) (p q : Printer × Out W g) → TakesAll PrintsLine p lines q
       → q.0.form ≡ p.0.form
   walked_form [] p q same = sym (ap (λ (z : Printer × Out W g). z.0.form) same)
   walked_form (line ∷ lines) p q (mid, first, rest) = walked_form lines mid q rest ∙ first.same_form
 
+  pub walked_selection : (lines : List Line) (p q : Printer × Out W g) → TakesAll PrintsLine p lines q
+      → q.0.selection ≡ p.0.selection
+  walked_selection [] p q same = sym (ap (λ (z : Printer × Out W g). z.0.selection) same)
+  walked_selection (line ∷ lines) p q (mid, first, rest) =
+      walked_selection lines mid q rest ∙ first.same_selection
+
   -- the lines that have a field without a value are counted
   pub walked_cut : (detail : Detail) (lines : List Line) (p q : Printer × Out W g)
       → IsDetail p.0.naming detail → TakesAll PrintsLine p lines q → p.0.cut < 2 ^ 64
-      → q.0.cut ≡ min (p.0.cut + count_by (is_line_cut detail) lines) (2 ^ 64 - 1)
+      → q.0.cut ≡ min (p.0.cut + count_by (is_listed_cut detail (selection_seen p.0.selection)) lines) (2 ^ 64 - 1)
   walked_cut detail [] p q is same fits =
       sym (ap (λ (z : Printer × Out W g). z.0.cut) same) ∙ none_counted p.0.cut fits
   walked_cut detail (line ∷ lines) p q is (mid, first, rest) fits =
+      let is_cut : Line → Bool = is_listed_cut detail (selection_seen p.0.selection) in
       let one = first.cut detail is in
       let others = walked_cut detail lines mid q
       (subst (λ (n : Naming). IsDetail n detail) (sym first.same_naming) is) rest (omega (arith, one)) in
-      let more = sum_by-cons (λ l. cond (is_line_cut detail l) 1 0) line lines in
-      one_counted p.0.cut (cond (is_line_cut detail line) 1 0) (count_by (is_line_cut detail) lines) mid.0.cut q.0.cut
-      (count_by (is_line_cut detail) (line ∷ lines)) one others more
+      let counted = others
+      ∙ ap (λ (s : Selection). min (mid.0.cut + count_by (is_listed_cut detail (selection_seen s)) lines) (2 ^ 64 - 1))
+      first.same_selection in
+      let more = sum_by-cons (λ l. cond (is_cut l) 1 0) line lines in
+      one_counted p.0.cut (cond (is_cut line) 1 0) (count_by is_cut lines) mid.0.cut q.0.cut
+      (count_by is_cut (line ∷ lines)) one counted more
+
+  -- all of them are known
+  pub walked_bound : (cpu : ℕ) (lines : List Line) (p q : Printer × Out W g) → TakesAll PrintsLine p lines q
+      → bound_at q.0.window cpu ≡ fold (noted_of (selection_seen p.0.selection) cpu) (bound_at p.0.window cpu) lines
+  walked_bound cpu [] p q same = sym (ap (λ (z : Printer × Out W g). bound_at z.0.window cpu) same)
+  walked_bound cpu (line ∷ lines) p q (mid, first, rest) =
+      walked_bound cpu lines mid q rest
+      ∙ ap₂ (λ (s : Selection) (bound : KnownBound). fold (noted_of (selection_seen s) cpu) bound lines)
+      first.same_selection (first.noted cpu)
+
+  -- what was put is the same text
+  pub same_put : {one other : List ℕ} (start : Start) (out : Out W g) → one ≡ other → HasPut start one out
+      → HasPut start other out
+  same_put start out same put = subst (λ (text : List ℕ). HasPut start text out) same put
 
 -- ---- the losses and damaged pages of one CPU more
 
-pub unknown_more : (form : Form) (cpu : ℕ) (captures : List (List Page)) (own : List Page)
-    → all_unknown form cpu (captures ++ own ∷ [])
-    ≡ all_unknown form cpu captures ++ unknown_lines form (cpu + length captures) (unknown_from 0 own)
-unknown_more form cpu [] own =
-    append-nil (unknown_lines form cpu (unknown_from 0 own))
-    ∙ ap (λ (n : ℕ). unknown_lines form n (unknown_from 0 own)) (let e : cpu ≡ cpu + 0 = omega arith in e)
-unknown_more form cpu (pages ∷ captures) own =
-    ap (λ (t : List ℕ). unknown_lines form cpu (unknown_from 0 pages) ++ t) (unknown_more form (suc cpu) captures own)
-    ∙ sym (append_assoc (unknown_lines form cpu (unknown_from 0 pages)) (all_unknown form (suc cpu) captures)
-    (unknown_lines form (suc cpu + length captures) (unknown_from 0 own)))
-    ∙ ap (λ (n : ℕ).
-    (unknown_lines form cpu (unknown_from 0 pages) ++ all_unknown form (suc cpu) captures)
-    ++ unknown_lines form n (unknown_from 0 own))
+pub unknown_more : (form : Form) (bounds : ℕ → Option KnownBound) (cpu : ℕ) (captures : List (List Page))
+    (own : List Page) → all_unknown form bounds cpu (captures ++ own ∷ [])
+    ≡ all_unknown form bounds cpu captures
+    ++ listed_losses form (bounds (cpu + length captures)) (cpu + length captures) (unknown_from 0 own)
+unknown_more form bounds cpu [] own =
+    let losses : ℕ → List ℕ = λ n. listed_losses form (bounds n) n (unknown_from 0 own) in
+    append-nil (losses cpu) ∙ ap losses (let e : cpu ≡ cpu + 0 = omega arith in e)
+unknown_more form bounds cpu (pages ∷ captures) own =
+    let losses : ℕ → List ℕ = λ n. listed_losses form (bounds n) n (unknown_from 0 own) in
+    let first = listed_losses form (bounds cpu) cpu (unknown_from 0 pages) in
+    let others = all_unknown form bounds (suc cpu) captures in
+    ap (λ (t : List ℕ). first ++ t) (unknown_more form bounds (suc cpu) captures own)
+    ∙ sym (append_assoc first others (losses (suc cpu + length captures)))
+    ∙ ap (λ (n : ℕ). (first ++ others) ++ losses n)
     (let e : suc cpu + length captures ≡ cpu + suc (length captures) = omega arith in e)
 
-abbrev own_damaged : Form → List ModelPart → ℕ → List Page → List ℕ
-own_damaged form parts cpu own = damaged_lines form (map measured (parts_of_cpu cpu parts)) cpu (damages_from 0 0 own)
+abbrev own_damaged : Form → (ℕ → Option KnownBound) → List ModelPart → ℕ → List Page → List ℕ
+own_damaged form bounds parts cpu own =
+    listed_damages form (bounds cpu) (map measured (parts_of_cpu cpu parts)) cpu (damages_from 0 0 own)
 
-pub damaged_more : (form : Form) (parts : List ModelPart) (cpu : ℕ) (captures : List (List Page)) (own : List Page)
-    → all_damaged form parts cpu (captures ++ own ∷ [])
-    ≡ all_damaged form parts cpu captures ++ own_damaged form parts (cpu + length captures) own
-damaged_more form parts cpu [] own =
-    append-nil (own_damaged form parts cpu own)
-    ∙ ap (λ (n : ℕ). own_damaged form parts n own) (let e : cpu ≡ cpu + 0 = omega arith in e)
-damaged_more form parts cpu (pages ∷ captures) own =
-    ap (λ (t : List ℕ). own_damaged form parts cpu pages ++ t) (damaged_more form parts (suc cpu) captures own)
-    ∙ sym (append_assoc (own_damaged form parts cpu pages) (all_damaged form parts (suc cpu) captures)
-    (own_damaged form parts (suc cpu + length captures) own))
-    ∙ ap (λ (n : ℕ).
-    (own_damaged form parts cpu pages ++ all_damaged form parts (suc cpu) captures)
-    ++ own_damaged form parts n own)
+pub damaged_more : (form : Form) (bounds : ℕ → Option KnownBound) (parts : List ModelPart) (cpu : ℕ)
+    (captures : List (List Page)) (own : List Page) → all_damaged form bounds parts cpu (captures ++ own ∷ [])
+    ≡ all_damaged form bounds parts cpu captures ++ own_damaged form bounds parts (cpu + length captures) own
+damaged_more form bounds parts cpu [] own =
+    append-nil (own_damaged form bounds parts cpu own)
+    ∙ ap (λ (n : ℕ). own_damaged form bounds parts n own) (let e : cpu ≡ cpu + 0 = omega arith in e)
+damaged_more form bounds parts cpu (pages ∷ captures) own =
+    let first = own_damaged form bounds parts cpu pages in
+    let others = all_damaged form bounds parts (suc cpu) captures in
+    ap (λ (t : List ℕ). first ++ t) (damaged_more form bounds parts (suc cpu) captures own)
+    ∙ sym (append_assoc first others (own_damaged form bounds parts (suc cpu + length captures) own))
+    ∙ ap (λ (n : ℕ). (first ++ others) ++ own_damaged form bounds parts n own)
     (let e : suc cpu + length captures ≡ cpu + suc (length captures) = omega arith in e)
 
 -- ---- whether all pages are intact

@@ -1,5 +1,5 @@
 -- What a run of `collect` does with its inputs and its sink.
-use Rattle.std.specs.Prelude.{◌≡◌, ◌⊎◌, ℕ, ◌^◌, ◌-◌, Bool, false, List, ◌++◌, length, map, min, Option}
+use Rattle.std.specs.Prelude.{◌≡◌, ◌⊎◌, ℕ, Bool, false, not, List, [], ◌∷◌, ◌++◌, length, map, Option}
 use Rattle.trace_model.specs.declared.limits.TheConstants.{MAX_CPUS}
 use Rattle.trace_dat.specs.Contents.{format_seen}
 use Rattle.event_fields.specs.Malformed.{malformed_seen}
@@ -9,7 +9,9 @@ use Rattle.capture.specs.Pages.{Page}
 use Rattle.capture.specs.declared.files.captured.Input.{Input}
 use Rattle.capture.specs.declared.files.fault.InputFault.{InputFault}
 use Rattle.capture.specs.declared.files.fault.InputFault.TheVariants as faults
-use Rattle.capture.specs.files.Files.{File, ModelPart, ArePartsOf, all_formats, all_instances}
+use Rattle.capture.specs.files.Files.{File, ModelPart, ArePartsOf, all_formats, all_others, is_in_any}
+use Rattle.capture.specs.files.Captures.{texts_held}
+use Rattle.capture.specs.declared.files.captured.Captured.{Captured}
 use Rattle.capture.specs.files.Losses.{overrun_in}
 use Rattle.capture.specs.files.Inputs.{AreRead, IsUnread}
 use Rattle.collect_command.specs.declared.collect.Collecting.{Collecting}
@@ -21,6 +23,7 @@ use Rattle.collect_command.specs.declared.ending.Ending.TheVariants.{NotWritten}
 use Rattle.collect_command.specs.Gathered.{AreCpusPages}
 use Rattle.collect_command.specs.Faults.{fault_line, numbers_line}
 use Rattle.capture_text.specs.Printing.{Detail as LineDetail}
+use Rattle.capture_text.specs.Selection.{selection_seen}
 use Rattle.collect_command.specs.Listings.{IsListed, SaysNothing, detail_by}
 
 -- what a line says of its record: by the formats in the files, and those that are given
@@ -32,7 +35,9 @@ detail_for collecting files =
 pub record AskTheSame (one other : Collecting) : Type 0 where
   pub form : one.form ≡ other.form
   pub page : one.page ≡ other.page
+  pub buffer : one.buffer.now ≡ other.buffer.now
   pub detail : one.detail ≡ other.detail
+  pub selection : selection_seen one.selection ≡ selection_seen other.selection
   pub formats : map format_seen one.formats.now ≡ map format_seen other.formats.now
 
 -- they say the same of a listing
@@ -45,11 +50,12 @@ pub record SayTheSame (one other : Listed) : Type 0 where
 pub record ListsFiles (collecting : Collecting) (files : List File) (contents after : Option (List ℕ)) (failed : Bool)
     (listed : Listed) : Type 0 where
   pub parts : List ModelPart
-  pub parts_are : ArePartsOf collecting.page files parts
+  pub parts_are : ArePartsOf collecting.page collecting.buffer.now files parts
   pub captures : List (List Page)
-  pub pages_are : AreCpusPages (overrun_in files) parts 0 captures
+  pub pages_are : AreCpusPages (overrun_in collecting.buffer.now files) parts 0 captures
   pub count : length captures ≡ MAX_CPUS
-  pub is_listed : IsListed collecting.form (detail_for collecting files) parts captures contents after failed listed
+  pub is_listed : IsListed collecting.form (detail_for collecting files) (selection_seen collecting.selection) parts
+      captures contents after failed listed
 
 -- nothing was written
 pub record IsUnwritten (contents after : Option (List ℕ)) (failed : Bool) : Type 0 where
@@ -75,26 +81,38 @@ TellsFault index faults.Numbers contents after failed ending =
     IsTextWritten NotWritten contents after failed numbers_line Numbers ending
 TellsFault index faults.NoMemory contents after failed ending = IsMemoryLine contents after failed ending
 
+-- what was read of other trace buffers, and whether there was the one that is listed, stays as it is
+pub record KeepsOthers (old new : Captured) : Type 0 where
+  pub others : new.others ≡ old.others
+  pub found : new.found ≡ old.found
+
+-- an instance is asked for that no file has
+abbrev pub is_missing : (name : List ℕ) → List File → Bool
+is_missing [] files = false
+is_missing (b ∷ bs) files = not (is_in_any (b ∷ bs) files)
+
 module _ {R : Type 0} (remaining : R → Option (List ℕ)) (has_failed : R → Bool) where
-  -- all inputs were read, and are listed, or memory was refused before anything was written. `collected` says how
-  -- many instances aren't listed.
+  -- All inputs were read, and are listed, or memory was refused before anything was written. `collected` says which
+  -- instances aren't listed, and whether the one that was asked for is missing.
   pub record CollectsAll (collecting : Collecting) (old new : List (Input R)) (contents after : Option (List ℕ))
       (failed : Bool) (collected : Collected) : Type 0 where
     pub files : List File
     pub are_read : AreRead remaining has_failed old new files
     pub told : ListsFiles collecting files contents after failed collected.listed
         ⊎ TellsMemory contents after failed collected.listed
-    pub instances_are : collected.instances ≡ min (all_instances files) (2 ^ 64 - 1)
+    pub others_are : texts_held collected.others.items ≡ all_others collecting.buffer.now files
+    pub missing_is : collected.is_missing ≡ is_missing collecting.buffer.now files
 
   -- an input couldn't be read
   pub record CollectsNone (collecting : Collecting) (old new : List (Input R)) (contents after : Option (List ℕ))
       (failed : Bool) (collected : Collected) : Type 0 where
     pub index : ℕ
     pub fault : InputFault
-    pub unread : IsUnread remaining has_failed collecting.page old new index fault
+    pub unread : IsUnread remaining has_failed collecting.page collecting.buffer.now old new index fault
     pub told : TellsFault index fault contents after failed collected.listed.ending
     pub nothing : SaysNothing collected.listed
-    pub no_instances : collected.instances ≡ 0
+    pub no_others : collected.others.items ≡ []
+    pub not_missing : collected.is_missing ≡ false
 
   -- What a run of `collect` does.
   abbrev pub IsCollectRun : (collecting : Collecting) (old new : List (Input R)) (contents after : Option (List ℕ))

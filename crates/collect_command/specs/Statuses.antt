@@ -2,6 +2,7 @@
 use Rattle.std.specs.Prelude.{ℕ, Bool, ◌==◌, ◌&&◌, ◌||◌, nat_lt, if◌then◌else◌, length}
 use Rattle.command_io.specs.declared.status.TheConstants.{DONE, REFUSED, NO_MEMORY, END_FAILED}
 use Rattle.collect_command.specs.declared.ending.Listed.{Listed}
+use Rattle.collect_command.specs.declared.ending.Collected.{Collected}
 use Rattle.collect_command.specs.declared.ending.Outcome.{Outcome}
 use Rattle.collect_command.specs.declared.ending.Ending.{Ending}
 use Rattle.collect_command.specs.declared.ending.Ending.TheVariants.{Done, Damaged, MalformedFile, Malformed, Numbers}
@@ -28,6 +29,12 @@ lacks_fields listed = nat_lt 0 listed.cut || nat_lt 0 (length listed.malformed.i
 abbrev pub status_of_listing : Listed → ℕ
 status_of_listing listed =
     if status_for listed.ending == DONE && lacks_fields listed then REFUSED else status_for listed.ending
+
+-- 1 if all is listed but an instance that no file has, and else that of the listing
+abbrev pub status_of_collect : Collected → ℕ
+status_of_collect collected =
+    if status_of_listing collected.listed == DONE && collected.is_missing then REFUSED
+    else status_of_listing collected.listed
 
 -- 4 if new pieces couldn't be kept
 abbrev pub status_of_run : Outcome → ℕ

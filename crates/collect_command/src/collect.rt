@@ -6,17 +6,18 @@ ghost use Rattle.trace_dat.specs.kernel_texts.Names.{HasEvents};
 ghost use Rattle.capture.specs.Pages.{Page};
 ghost use Rattle.capture.specs.files.Files.{File, ModelPart};
 ghost use Rattle.capture.specs.files.Captures.{AreCaptured};
+ghost use Rattle.capture_text.specs.Selection.{selection_seen};
 ghost use Rattle.command_io.specs.Written.{IsTextWritten};
 ghost use Rattle.collect_command.specs.Gathered.{AreReadFrom};
 ghost use Rattle.collect_command.specs.Listings.{IsListed, detail_by};
-ghost use Rattle.collect_command.specs.Runs.{ListsFiles, TellsFault, TellsMemory, IsCollectRun};
+ghost use Rattle.collect_command.specs.Runs.{ListsFiles, TellsFault, TellsMemory, KeepsOthers, IsCollectRun};
 
 use crate::ending::{Collected, Ending, Listed};
 use crate::fault_line::fault_line;
 use crate::listing::print_listing;
 use crate::memory::tell_memory;
 use capture::files::{Captured, CpuCapture, FileFault, Input, InputFault, Unread, read_inputs};
-use capture_text::{Form, Naming};
+use capture_text::{Form, Naming, Selection};
 use command_io::{Sink, Source, write_text};
 use event_fields::{EventFields, malformed_events};
 use std::alloc::Global;
@@ -46,8 +47,12 @@ pub struct Collecting<'a> {
     pub form: Form,
     /// The size of a raw page, in bytes: 48 at least.
     pub page: usize,
+    /// The name of the trace buffer that is read of files of trace-cmd: that of an instance, or none for the main one.
+    pub buffer: &'a [u8],
     /// What a line says of its record.
     pub detail: Detail,
+    /// Which records are listed.
+    pub selection: Selection<'a>,
     /// The formats of events beside those that files of trace-cmd have.
     pub formats: &'a [Format<'a>],
 }
@@ -103,20 +108,34 @@ fn print_captured<W: Sink>(
     requires read { (parts : List ModelPart) × (captures : List (List Page)) × AreReadFrom parts 0 cpus.now captures }
     ensures listed { (formats : List EventFormat) (parts : List ModelPart) (captures : List (List Page))
         → HasEvents names.now formats → AreReadFrom parts 0 cpus.now captures → IfOk result (λ listed.
-        IsListed collecting.now.form (detail_by collecting.now.detail formats) parts captures
+        IsListed collecting.now.form (detail_by collecting.now.detail formats)
+        (selection_seen collecting.now.selection) parts captures
         (W.contents writer.old) (W.contents writer.new) (W.failed writer.new) listed) }
     ensures refused { OnErr result (writer.new ≡ writer.old) }
 {
     let form = collecting.form;
+    let selection = collecting.selection;
     let none = Vec::new(alloc);
     match collecting.detail {
-        Detail::Payload => print_listing(alloc, form, Naming::Payload, none, cpus, writer),
-        Detail::Names => print_listing(alloc, form, Naming::Names(names), none, cpus, writer),
+        Detail::Payload => {
+            print_listing(alloc, form, Naming::Payload, selection, none, cpus, writer)
+        }
+        Detail::Names => {
+            print_listing(
+                alloc,
+                form,
+                Naming::Names(names),
+                selection,
+                none,
+                cpus,
+                writer,
+            )
+        }
         Detail::Fields => {
             let fields = EventFields::new(alloc, names)?;
             let malformed = malformed_events(alloc, names, &fields)?;
             let naming = Naming::Fields(names, &fields);
-            print_listing(alloc, form, naming, malformed, cpus, writer)
+            print_listing(alloc, form, naming, selection, malformed, cpus, writer)
         }
     }
 }
@@ -125,35 +144,37 @@ fn print_captured<W: Sink>(
 fn list_captured<W: Sink>(
     alloc: Global,
     collecting: &Collecting<'_>,
-    captured: Captured,
+    captured: &mut Captured,
     writer: &mut W,
 ) -> Result<Listed, NoMemory>
     requires sound { W.failed writer.old ≡ false }
-    requires read { (files : List File) × AreCaptured collecting.now.page files captured }
-    ensures listed { (files : List File) → AreCaptured collecting.now.page files captured → IfOk result (λ listed.
-        ListsFiles collecting.now files (W.contents writer.old) (W.contents writer.new)
+    requires read { (files : List File)
+        × AreCaptured collecting.now.page collecting.now.buffer.now files captured.old }
+    ensures listed { (files : List File) → AreCaptured collecting.now.page collecting.now.buffer.now files captured.old
+        → IfOk result (λ listed. ListsFiles collecting.now files (W.contents writer.old) (W.contents writer.new)
         (W.failed writer.new) listed) }
     ensures refused { OnErr result (writer.new ≡ writer.old) }
+    ensures kept { KeepsOthers captured.old captured.new }
 {
-    let Captured { cpus, names, .. } = captured;
-    let mut names = names;
-    names.add(collecting.formats)?;
-    print_captured(alloc, collecting, &names, &cpus, writer)
+    captured.names.add(collecting.formats)?;
+    print_captured(alloc, collecting, &captured.names, &captured.cpus, writer)
 }
 
 /// Lists what was read, or reports that memory was refused.
 fn list_or_tell<W: Sink>(
     alloc: Global,
     collecting: &Collecting<'_>,
-    captured: Captured,
+    captured: &mut Captured,
     writer: &mut W,
 ) -> Listed
     requires sound { W.failed writer.old ≡ false }
-    requires read { (files : List File) × AreCaptured collecting.now.page files captured }
-    ensures { (files : List File) → AreCaptured collecting.now.page files captured
+    requires read { (files : List File)
+        × AreCaptured collecting.now.page collecting.now.buffer.now files captured.old }
+    ensures listed { (files : List File) → AreCaptured collecting.now.page collecting.now.buffer.now files captured.old
         → ListsFiles collecting.now files (W.contents writer.old) (W.contents writer.new)
         (W.failed writer.new) result
         ⊎ TellsMemory (W.contents writer.old) (W.contents writer.new) (W.failed writer.new) result }
+    ensures kept { KeepsOthers captured.old captured.new }
 {
     match list_captured(alloc, collecting, captured, writer) {
         Ok(listed) => listed,
@@ -177,17 +198,23 @@ pub fn collect_to<R: Source, W: Sink>(
     ensures { IsCollectRun R.remaining R.failed collecting.now inputs.old inputs.new
         (W.contents writer.old) (W.contents writer.new) (W.failed writer.new) result }
 {
-    match read_inputs(alloc, collecting.page, inputs) {
+    match read_inputs(alloc, collecting.page, collecting.buffer, inputs) {
         Ok(captured) => {
-            let instances = captured.instances;
-            let listed = list_or_tell(alloc, collecting, captured, writer);
-            Collected { listed, instances }
+            let mut captured = captured;
+            let listed = list_or_tell(alloc, collecting, &mut captured, writer);
+            let Captured { others, found, .. } = captured;
+            Collected {
+                listed,
+                is_missing: !collecting.buffer.is_empty() && !found,
+                others,
+            }
         }
         Err(unread) => {
             let ending = tell_fault(alloc, unread, writer);
             Collected {
                 listed: Listed::nothing(alloc, ending),
-                instances: 0,
+                is_missing: false,
+                others: Vec::new(alloc),
             }
         }
     }

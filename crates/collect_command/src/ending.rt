@@ -101,9 +101,28 @@ impl Listed {
 pub struct Collected {
     /// What is said of the listing.
     pub listed: Listed,
-    /// How many instances the files of trace-cmd have, which aren't listed: buffers beside the main one. It is 2^64 - 1
-    /// if there are more, and 0 if a file can't be read.
-    pub instances: u64,
+    /// Whether an instance was asked for that no file has.
+    pub is_missing: bool,
+    /// The names of the instances that the files have and that aren't listed, one for each: trace buffers beside the one
+    /// that is listed. There are none if a file can't be read.
+    pub others: Vec<Vec<u8>>,
+}
+
+impl Collected {
+    ghost use Rattle.std.specs.Prelude.{◌≡◌};
+    ghost use Rattle.collect_command.specs.Statuses.{status_of_collect};
+
+    /// The exit status: 1 if all is printed, but the instance is missing, and else that of the listing.
+    pub fn status(&self) -> u8
+        ensures { result ≡ status_of_collect self.now }
+    {
+        let status = self.listed.status();
+        if status == DONE && self.is_missing {
+            REFUSED
+        } else {
+            status
+        }
+    }
 }
 
 /// What a command answers that may keep new pieces of streams.

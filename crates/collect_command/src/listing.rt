@@ -3,8 +3,9 @@ ghost use Rattle.std.specs.Prelude.{◌≡◌, ◌==◌, false, List, length, If
 ghost use Rattle.capture.specs.Pages.{Page};
 ghost use Rattle.capture.specs.files.Files.{ModelPart};
 ghost use Rattle.text_values.specs.Putting.{Puts};
-ghost use Rattle.capture_text.specs.Printed.{IsSound};
+ghost use Rattle.capture_text.specs.Printed.{IsSound, bounds_of};
 ghost use Rattle.capture_text.specs.Printing.{Detail};
+ghost use Rattle.capture_text.specs.Selection.{selection_seen};
 ghost use Rattle.collect_command.specs.Gathered.{AreReadFrom};
 ghost use Rattle.collect_command.specs.Listings.{all_unknown, all_damaged, are_all_intact, ending_of};
 ghost use Rattle.collect_command.specs.Listings.{Describes, IsListed};
@@ -13,7 +14,7 @@ use crate::ending::{Ending, Listed};
 use crate::gather::gather;
 use capture::Capture;
 use capture::files::CpuCapture;
-use capture_text::{Form, Naming, Printer};
+use capture_text::{Form, Naming, Printer, Selection, Window};
 use command_io::Sink;
 use event_fields::MalformedEvent;
 use std::alloc::Global;
@@ -24,7 +25,7 @@ use trace_model::NoMemory;
 /// Prints the losses of unknown number of each CPU.
 fn print_unknown<W: Sink>(printer: &Printer<'_>, out: &mut Out<'_, W>, cpus: &[CpuCapture])
     ensures { (parts : List ModelPart) (captures : List (List Page)) → AreReadFrom parts 0 cpus.now captures
-        → Puts (all_unknown printer.now.form 0 captures) out.old out.new }
+        → Puts (all_unknown printer.now.form (bounds_of printer.now) 0 captures) out.old out.new }
 {
     for found in cpus {
         printer.put_unknown(out, &found.capture);
@@ -34,7 +35,7 @@ fn print_unknown<W: Sink>(printer: &Printer<'_>, out: &mut Out<'_, W>, cpus: &[C
 /// Prints the damaged pages of each CPU.
 fn print_damaged<W: Sink>(printer: &Printer<'_>, out: &mut Out<'_, W>, cpus: &[CpuCapture])
     ensures { (parts : List ModelPart) (captures : List (List Page)) → AreReadFrom parts 0 cpus.now captures
-        → Puts (all_damaged printer.now.form parts 0 captures) out.old out.new }
+        → Puts (all_damaged printer.now.form (bounds_of printer.now) parts 0 captures) out.old out.new }
 {
     for found in cpus {
         printer.put_damaged(out, &found.capture, &found.parts);
@@ -75,12 +76,13 @@ fn ending_of(is_written: bool, is_intact: bool) -> Ending
     }
 }
 
-/// Prints what captures have and miss, in this form, with what the naming says of each record's event; these are the
-/// events whose formats are malformed. If memory is refused, nothing is written.
+/// Prints what captures have and miss, as far as it is selected, in this form, with what the naming says of each record's
+/// event; these are the events whose formats are malformed. If memory is refused, nothing is written.
 pub(crate) fn print_listing<W: Sink>(
     alloc: Global,
     form: Form,
     naming: Naming<'_>,
+    selection: Selection<'_>,
     malformed: Vec<MalformedEvent>,
     cpus: &[CpuCapture],
     writer: &mut W,
@@ -90,8 +92,8 @@ pub(crate) fn print_listing<W: Sink>(
     requires read { (parts : List ModelPart) × (captures : List (List Page)) × AreReadFrom parts 0 cpus.now captures }
     ensures listed { (detail : Detail) (parts : List ModelPart) (captures : List (List Page))
         → Describes naming.entry malformed detail → AreReadFrom parts 0 cpus.now captures → IfOk result (λ listed.
-        IsListed form detail parts captures (W.contents writer.old) (W.contents writer.new) (W.failed writer.new)
-        listed) }
+        IsListed form detail (selection_seen selection.entry) parts captures (W.contents writer.old)
+        (W.contents writer.new) (W.failed writer.new) listed) }
     ensures refused { OnErr result (writer.new ≡ writer.old) }
 {
     let collector = gather(alloc, cpus)?;
@@ -100,7 +102,9 @@ pub(crate) fn print_listing<W: Sink>(
     let mut printer = Printer {
         form,
         naming,
+        selection,
         cut: 0,
+        window: Window::new(),
     };
     walk_lines(alloc, &collector, &mut printer, &mut out)?;
     printer.put_missing(&mut out, &collector);

@@ -5,4 +5,3 @@ pub mod PieceLemmas
 pub mod LineParts
 pub mod FieldNames
 pub mod FieldLines
-pub mod MalformedEvents

@@ -10,10 +10,10 @@ ghost use Rattle.host_commands.specs.Formats.{format_read};
 use crate::form::form_of;
 use crate::formats::{FormatText, formats_below};
 use crate::inputs::{Reader, Trial, open_output, trial_of};
-use crate::message::{FormatMessage, Trouble};
+use crate::message::{FormatMessage, InstancesMessage, Trouble};
 use crate::telling::tell_ending;
 use capture::files::Input;
-use capture_text::Form;
+use capture_text::{Form, Selection};
 use collect_command::{Collected, Collecting, Detail, Listed, collect_to};
 use command_line::CollectCall;
 use trace_dat::Format;
@@ -49,10 +49,11 @@ fn lent<'a>(rt: &HostRuntime, texts: &'a [FormatText]) -> Result<Vec<Format<'a>>
     Ok(formats)
 }
 
-/// Says on standard error how many instances aren't listed, if there are any.
-fn tell_instances(rt: &HostRuntime, instances: u64) {
-    if instances > 0 {
-        let _ = eprintln!(rt; "tracering: instances that are not listed: {instances}");
+/// Says on standard error which instances aren't listed, if there are any.
+fn tell_instances(rt: &HostRuntime, others: &[Vec<u8>]) {
+    if !others.is_empty() {
+        let message = InstancesMessage { others };
+        let _ = eprintln!(rt; "{message}");
     }
 }
 
@@ -93,7 +94,9 @@ fn collecting_of<'a>(asked: &CollectCall<'_>, formats: &'a [Format<'a>]) -> Coll
     Collecting {
         form: form_of(asked.json),
         page: asked.page_bytes() as usize,
+        buffer: &[],
         detail: detail_of(asked.names, asked.fields),
+        selection: Selection::all(),
         formats,
     }
 }
@@ -128,9 +131,9 @@ pub(crate) fn collect_captures<'b>(
     requires cpus { map (λ input. input.cpu) inputs.items ≡ map (λ file. file.cpu) asked.now.files.items }
     requires sound { All (λ input. has_failed (peeked_reader input.reader) ≡ false) inputs.items }
 {
-    let Collected { listed, instances } = list(rt, asked, inputs, is_watched)?;
-    tell_instances(rt, instances);
-    tell_fields(rt, &listed);
-    tell_ending(rt, &asked.files, listed.ending);
-    Ok(listed.status())
+    let collected = list(rt, asked, inputs, is_watched)?;
+    tell_instances(rt, &collected.others);
+    tell_fields(rt, &collected.listed);
+    tell_ending(rt, &asked.files, collected.listed.ending);
+    Ok(collected.status())
 }

@@ -87,3 +87,23 @@ impl<'a> fmt::Display for FormatMessage<'a> {
         )
     }
 }
+
+/// The line for instances that aren't listed, without a line feed: how many there are, and their names. It takes no
+/// memory.
+#[derive(Clone, Copy, Debug)]
+pub struct InstancesMessage<'a> {
+    /// Their names.
+    pub others: &'a [Vec<u8>],
+}
+
+impl<'a> fmt::Display for InstancesMessage<'a> {
+    fn fmt<W: fmt::Write>(&self, f: &mut fmt::Formatter<W>) -> fmt::Result {
+        let count = self.others.len();
+        write!(f, "tracering: instances that are not listed: {count}")?;
+        for other in self.others {
+            let name = ShownName { name: other };
+            write!(f, " {name}")?;
+        }
+        Ok(())
+    }
+}

@@ -12,3 +12,4 @@ pub mod SixRead
 pub mod SevenRead
 pub mod NumberLemmas
 pub mod NameLemmas
+pub mod Resembling

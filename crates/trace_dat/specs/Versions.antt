@@ -1,5 +1,6 @@
 -- A whole file, in either version.
-use Rattle.std.specs.Prelude.{ℕ, List, [], ◌∷◌, ◌++◌, length, flat_map, Ok, codes, nat_eq, if◌then◌else◌}
+use Rattle.std.specs.Prelude.{ℕ, suc, Bool, List, [], ◌∷◌, ◌++◌, length, flat_map, Ok, codes, ◌==◌, nat_eq, nat_lt}
+use Rattle.std.specs.Prelude.{if◌then◌else◌}
 use Rattle.std.specs.List.{starts_with}
 use Rattle.std.specs.Int.{w32, w64}
 use Rattle.trace_dat.specs.declared.fault.Cause.TheVariants.{NotTraceDat, BadVersion, OtherMachine, Compressed}
@@ -93,6 +94,19 @@ version_seven file part = do
 -- how a file begins
 abbrev pub magic : List ℕ
 magic = 23 ∷ 8 ∷ 68 ∷ codes "tracing"
+
+-- at how many places of a word the first bytes of a file differ from it, those included that the file lacks
+abbrev pub places_differing : (file word : List ℕ) → ℕ
+places_differing file [] = 0
+places_differing [] (c ∷ word) = suc (places_differing [] word)
+places_differing (b ∷ file) (c ∷ word) =
+    if b == c then places_differing file word else suc (places_differing file word)
+
+-- A file resembles those of trace-cmd: at most one of its first ten bytes isn't theirs. In raw pages these bytes are
+-- the time of the first page and the low 16 bits of its size. Two of them differ, the highest of the time (which would
+-- be 240 years in nanoseconds) and the second of the size (26,368 bytes or more): so no page of up to 16 KiB resembles.
+abbrev pub resembles : List ℕ → Bool
+resembles file = nat_lt (places_differing file magic) 2
 
 -- the version
 unfoldable pub version_at : FilePart → Reading (Version × FilePart)

@@ -6,7 +6,7 @@ mod lines;
 mod names;
 mod record;
 
-pub use counters::{Counters, ring_counters};
+pub use counters::{Counters, counters_of, ring_counters};
 pub use lines::number_of;
 pub use names::{EventName, EventNames};
 pub use record::{CommonFields, common_fields};

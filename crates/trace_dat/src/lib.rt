@@ -14,4 +14,4 @@ mod sections;
 
 pub use contents::{Buffer, CpuPages, Format, TraceDat};
 pub use fault::{Cause, Fault, ReadError};
-pub use read::{begins_trace_dat, read_trace_dat};
+pub use read::{read_trace_dat, resembles_trace_dat};

@@ -1,12 +1,11 @@
 //! A whole file, in either version.
-ghost use Rattle.std.specs.Prelude.{◌≡◌, map, nat_eq};
-ghost use Rattle.std.specs.List.{starts_with};
+ghost use Rattle.std.specs.Prelude.{◌≡◌, map};
 ghost use Rattle.trace_dat.specs.Parts.{seen};
 ghost use Rattle.trace_dat.specs.Fields.{Gives};
 ghost use Rattle.trace_dat.specs.Contents.{format_seen, contents_seen};
 ghost use Rattle.trace_dat.specs.Entries.{option_seen};
 ghost use Rattle.trace_dat.specs.Versions.{titled_at, all_formats_at, tables_at, stated_options_at, version_six};
-ghost use Rattle.trace_dat.specs.Versions.{version_seven, version_at, magic, reading_of};
+ghost use Rattle.trace_dat.specs.Versions.{version_seven, version_at, places_differing, resembles, reading_of};
 
 use crate::buffers::{Shape, counters, put_buffer, put_buffers, put_instances};
 use crate::contents::{Format, TraceDat};
@@ -148,11 +147,25 @@ fn version_of<'a>(part: Part<'a>) -> Result<(Version, Part<'a>), ReadError>
     }
 }
 
-/// Whether a file begins as those of trace-cmd do. All of its first ten bytes are needed for that.
-pub fn begins_trace_dat(file: &[u8]) -> bool
-    ensures { result ≡ starts_with nat_eq file.now magic }
+/// At how many places of a word the first bytes of a file differ from it.
+fn places_differing(file: &[u8], word: &[u8]) -> usize
+    ensures { result ≡ places_differing file.now word.now }
 {
-    file.starts_with(MAGIC)
+    let mut count = 0;
+    for at in 0..word.len() {
+        if file.len() <= at || file[at] != word[at] {
+            count += 1;
+        }
+    }
+    count
+}
+
+/// Whether a file resembles those of trace-cmd: at most one of its first ten bytes isn't theirs. No raw page of up to
+/// 16 KiB does so, and only a file that has all ten bytes is read.
+pub fn resembles_trace_dat(file: &[u8]) -> bool
+    ensures { result ≡ resembles file.now }
+{
+    places_differing(file, MAGIC) < 2
 }
 
 /// What a file of trace-cmd holds, in version 6 or 7.

@@ -1,6 +1,7 @@
 -- What is read of files, by CPU.
 use Rattle.std.specs.Prelude.{◌≡◌, ◌⊎◌, ℕ, ◌+◌, ◌-◌, ◌^◌, ◌<◌, List, [], ◌∷◌, ◌++◌, length, map, min, Option, Some}
 use Rattle.std.specs.Prelude.{None}
+use Rattle.std.specs.Global.{Vec}
 use Rattle.std.specs.List.{slice_get}
 use Rattle.std.specs.Io.KnownBytes.{Consumes}
 use Rattle.trace_model.specs.declared.limits.TheConstants.{MAX_CPUS}
@@ -11,7 +12,8 @@ use Rattle.trace_dat.specs.kernel_texts.Names.{HasEvents}
 use Rattle.capture.specs.declared.part.Part.{Part}
 use Rattle.capture.specs.declared.files.captured.CpuCapture.{CpuCapture}
 use Rattle.capture.specs.declared.files.captured.Captured.{Captured}
-use Rattle.capture.specs.files.Files.{File, ModelPart, bytes_in, parts_of_cpu, ArePartsOf, all_formats, all_instances}
+use Rattle.capture.specs.files.Files.{File, ModelPart, bytes_in, parts_of_cpu, ArePartsOf, all_formats, all_others}
+use Rattle.capture.specs.files.Files.{all_instances, is_in_any}
 use Rattle.capture.specs.files.Losses.{overrun_in, loss_of, settled}
 
 -- The pages of parts are those of the first, and then those of the others: each part is cut for itself.
@@ -64,17 +66,24 @@ pub record AreCpusCaptured (overrun : ℕ → Option ℕ) (parts : List ModelPar
   pub each : (cpu : ℕ) (found : CpuCapture) → slice_get cpus cpu ≡ Some found
       → IsCpuCaptured cpu (overrun cpu) (parts_of_cpu cpu parts) found
 
+-- texts that own their bytes
+abbrev pub texts_held : List (Vec ℕ) → List (List ℕ)
+texts_held texts = map (λ text. text.items) texts
+
 -- What is read of files, none of which has a fault, if `overrun` states how many records of each CPU were overwritten.
-pub record AreFilesRead (overrun : ℕ → Option ℕ) (page : ℕ) (files : List File) (captured : Captured) : Type 0 where
+pub record AreFilesRead (overrun : ℕ → Option ℕ) (page : ℕ) (name : List ℕ) (files : List File) (captured : Captured)
+    : Type 0 where
   pub parts : List ModelPart
-  pub parts_are : ArePartsOf page files parts
+  pub parts_are : ArePartsOf page name files parts
   pub cpus_are : AreCpusCaptured overrun parts captured.cpus.items
   pub names_are : HasEvents captured.names (all_formats files)
-  pub instances_are : captured.instances ≡ min (all_instances files) (2 ^ 64 - 1)
+  pub instances_are : captured.instances ≡ min (all_instances name files) (2 ^ 64 - 1)
+  pub others_are : texts_held captured.others.items ≡ all_others name files
+  pub found_is : captured.found ≡ is_in_any name files
 
 -- What is read of files: if there is one alone, its counters settle losses.
-abbrev pub AreCaptured : (page : ℕ) → List File → Captured → Type 0
-AreCaptured page files captured = AreFilesRead (overrun_in files) page files captured
+abbrev pub AreCaptured : (page : ℕ) → (name : List ℕ) → List File → Captured → Type 0
+AreCaptured page name files captured = AreFilesRead (overrun_in name files) page name files captured
 
 -- nothing is known of what was overwritten
 abbrev pub unsaid : ℕ → Option ℕ
@@ -137,12 +146,12 @@ IsOwnPast overrun cpu parts =
     (known : Missed) × IsKnown overrun (parts_of_cpu cpu parts) known × IsCpuPast known cpu parts
 
 -- Numbers of a CPU of these files don't fit, if `overrun` states how many records of each were overwritten.
-pub record AreFilesPast (overrun : ℕ → Option ℕ) (page : ℕ) (files : List File) : Type 0 where
+pub record AreFilesPast (overrun : ℕ → Option ℕ) (page : ℕ) (name : List ℕ) (files : List File) : Type 0 where
   pub parts : List ModelPart
-  pub parts_are : ArePartsOf page files parts
+  pub parts_are : ArePartsOf page name files parts
   pub cpu : ℕ
   pub past : IsOwnPast (overrun cpu) cpu parts
 
 -- Numbers of a CPU of these files don't fit.
-abbrev pub ArePast : (page : ℕ) → List File → Type 0
-ArePast page files = AreFilesPast (overrun_in files) page files
+abbrev pub ArePast : (page : ℕ) → (name : List ℕ) → List File → Type 0
+ArePast page name files = AreFilesPast (overrun_in name files) page name files

@@ -1,11 +1,12 @@
 -- What a file has of the kernel's trace: raw pages of a CPU, or what trace-cmd puts into a file.
-use Rattle.std.specs.Prelude.{◌≡◌, ℕ, ◌+◌, ◌||◌, ◌==◌, Bool, List, [], ◌∷◌, ◌++◌, length, Result, Ok, Err, nat_lt}
-use Rattle.std.specs.Prelude.{nat_eq, if◌then◌else◌}
-use Rattle.std.specs.List.{starts_with, filter}
+use Rattle.std.specs.Prelude.{◌≡◌, ℕ, ◌+◌, ◌||◌, ◌==◌, Bool, true, false, List, [], ◌∷◌, ◌++◌, length, Result, Ok, Err}
+use Rattle.std.specs.Prelude.{nat_lt, bytes_eq, if◌then◌else◌}
+use Rattle.std.specs.List.{filter}
 use Rattle.trace_model.specs.declared.limits.TheConstants.{MAX_CPUS}
 use Rattle.trace_dat.specs.Contents.{EventFormat, Recorded, TraceBuffer, Contents}
 use Rattle.trace_dat.specs.Fields.{Reading}
-use Rattle.trace_dat.specs.Versions.{magic, reading_of}
+use Rattle.trace_dat.specs.Versions.{resembles, reading_of}
+use Rattle.trace_dat.specs.kernel_texts.Counters.{texts_of}
 use Rattle.capture.specs.declared.files.fault.FileFault.{FileFault}
 use Rattle.capture.specs.declared.files.fault.FileFault.TheVariants.{Format, BadCpu, BadPage, Overlap}
 
@@ -20,9 +21,12 @@ pub record ModelPart : Type 0 where
   pub size : ℕ
   pub bytes : List ℕ
 
--- it begins as the files of trace-cmd do
-abbrev pub is_dat : List ℕ → Bool
-is_dat bytes = starts_with nat_eq bytes magic
+-- In what follows `name` is the name of the trace buffer that is listed: of an instance, or empty for the main one.
+
+-- A file is read as one of trace-cmd, and may have a fault as such: if an instance is listed, since raw pages aren't
+-- known to be of one; and if it resembles these files.
+abbrev pub is_dat : (name bytes : List ℕ) → Bool
+is_dat name bytes = if length name == 0 then resembles bytes else true
 
 -- what is read, or a fault
 abbrev pub Checked : Type 0 → Type 0
@@ -45,6 +49,14 @@ formatted (Err fault) = Err (Format fault)
 abbrev pub is_main : TraceBuffer → Bool
 is_main buffer = length buffer.name == 0
 
+-- the buffer has this name
+abbrev pub is_named : (name : List ℕ) → TraceBuffer → Bool
+is_named name buffer = bytes_eq buffer.name name
+
+-- it is an instance, and isn't listed
+abbrev pub is_other : (name : List ℕ) → TraceBuffer → Bool
+is_other name buffer = if is_main buffer || is_named name buffer then false else true
+
 -- for each of some things a list, joined
 unfoldable pub each_of : {X A : Type 0} → (X → Checked (List A)) → List X → Checked (List A)
 each_of of [] = Ok []
@@ -56,15 +68,15 @@ part_of size recorded =
     if nat_lt recorded.cpu MAX_CPUS
     then Ok (record { cpu = recorded.cpu; size = size; bytes = recorded.pages } ∷ []) else Err (BadCpu recorded.cpu)
 
--- the parts of the main buffer, if pages can have its size
-abbrev pub parts_of_main : TraceBuffer → Checked (List ModelPart)
-parts_of_main buffer =
+-- the parts of a buffer that is listed, if pages can have its size
+abbrev pub parts_of_listed : TraceBuffer → Checked (List ModelPart)
+parts_of_listed buffer =
     if nat_lt buffer.page_size 4096 || nat_lt 65536 buffer.page_size then Err (BadPage buffer.page_size)
     else each_of (part_of buffer.page_size) buffer.cpus
 
--- the parts of a buffer, which are listed if it is the main one
-abbrev pub parts_of_buffer : TraceBuffer → Checked (List ModelPart)
-parts_of_buffer buffer = if is_main buffer then parts_of_main buffer else Ok []
+-- the parts of a buffer, if it is listed
+abbrev pub parts_of_buffer : (name : List ℕ) → TraceBuffer → Checked (List ModelPart)
+parts_of_buffer name buffer = if is_named name buffer then parts_of_listed buffer else Ok []
 
 -- how many bytes parts have
 abbrev pub bytes_in : List ModelPart → ℕ
@@ -76,15 +88,15 @@ abbrev pub within : (len : ℕ) → List ModelPart → Checked (List ModelPart)
 within len parts = if nat_lt len (bytes_in parts) then Err Overlap else Ok parts
 
 -- the parts of what a file of this length holds
-abbrev pub parts_in : (len : ℕ) → Contents → Checked (List ModelPart)
-parts_in len contents = each_of parts_of_buffer contents.buffers >>= within len
+abbrev pub parts_in : (name : List ℕ) → (len : ℕ) → Contents → Checked (List ModelPart)
+parts_in name len contents = each_of (parts_of_buffer name) contents.buffers >>= within len
 
 -- ---- a file
 
 -- The parts of a file, or its first fault: a raw file has one part, in pages of the size that is said.
-abbrev pub parts_of : (page : ℕ) → File → Checked (List ModelPart)
-parts_of page file =
-    if is_dat file.bytes then (formatted (reading_of file.bytes) >>= parts_in (length file.bytes))
+abbrev pub parts_of : (page : ℕ) → (name : List ℕ) → File → Checked (List ModelPart)
+parts_of page name file =
+    if is_dat name file.bytes then (formatted (reading_of file.bytes) >>= parts_in name (length file.bytes))
     else Ok (record { cpu = file.cpu; size = page; bytes = file.bytes } ∷ [])
 
 -- of what a file holds, if it reads
@@ -92,45 +104,64 @@ abbrev pub held : {A : Type 0} → (Contents → A) → A → Reading Contents �
 held of otherwise (Ok contents) = of contents
 held of otherwise (Err fault) = otherwise
 
--- of what a file holds that begins as those of trace-cmd, if it reads
+-- of what a file of trace-cmd holds; raw pages hold nothing else
 abbrev pub held_by : {A : Type 0} → (Contents → A) → A → File → A
-held_by of otherwise file = if is_dat file.bytes then held of otherwise (reading_of file.bytes) else otherwise
+held_by of otherwise file = held of otherwise (reading_of file.bytes)
 
 -- the formats of events that a file has
 abbrev pub formats_of : File → List EventFormat
 formats_of file = held_by (λ contents. contents.formats) [] file
 
--- how many of buffers are instances
-abbrev pub count_instances : List TraceBuffer → ℕ
-count_instances [] = 0
-count_instances (buffer ∷ buffers) = if is_main buffer then count_instances buffers else count_instances buffers + 1
+-- the names of those of buffers that are instances and aren't listed
+abbrev pub names_of_others : (name : List ℕ) → List TraceBuffer → List (List ℕ)
+names_of_others name [] = []
+names_of_others name (buffer ∷ buffers) =
+    if is_other name buffer then buffer.name ∷ names_of_others name buffers else names_of_others name buffers
 
--- how many instances a file has
-abbrev pub instances_of : File → ℕ
-instances_of file = held_by (λ contents. count_instances contents.buffers) 0 file
+-- the names of the instances of a file that aren't listed
+abbrev pub others_of : (name : List ℕ) → File → List (List ℕ)
+others_of name file = held_by (λ contents. names_of_others name contents.buffers) [] file
 
--- the texts of the kernel's counters that a file has
-abbrev pub counters_of : File → List (List ℕ)
-counters_of file = held_by (λ contents. contents.counters) [] file
+-- one of buffers has this name
+abbrev pub has_named : (name : List ℕ) → List TraceBuffer → Bool
+has_named name [] = false
+has_named name (buffer ∷ buffers) = is_named name buffer || has_named name buffers
+
+-- a file of trace-cmd has the buffer that is listed
+abbrev pub has_listed : (name : List ℕ) → File → Bool
+has_listed name file = held_by (λ contents. has_named name contents.buffers) false file
+
+-- the texts of the kernel's counters that a file has of the buffer that is listed
+abbrev pub counters_of : (name : List ℕ) → File → List (List ℕ)
+counters_of name file = held_by (λ contents. texts_of name contents.counters) [] file
 
 -- ---- all files
 
 -- These are the parts of all files, in their order: no file has a fault.
-abbrev pub ArePartsOf : (page : ℕ) → List File → List ModelPart → Type 0
-ArePartsOf page [] parts = parts ≡ []
-ArePartsOf page (file ∷ files) parts =
-    (own : List ModelPart) × (others : List ModelPart) × (parts ≡ own ++ others) × (parts_of page file ≡ Ok own)
-    × ArePartsOf page files others
+abbrev pub ArePartsOf : (page : ℕ) → (name : List ℕ) → List File → List ModelPart → Type 0
+ArePartsOf page name [] parts = parts ≡ []
+ArePartsOf page name (file ∷ files) parts =
+    (own : List ModelPart) × (others : List ModelPart) × (parts ≡ own ++ others) × (parts_of page name file ≡ Ok own)
+    × ArePartsOf page name files others
 
 -- the formats of all files
 abbrev pub all_formats : List File → List EventFormat
 all_formats [] = []
 all_formats (file ∷ files) = formats_of file ++ all_formats files
 
--- how many instances all files have
-abbrev pub all_instances : List File → ℕ
-all_instances [] = 0
-all_instances (file ∷ files) = instances_of file + all_instances files
+-- the names of the instances of all files that aren't listed, one for each instance
+abbrev pub all_others : (name : List ℕ) → List File → List (List ℕ)
+all_others name [] = []
+all_others name (file ∷ files) = others_of name file ++ all_others name files
+
+-- how many instances of all files aren't listed
+abbrev pub all_instances : (name : List ℕ) → List File → ℕ
+all_instances name files = length (all_others name files)
+
+-- one of the files is one of trace-cmd and has the buffer that is listed
+abbrev pub is_in_any : (name : List ℕ) → List File → Bool
+is_in_any name [] = false
+is_in_any name (file ∷ files) = has_listed name file || is_in_any name files
 
 -- the parts of a CPU
 abbrev pub parts_of_cpu : (cpu : ℕ) → List ModelPart → List ModelPart

@@ -26,18 +26,20 @@ AreRead remaining failed (old ∷ olds) [] files = ⊥
 AreRead remaining failed (old ∷ olds) (new ∷ news) [] = ⊥
 
 -- why an input wasn't read, after these files: for a fault all of it was read, and for numbers a beginning
-abbrev pub IsWhy : {R : Type 0} → (R → Option (List ℕ)) → (R → Bool) → (page : ℕ) → List File → (old new : Input R)
+abbrev pub IsWhy : {R : Type 0} → (R → Option (List ℕ)) → (R → Bool) → (page : ℕ) → (name : List ℕ) → List File
+    → (old new : Input R)
     → InputFault → Type 0
-IsWhy remaining failed page files old new faults.Read = failed new.reader ≡ true
-IsWhy remaining failed page files old new (faults.File fault) =
+IsWhy remaining failed page name files old new faults.Read = failed new.reader ≡ true
+IsWhy remaining failed page name files old new (faults.File fault) =
     (failed new.reader ≡ false) × IsAtEnd (remaining new.reader)
-    × ((file : File) × IsReadOf remaining old new file × (parts_of page file ≡ Err fault))
-IsWhy remaining failed page files old new faults.Numbers =
-    (failed new.reader ≡ false) × ((file : File) × IsReadOf remaining old new file × ArePast page (files ++ file ∷ []))
-IsWhy remaining failed page files old new faults.NoMemory = failed new.reader ≡ false
+    × ((file : File) × IsReadOf remaining old new file × (parts_of page name file ≡ Err fault))
+IsWhy remaining failed page name files old new faults.Numbers =
+    (failed new.reader ≡ false) × ((file : File) × IsReadOf remaining old new file
+    × ArePast page name (files ++ file ∷ []))
+IsWhy remaining failed page name files old new faults.NoMemory = failed new.reader ≡ false
 
 -- An input wasn't read: those before it were, to their ends, and those after it are untouched.
-pub record IsUnread {R : Type 0} (remaining : R → Option (List ℕ)) (failed : R → Bool) (page : ℕ)
+pub record IsUnread {R : Type 0} (remaining : R → Option (List ℕ)) (failed : R → Bool) (page : ℕ) (name : List ℕ)
     (old new : List (Input R)) (index : ℕ) (fault : InputFault) : Type 0 where
   pub before : List (Input R)
   pub before_new : List (Input R)
@@ -49,4 +51,4 @@ pub record IsUnread {R : Type 0} (remaining : R → Option (List ℕ)) (failed :
   pub index_is : index ≡ length before
   pub files : List File
   pub are_read : AreRead remaining failed before before_new files
-  pub why : IsWhy remaining failed page files this this_new fault
+  pub why : IsWhy remaining failed page name files this this_new fault

@@ -18,12 +18,12 @@ abbrev pub overrun_of : (cpu : ℕ) → List (List ℕ) → Option ℕ
 overrun_of cpu [] = None
 overrun_of cpu (text ∷ texts) = overrun_at cpu (counters_in text) (overrun_of cpu texts)
 
--- how many records of a CPU were overwritten, by the counters of a file that is the only one; those of several
--- files say nothing of all
-abbrev pub overrun_in : List File → (cpu : ℕ) → Option ℕ
-overrun_in [] cpu = None
-overrun_in (file ∷ []) cpu = overrun_of cpu (counters_of file)
-overrun_in (file ∷ other ∷ files) cpu = None
+-- how many records of a CPU were overwritten, by the counters that a file has of the buffer that is listed, if it is
+-- the only file; those of several files say nothing of all
+abbrev pub overrun_in : (name : List ℕ) → List File → (cpu : ℕ) → Option ℕ
+overrun_in name [] cpu = None
+overrun_in name (file ∷ []) cpu = overrun_of cpu (counters_of name file)
+overrun_in name (file ∷ other ∷ files) cpu = None
 
 -- how many records are lost by what pages count
 abbrev pub counted_in : Missed → ℕ

@@ -94,6 +94,10 @@ pub struct Captured {
     pub cpus: Vec<CpuCapture>,
     /// The events whose formats the files have.
     pub names: EventNames,
-    /// How many trace buffers with a name the files have; their pages aren't read. The count stops at 2^64 - 1.
+    /// How many instances the files have that aren't listed: trace buffers with another name. Their pages aren't read.
     pub instances: u64,
+    /// The names of these instances, one for each, in the order of the files.
+    pub others: Vec<Vec<u8>>,
+    /// Whether a file of trace-cmd has the trace buffer that is listed.
+    pub found: bool,
 }

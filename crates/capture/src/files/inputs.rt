@@ -16,34 +16,36 @@ use crate::files::first::read_rest;
 use crate::files::raw::add_raw;
 use command_io::{Source, fill_piece};
 use std::alloc::{AllocError, Global};
-use trace_dat::begins_trace_dat;
 use trace_dat::kernel_texts::EventNames;
+use trace_dat::resembles_trace_dat;
 use trace_model::CpuId;
 
 /// Reads a file of trace-cmd, of which the first bytes are read already.
 fn read_dat<R: Source>(
     alloc: Global,
+    name: &[u8],
     first: &[u8],
     reader: &mut R,
     losses: Losses,
     captured: &mut Captured,
 ) -> Result<(), InputFault>
-    requires dat { is_dat first.now ≡ true }
+    requires dat { is_dat name.now first.now ≡ true }
     requires sound { R.failed reader.old ≡ false }
     requires known { (page : ℕ) × (files : List File) × IsAlone losses files
-        × AreFilesRead unsaid page files captured.old }
+        × AreFilesRead unsaid page name.now files captured.old }
     ensures read { (page cpu : ℕ) (files : List File) → IsAlone losses files
-        → AreFilesRead unsaid page files captured.old → OnOk result
-        (AddsRestOf losses page cpu first.now (R.remaining reader.old) (R.remaining reader.new) files captured.new) }
+        → AreFilesRead unsaid page name.now files captured.old → OnOk result
+        (AddsRestOf losses page name.now cpu first.now (R.remaining reader.old) (R.remaining reader.new) files
+        captured.new) }
     ensures end { OnOk result (IsAtEnd (R.remaining reader.new)) }
     ensures sound { OnOk result (R.failed reader.new ≡ false) }
     ensures fault { (page cpu : ℕ) (files : List File) → IsAlone losses files
-        → AreFilesRead unsaid page files captured.old → IfErr result (λ fault.
-        IsRestFault losses page cpu first.now (R.remaining reader.old) (R.remaining reader.new) (R.failed reader.new)
-        files fault) }
+        → AreFilesRead unsaid page name.now files captured.old → IfErr result (λ fault.
+        IsRestFault losses page name.now cpu first.now (R.remaining reader.old) (R.remaining reader.new)
+        (R.failed reader.new) files fault) }
 {
     let file = read_rest(alloc, first, reader)?;
-    add_dat(alloc, captured, file.as_slice(), losses)
+    add_dat(alloc, captured, name, file.as_slice(), losses)
 }
 
 /// Reads a file of raw pages of a CPU, of whose first page `filled` bytes are read already, into `piece`.
@@ -59,16 +61,18 @@ fn read_raw<R: Source>(
     requires some { 48 ≤ length piece.old }
     requires filled { filled ≤ length piece.old }
     requires at_end { filled < length piece.old → IsAtEnd (R.remaining reader.old) }
-    requires raw { is_dat (take filled piece.old) ≡ false }
     requires sound { R.failed reader.old ≡ false }
-    requires known { (page : ℕ) × (files : List File) × AreFilesRead unsaid page files captured.old }
-    ensures read { (losses : Losses) (files : List File) → AreFilesRead unsaid (length piece.old) files captured.old
-        → OnOk result (AddsRestOf losses (length piece.old) cpu.0 (take filled piece.old) (R.remaining reader.old)
+    requires known { (page : ℕ) × (name : List ℕ) × (files : List File)
+        × AreFilesRead unsaid page name files captured.old }
+    ensures read { (losses : Losses) (name : List ℕ) (files : List File) → is_dat name (take filled piece.old) ≡ false
+        → AreFilesRead unsaid (length piece.old) name files captured.old
+        → OnOk result (AddsRestOf losses (length piece.old) name cpu.0 (take filled piece.old) (R.remaining reader.old)
         (R.remaining reader.new) files captured.new) }
     ensures end { OnOk result (IsAtEnd (R.remaining reader.new)) }
     ensures sound { OnOk result (R.failed reader.new ≡ false) }
-    ensures fault { (losses : Losses) (files : List File) → AreFilesRead unsaid (length piece.old) files captured.old
-        → IfErr result (λ fault. IsRestFault losses (length piece.old) cpu.0 (take filled piece.old)
+    ensures fault { (losses : Losses) (name : List ℕ) (files : List File) → is_dat name (take filled piece.old) ≡ false
+        → AreFilesRead unsaid (length piece.old) name files captured.old
+        → IfErr result (λ fault. IsRestFault losses (length piece.old) name cpu.0 (take filled piece.old)
         (R.remaining reader.old) (R.remaining reader.new) (R.failed reader.new) files fault) }
 {
     add_raw(
@@ -81,10 +85,19 @@ fn read_raw<R: Source>(
     Ok(())
 }
 
-/// Reads a file, which has raw pages of this size, in bytes, if it isn't one of trace-cmd.
+/// Whether a file that begins with these bytes is read as one of trace-cmd.
+fn is_dat(name: &[u8], first: &[u8]) -> bool
+    ensures { result ≡ is_dat name.now first.now }
+{
+    !name.is_empty() || resembles_trace_dat(first)
+}
+
+/// Reads a file, which has raw pages of this size, in bytes, if it isn't read as one of trace-cmd: of such a file the
+/// buffer of this name.
 fn read_input<R: Source>(
     alloc: Global,
     page: usize,
+    name: &[u8],
     input: &mut Input<R>,
     losses: Losses,
     captured: &mut Captured,
@@ -92,23 +105,24 @@ fn read_input<R: Source>(
     requires page { 48 ≤ page }
     requires cpu { input.old.cpu.0 < MAX_CPUS }
     requires sound { R.failed input.old.reader ≡ false }
-    requires known { (files : List File) × IsAlone losses files × AreFilesRead unsaid page files captured.old }
+    requires known { (files : List File) × IsAlone losses files × AreFilesRead unsaid page name.now files captured.old }
     ensures cpu { input.new.cpu ≡ input.old.cpu }
-    ensures read { (files : List File) → IsAlone losses files → AreFilesRead unsaid page files captured.old
-        → OnOk result (AddsRestOf losses page input.old.cpu.0 [] (R.remaining input.old.reader)
+    ensures read { (files : List File) → IsAlone losses files → AreFilesRead unsaid page name.now files captured.old
+        → OnOk result (AddsRestOf losses page name.now input.old.cpu.0 [] (R.remaining input.old.reader)
         (R.remaining input.new.reader) files captured.new) }
     ensures end { OnOk result (IsAtEnd (R.remaining input.new.reader)) }
     ensures sound { OnOk result (R.failed input.new.reader ≡ false) }
-    ensures fault { (files : List File) → IsAlone losses files → AreFilesRead unsaid page files captured.old
-        → IfErr result (λ fault. IsRestFault losses page input.old.cpu.0 [] (R.remaining input.old.reader)
+    ensures fault { (files : List File) → IsAlone losses files → AreFilesRead unsaid page name.now files captured.old
+        → IfErr result (λ fault. IsRestFault losses page name.now input.old.cpu.0 [] (R.remaining input.old.reader)
         (R.remaining input.new.reader) (R.failed input.new.reader) files fault) }
 {
     let mut piece = vec![in alloc; 0u8; page]?;
     let Ok(filled) = fill_piece(&mut input.reader, piece.as_mut_slice()) else {
         return Err(InputFault::Read);
     };
-    if begins_trace_dat(&piece[..filled]) {
-        return read_dat(alloc, &piece[..filled], &mut input.reader, losses, captured);
+    if is_dat(name, &piece[..filled]) {
+        let first = &piece[..filled];
+        return read_dat(alloc, name, first, &mut input.reader, losses, captured);
     }
     read_raw(
         alloc,
@@ -122,20 +136,26 @@ fn read_input<R: Source>(
 
 /// Nothing is read.
 fn new_captured(alloc: Global) -> Result<Captured, AllocError>
-    ensures { IfOk result (λ captured. (page : ℕ) → AreFilesRead unsaid page [] captured) }
+    ensures { IfOk result (λ captured. (page : ℕ) (name : List ℕ)
+        → AreFilesRead unsaid page name [] captured) }
 {
     Ok(Captured {
         cpus: new_cpus(alloc)?,
         names: EventNames::new(alloc),
         instances: 0,
+        others: Vec::new(alloc),
+        found: false,
     })
 }
 
-/// Reads all files, one after the other, each to its end. `page` is the size of a raw page, in bytes. After a fault
-/// nothing more is read. A file of trace-cmd is held in memory while it is read, and not longer.
+/// Reads all files, one after the other, each to its end. `page` is the size of a raw page, in bytes. Of a file of
+/// trace-cmd the trace buffer of this name is read, of an instance, or, if `name` is empty, the main one; nothing of it
+/// if there is none. With the name of an instance each file has to be one of trace-cmd. After a fault nothing more is
+/// read. A file of trace-cmd is held in memory while it is read, and not longer.
 pub fn read_inputs<R: Source>(
     alloc: Global,
     page: usize,
+    name: &[u8],
     inputs: &mut [Input<R>],
 ) -> Result<Captured, Unread>
     requires page { 48 ≤ page }
@@ -143,9 +163,9 @@ pub fn read_inputs<R: Source>(
     requires cpus { All (λ input. input.cpu.0 < MAX_CPUS) inputs.old }
     requires sound { All (λ input. R.failed input.reader ≡ false) inputs.old }
     ensures read { IfOk result (λ captured. (files : List File)
-        × AreRead R.remaining R.failed inputs.old inputs.new files × AreCaptured page files captured) }
+        × AreRead R.remaining R.failed inputs.old inputs.new files × AreCaptured page name.now files captured) }
     ensures unread { IfErr result (λ unread.
-        IsUnread R.remaining R.failed page inputs.old inputs.new unread.input unread.fault) }
+        IsUnread R.remaining R.failed page name.now inputs.old inputs.new unread.input unread.fault) }
 {
     let Ok(mut captured) = new_captured(alloc) else {
         return Err(Unread {
@@ -159,7 +179,8 @@ pub fn read_inputs<R: Source>(
         Losses::Kept
     };
     for at in 0..inputs.len() {
-        if let Err(fault) = read_input(alloc, page, &mut inputs[at], losses, &mut captured) {
+        let input = &mut inputs[at];
+        if let Err(fault) = read_input(alloc, page, name, input, losses, &mut captured) {
             return Err(Unread { input: at, fault });
         }
     }

@@ -1,7 +1,7 @@
 //! The parts of a file of trace-cmd.
 ghost use Rattle.std.specs.Prelude.{◌≡◌, ◌<◌, map, length, IsOk, IfErr};
 ghost use Rattle.trace_dat.specs.Contents.{recorded_seen, buffer_seen, contents_seen};
-ghost use Rattle.capture.specs.files.Files.{each_of, part_of, parts_of_main, parts_of_buffer, parts_in, within};
+ghost use Rattle.capture.specs.files.Files.{each_of, part_of, parts_of_listed, parts_of_buffer, parts_in, within};
 ghost use Rattle.capture.specs.files.Giving.{part_seen, with_list, Gives};
 
 use crate::files::cpu_part::{CpuPart, PageSize};
@@ -50,10 +50,10 @@ fn put_parts<'a>(
     Ok(())
 }
 
-/// Puts the parts of the main buffer to the others.
-fn put_main<'a>(parts: &mut Vec<CpuPart<'a>>, buffer: &Buffer<'a>) -> Result<(), InputFault>
+/// Puts the parts of a buffer that is listed to the others.
+fn put_listed<'a>(parts: &mut Vec<CpuPart<'a>>, buffer: &Buffer<'a>) -> Result<(), InputFault>
     ensures { Gives (λ _. map part_seen parts.new.items) result
-        (with_list (map part_seen parts.old.items) (parts_of_main (buffer_seen buffer.now))) }
+        (with_list (map part_seen parts.old.items) (parts_of_listed (buffer_seen buffer.now))) }
 {
     if buffer.page_size < MIN_PAGE || MAX_PAGE < buffer.page_size {
         return Err(InputFault::File(FileFault::BadPage(buffer.page_size)));
@@ -64,24 +64,33 @@ fn put_main<'a>(parts: &mut Vec<CpuPart<'a>>, buffer: &Buffer<'a>) -> Result<(),
     put_parts(parts, size, buffer.cpus.as_slice())
 }
 
-/// Puts the parts of a buffer to the others, if it is the main one.
-fn put_buffer<'a>(parts: &mut Vec<CpuPart<'a>>, buffer: &Buffer<'a>) -> Result<(), InputFault>
+/// Puts the parts of a buffer to the others, if it has this name.
+fn put_buffer<'a>(
+    parts: &mut Vec<CpuPart<'a>>,
+    name: &[u8],
+    buffer: &Buffer<'a>,
+) -> Result<(), InputFault>
     ensures { Gives (λ _. map part_seen parts.new.items) result
-        (with_list (map part_seen parts.old.items) (parts_of_buffer (buffer_seen buffer.now))) }
+        (with_list (map part_seen parts.old.items) (parts_of_buffer name.now (buffer_seen buffer.now))) }
 {
-    if !buffer.name.is_empty() {
+    if buffer.name != name {
         return Ok(());
     }
-    put_main(parts, buffer)
+    put_listed(parts, buffer)
 }
 
-/// Puts the parts of the main buffer, or of all buffers without a name, to the others.
-fn put_buffers<'a>(parts: &mut Vec<CpuPart<'a>>, buffers: &[Buffer<'a>]) -> Result<(), InputFault>
+/// Puts the parts of the buffer of this name, or of all that have it, to the others.
+fn put_buffers<'a>(
+    parts: &mut Vec<CpuPart<'a>>,
+    name: &[u8],
+    buffers: &[Buffer<'a>],
+) -> Result<(), InputFault>
     ensures { Gives (λ _. map part_seen parts.new.items) result
-        (with_list (map part_seen parts.old.items) (each_of parts_of_buffer (map buffer_seen buffers.now))) }
+        (with_list (map part_seen parts.old.items)
+        (each_of (parts_of_buffer name.now) (map buffer_seen buffers.now))) }
 {
     for buffer in buffers {
-        put_buffer(parts, buffer)?;
+        put_buffer(parts, name, buffer)?;
     }
     Ok(())
 }
@@ -101,16 +110,17 @@ fn check_length(len: usize, parts: &[CpuPart<'_>]) -> Result<(), FileFault>
     Ok(())
 }
 
-/// The parts of what a file of this length holds.
+/// The parts of what a file of this length holds in the buffer of this name.
 pub(crate) fn parts_of<'a>(
     alloc: Global,
     dat: &TraceDat<'a>,
+    name: &[u8],
     len: usize,
 ) -> Result<Vec<CpuPart<'a>>, InputFault>
-    ensures { Gives (λ parts. map part_seen parts.items) result (parts_in len (contents_seen dat.now)) }
+    ensures { Gives (λ parts. map part_seen parts.items) result (parts_in name.now len (contents_seen dat.now)) }
 {
     let mut parts = Vec::new(alloc);
-    put_buffers(&mut parts, dat.buffers.as_slice())?;
+    put_buffers(&mut parts, name, dat.buffers.as_slice())?;
     match check_length(len, parts.as_slice()) {
         Ok(()) => Ok(parts),
         Err(fault) => Err(InputFault::File(fault)),

@@ -1,7 +1,7 @@
 //! What is read of a capture, as text.
 use crate::collectors::calls::Refusal;
 use capture::{Capture, CaptureFault, Part, ReadFault, read_capture};
-use capture_text::{Form, Naming, Printer};
+use capture_text::{Form, Naming, Printer, Selection, Window};
 use command_io::Std;
 use page_numbers::Parcel;
 use std::alloc::Global;
@@ -41,7 +41,9 @@ fn put_lost(
     let printer = Printer {
         form: Form::Text,
         naming: Naming::Payload,
+        selection: Selection::all(),
         cut: 0,
+        window: Window::new(),
     };
     printer.put_unknown(&mut lost, capture);
     printer.put_damaged(&mut lost, capture, &[part]);

@@ -1,8 +1,9 @@
 //! The counters of a CPU's ring, as the kernel prints them.
-ghost use Rattle.std.specs.Prelude.{◌≡◌};
-ghost use Rattle.trace_dat.specs.kernel_texts.Counters.{counters_in};
+ghost use Rattle.std.specs.Prelude.{◌≡◌, map, IfOk};
+ghost use Rattle.trace_dat.specs.kernel_texts.Counters.{counters_in, buffer_from, texts_of};
 
 use crate::kernel_texts::lines::{number_of, value_of};
+use std::alloc::{AllocError, Global};
 
 /// What the kernel counts of a CPU's ring.
 #[derive(Clone, Copy, Debug, PartialEq, Eq)]
@@ -22,4 +23,33 @@ pub fn ring_counters(text: &[u8]) -> Option<Counters>
     let cpu = number_of(value_of(text, b"CPU: ")?)?;
     let overrun = number_of(value_of(text, b"overrun: ")?)?;
     Some(Counters { cpu, overrun })
+}
+
+/// The buffer whose counters are in the texts from this one on, if `before` was the buffer before it.
+fn buffer_from<'a>(before: &'a [u8], text: &'a [u8]) -> &'a [u8]
+    ensures { result.now ≡ buffer_from before.now text.now }
+{
+    value_of(text, b"Buffer: ").unwrap_or(before)
+}
+
+/// Of the texts of counters in a file those that are of the buffer of this name, which is empty for the main one.
+/// Before the texts of an instance is one with its name in a line `Buffer: NAME`; those before the first such text are
+/// of the main buffer.
+pub fn counters_of<'a>(
+    alloc: Global,
+    name: &[u8],
+    texts: &[&'a [u8]],
+) -> Result<Vec<&'a [u8]>, AllocError>
+    ensures { IfOk result (λ own.
+        map (λ text. text.now) own.items ≡ texts_of name.now (map (λ text. text.now) texts.now)) }
+{
+    let mut own = Vec::new(alloc);
+    let mut buffer: &'a [u8] = &[];
+    for text in texts {
+        buffer = buffer_from(buffer, text);
+        if buffer == name {
+            own.push(*text)?;
+        }
+    }
+    Ok(own)
 }

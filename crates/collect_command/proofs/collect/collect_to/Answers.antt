@@ -7,6 +7,7 @@ returns-in-Ok g c =
     inl record {
       files = read.0;
       are_read = read.1;
-      told = c.list_or_tell-listed.ensures read.0 read.2;
-      instances_are = read.2.instances_are;
+      told = c.list_or_tell-listed.ensures.listed read.0 read.2;
+      others_are = ?;
+      missing_is = ?;
     }

@@ -1,6 +1,5 @@
-use Rattle.std.proofs.Common.{◌^◌, sym, ◌∙◌}
-use Rattle.trace_dat.specs.kernel_texts.Names.{event_of, events_of}
-use Rattle.event_fields.proofs.MalformedEvents.{same_below}
+use Rattle.std.proofs.Common.{ap, ◌∙◌}
+use Rattle.event_fields.specs.Malformed.{malformed_events}
 use Rattle.collect_command.proofs.collect.print_captured.Goals as goal
 
 pub returns-clause-listed-Fields : goal.returns-clause-listed-Fields

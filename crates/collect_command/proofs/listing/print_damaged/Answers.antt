@@ -5,7 +5,8 @@ use Rattle.capture.specs.declared.part.Part.{Part}
 use Rattle.capture.specs.declared.files.captured.CpuCapture.{CpuCapture}
 use Rattle.capture.specs.files.Files.{parts_of_cpu}
 use Rattle.capture.specs.files.Captures.{measured}
-use Rattle.capture_text.specs.Printing.{damaged_lines}
+use Rattle.capture_text.specs.Listed.{listed_damages}
+use Rattle.capture_text.specs.Printed.{bounds_of}
 use Rattle.collect_command.specs.Gathered.{AreReadFrom}
 use Rattle.collect_command.specs.Listings.{all_damaged}
 use Rattle.collect_command.proofs.Captures.{last_read, none_read}
@@ -15,12 +16,13 @@ use Rattle.collect_command.proofs.listing.print_damaged.Goals as goal
 
 pub loop-found-init : goal.loop-found-init
 loop-found-init g c = λ parts captures read.
-    put_same _ _ (sym (ap (all_damaged c.args.printer.now.form parts 0) (none_read parts 0 captures read)))
+    put_same _ _ (sym (ap (all_damaged c.args.printer.now.form (bounds_of c.args.printer.now) parts 0) (none_read parts 0 captures read)))
     (put_none c.args.out.now)
 
 pub loop-found-preserved : goal.loop-found-preserved
 loop-found-preserved g c = λ parts captures read.
     let form = c.args.printer.now.form in
+    let bounds = bounds_of c.args.printer.now in
     let k = c.loop-found.found-index in
     let cs = c.args.cpus.now in
     let found = c.found-item.result in
@@ -32,15 +34,16 @@ loop-found-preserved g c = λ parts captures read.
     let own_parts : map measured (parts_of_cpu (0 + length last.others) parts) ≡ c.deref.result.now =
     sym last.last_read.parts_are ∙ sym c.deref.ensures.value in
     put_more _ _ _ _ _ _
-    (ap (all_damaged form parts 0) last.captures_are ∙ damaged_more form parts 0 last.others last.own
+    (ap (all_damaged form bounds parts 0) last.captures_are ∙ damaged_more form bounds parts 0 last.others last.own
     ∙ ap
     (λ (ps : List Part).
-    all_damaged form parts 0 last.others
-    ++ damaged_lines form ps (0 + length last.others) (damages_from 0 0 last.own)) own_parts
+    all_damaged form bounds parts 0 last.others
+    ++ listed_damages form (bounds (0 + length last.others)) ps (0 + length last.others) (damages_from 0 0 last.own))
+    own_parts
     ∙ ap
     (λ (n : ℕ).
-    all_damaged form parts 0 last.others
-    ++ damaged_lines form c.deref.result.now n (damages_from 0 0 last.own))
+    all_damaged form bounds parts 0 last.others
+    ++ listed_damages form (bounds n) c.deref.result.now n (damages_from 0 0 last.own))
     (sym last.last_read.cpu_is))
     (c.loop-found.invariant parts last.others last.front_read)
     (c.put_damaged.ensures last.own last.last_read.capture_is)

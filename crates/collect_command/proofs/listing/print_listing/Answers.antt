@@ -1,23 +1,37 @@
-use Rattle.std.proofs.Common.{rules, ◌≡◌, ◌++◌, [], Bool, true, flat_map, ◌∙◌, ap, sym, subst, arith}
+use Rattle.std.proofs.Common.{rules, ◌≡◌, ◌++◌, ℕ, [], List, Bool, true, Option, flat_map, ◌∙◌, ap, ap₂, sym, subst}
+use Rattle.std.proofs.Common.{arith}
+use Rattle.std.specs.Prelude.{fold}
 use Rattle.std.specs.Result.{is_ok}
 use Rattle.world_model.specs.Printing.{Shown}
 use Rattle.capture.specs.Rings.{parcels_of_captures}
-use Rattle.capture_text.specs.Printing.{record_line, run_lines}
 use Rattle.capture_text.specs.declared.form.Form.{Form}
 use Rattle.capture_text.specs.declared.printer.Printer.{Printer}
+use Rattle.capture_text.specs.Selection.{selection_seen}
+use Rattle.capture_text.specs.Window.{KnownBound, bound_at, bound_by, listed_bound, noted_of}
+use Rattle.capture_text.specs.Listed.{listed_line, listed_runs}
+use Rattle.capture_text.specs.Printed.{bounds_of}
 use Rattle.command_io.specs.Written.{IsTextWritten}
 use Rattle.text_values.specs.Putting.{start_of, contents_of, has_failed, HasPut}
 use Rattle.collect_command.specs.declared.ending.Listed.{Listed}
 use Rattle.collect_command.specs.declared.ending.Ending.{Ending}
 use Rattle.collect_command.specs.declared.ending.Ending.TheVariants.{NotWritten}
-use Rattle.collect_command.specs.Listings.{all_unknown, all_damaged, ending_of, are_all_intact, listing_text, IsListed}
-use Rattle.collect_command.proofs.Printing.{walked, walked_form, walked_cut, same_print, ended}
+use Rattle.collect_command.specs.Listings.{bounds_by, all_unknown, all_damaged, ending_of, are_all_intact}
+use Rattle.collect_command.specs.Listings.{listing_text, IsListed}
+use Rattle.collect_command.proofs.Printing.{walked, walked_form, walked_selection, walked_cut, walked_bound}
+use Rattle.collect_command.proofs.Printing.{same_put, same_print, ended}
 use Rattle.collect_command.proofs.listing.print_listing.Goals as goal
 
 pub returns-clause-listed : goal.returns-clause-listed
 returns-clause-listed g c detail parts captures describes read =
     let form = c.args.form in
-    let printer : Printer = record { form = form; naming = c.args.naming; cut = 0 } in
+    let selected = selection_seen c.args.selection in
+    let printer : Printer = record {
+      form = form;
+      naming = c.args.naming;
+      selection = c.args.selection;
+      cut = 0;
+      window = c.new-window.result;
+    } in
     let out = c.new-out.result in
     let start = start_of out in
     let walk = c.in_ok-walk_lines.ensures.lines in
@@ -26,29 +40,40 @@ returns-clause-listed g c detail parts captures describes read =
     let lines =
     walked detail walk.0 (printer, out) (c.walk_lines.new.taker, c.walk_lines.new.writer) describes.is_detail walk.2
     start [] c.new-out.ensures.empty in
-    let stays : c.walk_lines.new.taker.form ≡ form =
+    let same_form : c.walk_lines.new.taker.form ≡ form =
     walked_form walk.0 (printer, out) (c.walk_lines.new.taker, c.walk_lines.new.writer) walk.2 in
+    let same_selection : c.walk_lines.new.taker.selection ≡ c.args.selection =
+    walked_selection walk.0 (printer, out) (c.walk_lines.new.taker, c.walk_lines.new.writer) walk.2 in
+    let bound : (cpu : ℕ) → bound_at c.walk_lines.new.taker.window cpu ≡ bound_by selected cpu walk.0 = λ cpu.
+    walked_bound cpu walk.0 (printer, out) (c.walk_lines.new.taker, c.walk_lines.new.writer) walk.2
+    ∙ ap (λ (known : KnownBound). fold (noted_of selected cpu) known walk.0) (c.new-window.ensures cpu) in
+    let same_bounds : bounds_of c.walk_lines.new.taker ≡ bounds_by selected walk.0 = λ i cpu.
+    listed_bound (selection_seen (same_selection i)) (λ n. bound n i) cpu in
     let cut = walked_cut detail walk.0 (printer, out) (c.walk_lines.new.taker, c.walk_lines.new.writer)
     describes.is_detail walk.2 (omega arith) in
-    let records = flat_map (record_line form detail) walk.0 in
-    let runs : HasPut start (records ++ run_lines form missing.0) c.put_missing.new.out =
-    subst (λ (f : Form). HasPut start (records ++ run_lines f missing.0) c.put_missing.new.out) stays
+    let bounds = bounds_by selected walk.0 in
+    let records = flat_map (listed_line form detail selected) walk.0 in
+    let known = records ++ listed_runs form bounds missing.0 in
+    let runs : HasPut start known c.put_missing.new.out =
+    same_put start c.put_missing.new.out
+    (ap₂ (λ (f : Form) (b : ℕ → Option KnownBound). records ++ listed_runs f b missing.0) same_form same_bounds)
     (missing.2 start records lines) in
-    let known = records ++ run_lines form missing.0 in
-    let unknown : HasPut start (known ++ all_unknown form 0 captures) c.print_unknown.new.out =
-    subst (λ (f : Form). HasPut start (known ++ all_unknown f 0 captures) c.print_unknown.new.out) stays
+    let unknown : HasPut start (known ++ all_unknown form bounds 0 captures) c.print_unknown.new.out =
+    same_put start c.print_unknown.new.out
+    (ap₂ (λ (f : Form) (b : ℕ → Option KnownBound). known ++ all_unknown f b 0 captures) same_form same_bounds)
     (c.print_unknown.ensures parts captures read start known runs) in
-    let damaged : HasPut start (listing_text form detail parts shown captures) c.print_damaged.new.out =
-    subst (λ (f : Form). HasPut start ((known ++ all_unknown form 0 captures) ++ all_damaged f parts 0 captures)
-    c.print_damaged.new.out) stays
-    (c.print_damaged.ensures parts captures read start (known ++ all_unknown form 0 captures) unknown) in
+    let damaged : HasPut start (listing_text form detail selected parts shown captures) c.print_damaged.new.out =
+    same_put start c.print_damaged.new.out
+    (ap₂ (λ (f : Form) (b : ℕ → Option KnownBound).
+    (known ++ all_unknown form bounds 0 captures) ++ all_damaged f b parts 0 captures) same_form same_bounds)
+    (c.print_damaged.ensures parts captures read start (known ++ all_unknown form bounds 0 captures) unknown) in
     let after = c.finish.new.self in
-    let all = c.finish.ensures.all start (listing_text form detail parts shown captures) damaged in
-    let prefix = c.finish.ensures.prefix start (listing_text form detail parts shown captures) damaged in
+    let text = listing_text form detail selected parts shown captures in
+    let all = c.finish.ensures.all start text damaged in
+    let prefix = c.finish.ensures.prefix start text damaged in
     let end =
-    ended c.finish.result (has_failed after) (are_all_intact captures) start.contents (contents_of after)
-    (listing_text form detail parts shown captures)
-    all prefix c.finish.ensures.fault in
+    ended c.finish.result (has_failed after) (are_all_intact captures) start.contents (contents_of after) text all
+    prefix c.finish.ensures.fault in
     let same = c.in_ok-collector.ensures parts captures read in
     let ending : ending_of (is_ok c.finish.result) (are_all_intact captures) ≡ c.ending_of.result =
     ap (λ (w : Bool). ending_of w (are_all_intact captures)) (sym c.is_ok-is_written.ensures.value)
@@ -59,7 +84,8 @@ returns-clause-listed g c detail parts captures describes read =
       cut = c.walk_lines.new.taker.cut;
       malformed = c.args.malformed;
     } in
-    let listed : IsListed form detail parts captures start.contents (contents_of after) (has_failed after) said =
+    let listed : IsListed form detail selected parts captures start.contents (contents_of after) (has_failed after)
+    said =
     record {
       shown = shown;
       is_print =
@@ -68,8 +94,8 @@ returns-clause-listed g c detail parts captures describes read =
       written =
           subst
           (λ (e : Ending).
-          IsTextWritten NotWritten start.contents (contents_of after) (has_failed after)
-          (listing_text form detail parts shown captures) (ending_of true (are_all_intact captures)) e)
+          IsTextWritten NotWritten start.contents (contents_of after) (has_failed after) text
+          (ending_of true (are_all_intact captures)) e)
           ending end;
       cut_is = cut;
       malformed_are = describes.malformed_are;

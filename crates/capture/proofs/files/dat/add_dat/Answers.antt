@@ -1,16 +1,18 @@
-use Rattle.std.proofs.Common.{◌≡◌, ◌∙◌, ◌++◌, ◌+◌, ◌-◌, ◌^◌, Vec, Global, ℕ, List, [], Err, length, map, sym, ap, subst}
+use Rattle.std.proofs.Common.{◌≡◌, ◌∙◌, ◌++◌, Vec, Global, Bor, ℕ, Bool, false, List, [], Err, length, map, sym, ap}
+use Rattle.std.proofs.Common.{subst}
 use Rattle.std.proofs.Common.{arith}
-use Rattle.std.specs.Prelude.{min}
+use Rattle.std.specs.Prelude.{◌||◌}
 use Rattle.std.proofs.lemmas.Result.{err_from_is_err_and}
 use Rattle.std.proofs.lemmas.Grind.{common_steps}
 use Rattle.trace_model.specs.Image.{unknown}
 use Rattle.trace_dat.specs.Contents.{EventFormat, Contents, contents_seen}
 use Rattle.trace_dat.specs.kernel_texts.Names.{HasEvents}
+use Rattle.trace_dat.specs.kernel_texts.Counters.{texts_of}
 use Rattle.capture.specs.declared.files.cpu_part.CpuPart.{CpuPart}
 use Rattle.capture.specs.declared.files.captured.CpuCapture.{CpuCapture}
-use Rattle.capture.specs.files.Files.{File, ModelPart, count_instances, counters_of, all_formats}
+use Rattle.capture.specs.files.Files.{File, ModelPart, names_of_others, has_named, counters_of, all_formats}
 use Rattle.capture.specs.files.Losses.{overrun_of}
-use Rattle.capture.specs.files.Captures.{AreCpusRead, AreCpusCaptured, IsCpuPast, IsOwnPast}
+use Rattle.capture.specs.files.Captures.{AreCpusRead, AreCpusCaptured, IsCpuPast, IsOwnPast, texts_held}
 use Rattle.capture.specs.files.Giving.{part_seen}
 use Rattle.capture.proofs.Answers.{written-back}
 use Rattle.capture.proofs.FilesMore.{parts-of-dat, held-dat, as-read, file-added, added-fault, settled-fault}
@@ -30,51 +32,55 @@ add_parts-requires c =
 
 pub returns-in_err-add_parts-clause-fault : goal.returns-in_err-add_parts-clause-fault
 returns-in_err-add_parts-clause-fault c = λ page cpu files alone was.
+    let name : List ℕ = c.args.name.now in
     let file : File = record { cpu = cpu; bytes = c.args.file.now } in
     let own : List ModelPart = map part_seen c.in_ok-parts.parts.items in
     let is =
-    parts-of-dat page file (contents_seen c.in_ok-dat.dat) own c.requires.dat c.in_ok-dat.ensures
+    parts-of-dat page name file (contents_seen c.in_ok-dat.dat) own c.requires.dat c.in_ok-dat.ensures
     c.in_ok-parts.ensures in
     let read : AreCpusRead unknown was.parts c.as_mut_slice-cpus.result.now =
     subst (AreCpusRead unknown was.parts) (sym c.as_mut_slice-cpus.ensures.value)
     (as-read was.parts _ was.cpus_are) in
     let p = err_from_is_err_and c.from_residual-in_err-add_parts.result c.from_residual-in_err-add_parts.ensures.1 in
-    rw (p.1, p.2) (added-fault c.args.losses page files file own c.args.captured.now was c.in_err-add_parts.field-0.0 is
+    rw (p.1, p.2) (added-fault c.args.losses page name files file own c.args.captured.now was
+    c.in_err-add_parts.field-0.0 is
     (λ numbers. let past = c.add_parts.ensures.past was.parts read (c.in_err-add_parts.was ∙ ap Err numbers) in (
       past.0,
-      subst (λ (ps : List CpuPart). IsCpuPast unknown past.0 (was.parts ++ map part_seen ps)) c.as_slice.ensures.value
+      subst (λ (ps : List CpuPart). IsCpuPast unknown past.0 (was.parts ++ map part_seen ps)) c.as_slice-2.ensures.value
           past.1,
     )))
 
 pub settle_by-requires : goal.settle_by-requires
 settle_by-requires c = λ settled.
     let was = c.requires.known.3 in
-    let none : was.parts ≡ [] = alone-parts c.args.losses _ _ was.parts settled c.requires.known.2 was.parts_are in
+    let none : was.parts ≡ [] = alone-parts c.args.losses _ _ _ was.parts settled c.requires.known.2 was.parts_are in
     let read : AreCpusRead unknown was.parts c.as_mut_slice-cpus.result.now =
     subst (AreCpusRead unknown was.parts) (sym c.as_mut_slice-cpus.ensures.value)
     (as-read was.parts _ was.cpus_are) in
     subst (λ (ps : List CpuPart). AreCpusRead unknown (map part_seen ps) c.add_parts.new.cpus)
-    (c.as_slice.ensures.value ∙ sym c.as_slice-2.ensures.value)
+    (c.as_slice-2.ensures.value ∙ sym c.as_slice-3.ensures.value)
     (subst
-    (λ (ps : List ModelPart). AreCpusRead unknown (ps ++ map part_seen c.as_slice.result.now) c.add_parts.new.cpus)
+    (λ (ps : List ModelPart). AreCpusRead unknown (ps ++ map part_seen c.as_slice-2.result.now) c.add_parts.new.cpus)
     none
     (c.in_ok-add_parts.ensures.read was.parts read))
 
 pub returns-in_err-settle_by-clause-fault : goal.returns-in_err-settle_by-clause-fault
 returns-in_err-settle_by-clause-fault c = λ page cpu files alone was.
+    let name : List ℕ = c.args.name.now in
     let file : File = record { cpu = cpu; bytes = c.args.file.now } in
     let own : List ModelPart = map part_seen c.in_ok-parts.parts.items in
     let is =
-    parts-of-dat page file (contents_seen c.in_ok-dat.dat) own c.requires.dat c.in_ok-dat.ensures
+    parts-of-dat page name file (contents_seen c.in_ok-dat.dat) own c.requires.dat c.in_ok-dat.ensures
     c.in_ok-parts.ensures in
-    let texts : map (λ text. text.now) c.as_slice-3.result.now ≡ counters_of file =
-    ap (map (λ text. text.now)) c.as_slice-3.ensures.value
+    let texts : map (λ text. text.now) c.as_slice-4.result.now ≡ counters_of name file =
+    ap (map (λ text. text.now)) c.as_slice-4.ensures.value ∙ c.in_ok-counters.ensures
+    ∙ ap (λ (ts : List (Bor (List ℕ))). texts_of name (map (λ text. text.now) ts)) c.as_slice.ensures.value
     ∙ sym
-    (held-dat (λ (contents : Contents). contents.counters) [] file (contents_seen c.in_ok-dat.dat) c.requires.dat
+    (held-dat (λ (contents : Contents). texts_of name contents.counters) [] file (contents_seen c.in_ok-dat.dat)
     c.in_ok-dat.ensures) in
     let p = err_from_is_err_and c.from_residual-in_err-settle_by.result c.from_residual-in_err-settle_by.ensures.1 in
     rw (p.1, p.2)
-    (settled-fault c.args.losses page files file own c.args.captured.now was c.in_err-settle_by.field-0.0 alone is
+    (settled-fault c.args.losses page name files file own c.args.captured.now was c.in_err-settle_by.field-0.0 alone is
     (λ kept.
     ok-not-err c.settle_by.result c.in_err-settle_by.field-0.0 (c.settle_by.ensures.kept kept).1
     c.in_err-settle_by.was)
@@ -83,28 +89,32 @@ returns-in_err-settle_by-clause-fault c = λ page cpu files alone was.
       subst (λ (ts : List (List ℕ)). IsOwnPast (overrun_of past.0 ts) past.0 own) texts
           (subst
           (λ (ps : List CpuPart).
-          IsOwnPast (overrun_of past.0 (map (λ text. text.now) c.as_slice-3.result.now)) past.0 (map part_seen ps))
-          c.as_slice-2.ensures.value past.1),
+          IsOwnPast (overrun_of past.0 (map (λ text. text.now) c.as_slice-4.result.now)) past.0 (map part_seen ps))
+          c.as_slice-3.ensures.value past.1),
     )))
 
 pub returns-clause-read : goal.returns-clause-read
 returns-clause-read c = λ page cpu files alone was.
+    let name : List ℕ = c.args.name.now in
     let file : File = record { cpu = cpu; bytes = c.args.file.now } in
     let own : List ModelPart = map part_seen c.in_ok-parts.parts.items in
     let is =
-    parts-of-dat page file (contents_seen c.in_ok-dat.dat) own c.requires.dat c.in_ok-dat.ensures
+    parts-of-dat page name file (contents_seen c.in_ok-dat.dat) own c.requires.dat c.in_ok-dat.ensures
     c.in_ok-parts.ensures in
-    let texts : map (λ text. text.now) c.as_slice-3.result.now ≡ counters_of file =
-    ap (map (λ text. text.now)) c.as_slice-3.ensures.value
+    let texts : map (λ text. text.now) c.as_slice-4.result.now ≡ counters_of name file =
+    ap (map (λ text. text.now)) c.as_slice-4.ensures.value ∙ c.in_ok-counters.ensures
+    ∙ ap (λ (ts : List (Bor (List ℕ))). texts_of name (map (λ text. text.now) ts)) c.as_slice.ensures.value
     ∙ sym
-    (held-dat (λ (contents : Contents). contents.counters) [] file (contents_seen c.in_ok-dat.dat) c.requires.dat
+    (held-dat (λ (contents : Contents). texts_of name contents.counters) [] file (contents_seen c.in_ok-dat.dat)
     c.in_ok-dat.ensures) in
     let formats =
-    held-dat (λ (contents : Contents). contents.formats) [] file (contents_seen c.in_ok-dat.dat) c.requires.dat
+    held-dat (λ (contents : Contents). contents.formats) [] file (contents_seen c.in_ok-dat.dat) c.in_ok-dat.ensures in
+    let others =
+    held-dat (λ (contents : Contents). names_of_others name contents.buffers) [] file (contents_seen c.in_ok-dat.dat)
     c.in_ok-dat.ensures in
-    let instances =
-    held-dat (λ (contents : Contents). count_instances contents.buffers) 0 file (contents_seen c.in_ok-dat.dat)
-    c.requires.dat c.in_ok-dat.ensures in
+    let found =
+    held-dat (λ (contents : Contents). has_named name contents.buffers) false file (contents_seen c.in_ok-dat.dat)
+    c.in_ok-dat.ensures in
     let read : AreCpusRead unknown was.parts c.as_mut_slice-cpus.result.now =
     subst (AreCpusRead unknown was.parts) (sym c.as_mut_slice-cpus.ensures.value)
     (as-read was.parts _ was.cpus_are) in
@@ -114,20 +124,23 @@ returns-clause-read c = λ page cpu files alone was.
     let long : length c.settle_by.new.cpus ≡ c.args.captured.now.cpus.len = grind (arith, common_steps) in
     written-back c.args.captured.now.cpus.len c.settle_by.new.cpus c.args.captured.now.cpus.items long
     (omega (arith, len))) in
-    file-added c.args.losses page files file own c.args.captured.now c.add_texts.new.captured c.add_parts.new.cpus alone
+    file-added c.args.losses page name files file own c.args.captured.now c.add_texts.new.captured
+    c.add_parts.new.cpus alone
     was is
     (subst (λ (ps : List CpuPart). AreCpusRead unknown (was.parts ++ map part_seen ps) c.add_parts.new.cpus)
-    c.as_slice.ensures.value
+    c.as_slice-2.ensures.value
     (c.in_ok-add_parts.ensures.read was.parts read))
     (λ kept. back ∙ (c.settle_by.ensures.kept kept).0)
     (λ settled.
-    subst (λ (cs : List CpuCapture). AreCpusCaptured (λ n. overrun_of n (counters_of file)) own cs) (sym back)
+    subst (λ (cs : List CpuCapture). AreCpusCaptured (λ n. overrun_of n (counters_of name file)) own cs) (sym back)
     (subst (λ (ts : List (List ℕ)). AreCpusCaptured (λ n. overrun_of n ts) own c.settle_by.new.cpus) texts
     (subst (λ (ps : List CpuPart).
-    AreCpusCaptured (λ n. overrun_of n (map (λ text. text.now) c.as_slice-3.result.now)) (map part_seen ps)
+    AreCpusCaptured (λ n. overrun_of n (map (λ text. text.now) c.as_slice-4.result.now)) (map part_seen ps)
     c.settle_by.new.cpus)
-    c.as_slice-2.ensures.value (c.in_ok-settle_by.ensures.settled settled))))
+    c.as_slice-3.ensures.value (c.in_ok-settle_by.ensures.settled settled))))
     (subst (λ (fs : List EventFormat). HasEvents c.add_texts.new.captured.names (all_formats files ++ fs)) (sym formats)
     (c.in_ok-add_texts.ensures.names (all_formats files) was.names_are))
-    (c.in_ok-add_texts.ensures.instances
-    ∙ ap (λ (n : ℕ). min (c.args.captured.now.instances + n) (2 ^ 64 - 1)) (sym instances))
+    (c.in_ok-add_texts.ensures.others
+    ∙ ap (λ (ns : List (List ℕ)). texts_held c.args.captured.now.others.items ++ ns) (sym others))
+    c.in_ok-add_texts.ensures.instances c.in_ok-add_texts.ensures.fits
+    (c.in_ok-add_texts.ensures.found ∙ ap (λ (b : Bool). c.args.captured.now.found || b) (sym found))

@@ -13,7 +13,7 @@ use Rattle.capture.proofs.files.inputs.read_raw.Goals as goal
 
 pub add_raw-requires-clause-cpu : goal.add_raw-requires-clause-cpu
 add_raw-requires-clause-cpu g c =
-    let was = c.requires.known.2 in
+    let was = c.requires.known.3 in
     let cpu : ℕ = c.args.cpu.0 in
     let items : List CpuCapture = c.args.captured.now.cpus.items in
     let found : CpuCapture = c.index_mut.result.now in
@@ -25,7 +25,7 @@ add_raw-requires-clause-cpu g c =
 
 pub add_raw-requires-clause-known : goal.add_raw-requires-clause-known
 add_raw-requires-clause-known g c =
-    let was = c.requires.known.2 in
+    let was = c.requires.known.3 in
     let cpu : ℕ = c.args.cpu.0 in
     let items : List CpuCapture = c.args.captured.now.cpus.items in
     let found : CpuCapture = c.index_mut.result.now in
@@ -36,7 +36,7 @@ add_raw-requires-clause-known g c =
     (cpu, parts_of_cpu cpu was.parts, own)
 
 pub returns-in_err-add_raw-clause-fault : goal.returns-in_err-add_raw-clause-fault
-returns-in_err-add_raw-clause-fault g c = λ losses files was.
+returns-in_err-add_raw-clause-fault g c = λ losses name files first_raw was.
     let cpu : ℕ = c.args.cpu.0 in
     let items : List CpuCapture = c.args.captured.now.cpus.items in
     let found : CpuCapture = c.index_mut.result.now in
@@ -46,24 +46,24 @@ returns-in_err-add_raw-clause-fault g c = λ losses files was.
     let own = (as-read was.parts items was.cpus_are).each cpu found here in
     let first : List ℕ = take c.args.filled c.args.piece.now in
     let p = err_from_is_err_and c.from_residual.result c.from_residual.ensures.1 in
-    rw (p.1, p.2) (raw-fault losses (length c.args.piece.now) cpu first _ _ _ files c.in_err-add_raw.field-0.0
+    rw (p.1, p.2) (raw-fault losses (length c.args.piece.now) name cpu first _ _ _ files c.in_err-add_raw.field-0.0
     (λ broken. c.add_raw.ensures.read_fault.1 (c.in_err-add_raw.was ∙ ap Err broken))
     (λ other.
     not-failed _ (λ failed. other (let e = sym c.in_err-add_raw.was ∙ c.add_raw.ensures.read_fault.0 failed in cc)))
     (λ numbers.
     let past = c.add_raw.ensures.past cpu (parts_of_cpu cpu was.parts) own (c.in_err-add_raw.was ∙ ap Err numbers) in
     let file : File = record { cpu = cpu; bytes = first ++ past.more } in
-    let raw : is_dat file.bytes ≡ false =
-    raw-more (length c.args.piece.now) first past.more c.requires.some past.rest.no_more c.requires.raw in (
+    let raw : is_dat name file.bytes ≡ false =
+    raw-more (length c.args.piece.now) name first past.more c.requires.some past.rest.no_more first_raw in (
       past.more,
       past.rest.taken,
-      raw-past losses (length c.args.piece.now) files file c.args.captured.now was raw
+      raw-past losses (length c.args.piece.now) name files file c.args.captured.now was raw
           (cpu-past unknown was.parts (record { cpu = cpu; size = length c.args.piece.now; bytes = file.bytes })
           past.past),
     )))
 
 pub returns-clause-read : goal.returns-clause-read
-returns-clause-read g c = λ losses files was.
+returns-clause-read g c = λ losses name files first_raw was.
     let cpu : ℕ = c.args.cpu.0 in
     let items : List CpuCapture = c.args.captured.now.cpus.items in
     let found : CpuCapture = c.index_mut.result.now in
@@ -75,12 +75,12 @@ returns-clause-read g c = λ losses files was.
     let adds = c.in_ok-add_raw.ensures.read cpu (parts_of_cpu cpu was.parts) own in
     let file : File = record { cpu = cpu; bytes = first ++ adds.more } in
     let part : ModelPart = record { cpu = cpu; size = length c.args.piece.now; bytes = file.bytes } in
-    let raw : is_dat file.bytes ≡ false =
-    raw-more (length c.args.piece.now) first adds.more c.requires.some adds.rest.no_more c.requires.raw in
+    let raw : is_dat name file.bytes ≡ false =
+    raw-more (length c.args.piece.now) name first adds.more c.requires.some adds.rest.no_more first_raw in
     record {
       more = adds.more;
       taken = adds.rest.taken;
-      added = raw-added losses (length c.args.piece.now) files file c.args.captured.now _ was raw
+      added = raw-added losses (length c.args.piece.now) name files file c.args.captured.now _ was raw
           (cpus-more unknown was.parts part items c.add_raw.new.found (as-read was.parts items was.cpus_are) adds.read)
-          refl refl;
+          refl refl refl refl;
     }

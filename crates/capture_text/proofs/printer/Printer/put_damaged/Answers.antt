@@ -1,7 +1,9 @@
-use Rattle.std.proofs.Common.{ap, ◌∙◌, List, flat_map}
+use Rattle.std.proofs.Common.{ap, ◌∙◌, List, Option, flat_map}
 use Rattle.capture.specs.Pages.{damages_from}
 use Rattle.capture.specs.declared.pages.Damaged.{Damaged}
-use Rattle.capture_text.specs.Printing.{reported_line}
+use Rattle.capture_text.specs.Window.{KnownBound}
+use Rattle.capture_text.specs.Listed.{listed_page}
+use Rattle.capture_text.specs.Printed.{bounds_of}
 use Rattle.text_values.proofs.Chains.{put_same}
 use Rattle.capture_text.proofs.Damages.{all_lines}
 use Rattle.capture_text.proofs.printer.Printer.put_damaged.Goals as goal
@@ -11,7 +13,10 @@ returns g c = λ pages is.
     let form = c.args.self.now.form in
     let parts = c.args.parts.now in
     let capture = c.args.capture.now in
+    let cpu = capture.cpu.0 in
+    let bound = bounds_of c.args.self.now cpu in
     put_same _ _
-    (ap (λ (more : List Damaged). flat_map (reported_line form parts capture.cpu.0) more) c.deref.ensures.value
-    ∙ all_lines form parts capture.cpu.0 capture.damaged.items (damages_from 0 0 pages) is.damaged_are)
+    (ap (λ (b : Option KnownBound). flat_map (listed_page form b parts cpu) c.deref.result.now) c.of-bound.ensures
+    ∙ ap (λ (more : List Damaged). flat_map (listed_page form bound parts cpu) more) c.deref.ensures.value
+    ∙ all_lines form bound parts cpu capture.damaged.items (damages_from 0 0 pages) is.damaged_are)
     c.put_damages.ensures

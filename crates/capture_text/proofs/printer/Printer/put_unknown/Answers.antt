@@ -1,6 +1,7 @@
-use Rattle.std.proofs.Common.{ap, ◌∙◌, List, ℕ}
+use Rattle.std.proofs.Common.{ap, ap₂, ◌∙◌, List, ℕ, Option}
 use Rattle.capture.specs.Captures.{numbers_of}
-use Rattle.capture_text.specs.Printing.{unknown_lines}
+use Rattle.capture_text.specs.Window.{KnownBound}
+use Rattle.capture_text.specs.Listed.{listed_losses}
 use Rattle.text_values.proofs.Chains.{put_same}
 use Rattle.capture_text.proofs.printer.Printer.put_unknown.Goals as goal
 
@@ -8,6 +9,6 @@ pub returns : goal.returns
 returns g c = λ pages is.
     let cpu = c.args.capture.now.cpu.0 in
     put_same _ _
-    (ap (λ (numbers : List ℕ). unknown_lines c.args.self.now.form cpu numbers)
-    (ap numbers_of c.deref.ensures.value ∙ is.unknown_are))
+    (ap₂ (λ (bound : Option KnownBound) (numbers : List ℕ). listed_losses c.args.self.now.form bound cpu numbers)
+    c.of-bound.ensures (ap numbers_of c.deref.ensures.value ∙ is.unknown_are))
     c.put_losses.ensures
