@@ -1,7 +1,7 @@
 """`tracering collect` on a capture of 128 MB, and `trace-cmd report -R` on the same records: time, and memory
 
 The pages are those of a kept file of trace-cmd, over and over, with times that go on. They lie in such a file, and raw
-in a file for each CPU.
+in a file for each CPU. Instructions are counted of a file of 4 MB, with names and with fields, and of the kept one.
 """
 
 import gzip
@@ -12,11 +12,15 @@ from lib.programs import TOP, Failure, tracering
 from oracles.image import reading
 from oracles.trace_dat import reading as dat_reading
 
-NEEDS = ("rt", "trace-cmd", "/usr/bin/time")
+NEEDS = ("rt", "trace-cmd", "/usr/bin/time", "valgrind")
 KEPT = TOP / "examples" / "captures" / "dat_lost" / "trace.dat.gz"
-CPUS, PAGE, CPU_BYTES, GAP = 2, 4096, 64 << 20, 1000
-# How often the rival's time ours may be at most, and the capture's size our memory.
-MOST_TIME, MOST_MEMORY = 1 / 3, 3
+CPUS, PAGE, CPU_BYTES, COUNTED_BYTES, GAP = 2, 4096, 64 << 20, 2 << 20, 1000
+# How often the rival's time ours may be at most, the capture's size our memory, and with fields the instructions that a
+# listing with names takes.
+MOST_TIME, MOST_MEMORY, MOST_FIELDS = 1 / 3, 3, 1.2
+
+# How a file of trace-cmd is listed, and the options for it.
+FORMS = {"": [], ", `--names`": ["--names"], ", `--fields`": ["--fields"]}
 
 
 def kept_pages(file, cpu):
@@ -54,6 +58,23 @@ def trace_dat(file, captures):
     return b"".join([file, *captures])
 
 
+def counted(path, file, length):
+    """The rows of instructions of a file of trace-cmd with so many pages of each CPU, or with its own ones."""
+    made = [capture(file, cpu, length) for cpu in range(CPUS)] if length else []
+    path.write_bytes(trace_dat(file, [pages for pages, _ in made]) if length else file)
+    lines = count.output([tracering(), "collect", path]).splitlines()
+    records = sum(line[:1].isdigit() for line in lines)
+    counts = {said: count.callgrind([tracering(), "collect", *words, path]) for said, words in FORMS.items()}
+    names, fields = counts[", `--names`"], counts[", `--fields`"]
+    if fields > MOST_FIELDS * names:
+        tables.OVER.append("with fields")
+    what = f"`trace.dat` of {length * PAGE * CPUS >> 20} MB" if length else "the kept `trace.dat`"
+    for said, instructions in counts.items():
+        ratio = f"{instructions / names:.2f}"
+        limit = MOST_FIELDS if instructions == fields else ""
+        yield tables.line([f"{what}{said}", f"{instructions / records:,.0f}", ratio, limit])
+
+
 def run(folder):
     file = gzip.decompress(KEPT.read_bytes())
     made = [capture(file, cpu) for cpu in range(CPUS)]
@@ -71,7 +92,7 @@ def run(folder):
     yield ""
     yield from tables.head("What", "Seconds", "of the rival's", "Limit", "Memory", "of the capture's size", "Limit")
     rows = {"raw": raw, "raw, `--json`": ["--json", *raw]}
-    rows |= {"`trace.dat`": [dat], "`trace.dat`, `--names`": ["--names", dat]}
+    rows |= {f"`trace.dat`{said}": [*words, dat] for said, words in FORMS.items()}
     for name, words in rows.items():
         seconds, memory = count.timed([*ours, *words], sink)
         listed = sum(line[:1] in b"01{" for line in sink.open("rb"))
@@ -83,3 +104,9 @@ def run(folder):
         yield tables.line([name, *cells, f"{memory / 2**20:,.0f}", f"{memory / size:.2f}", MOST_MEMORY])
     memory = f"{rival[1] / 2**20:,.0f}", f"{rival[1] / size:.2f}"
     yield tables.line(["`trace-cmd report -R`", f"{rival[0]:.2f}", "", "", *memory, ""])
+    yield ""
+    yield "Instructions for a record, with all that is read and done once."
+    yield ""
+    yield from tables.head("What", "Instructions", "of those with names", "Limit")
+    for length in COUNTED_BYTES // PAGE, 0:
+        yield from counted(folder / "counted.dat", file, length)

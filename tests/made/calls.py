@@ -9,7 +9,7 @@ from pathlib import Path
 
 TOP = Path(__file__).resolve().parents[2]
 EXAMPLES = TOP / "examples"
-FOLDERS = (EXAMPLES, EXAMPLES / "kernel_pages", EXAMPLES / "streams", EXAMPLES / "recover")
+FOLDERS = (EXAMPLES, *(EXAMPLES / name for name in ("kernel_pages", "fields", "streams", "recover")))
 FAULT = re.compile(rb"(line \d+|image): ")
 ESCAPES = {b"n": b"\n", b"r": b"\r", b"t": b"\t", b"\\": b"\\", b"\"": b"\""}
 ESCAPE = re.compile(rb"\\(?:x(..)|(.))", re.DOTALL)
@@ -152,7 +152,7 @@ class Table:
     def take_answer(self, mark, rest, line):
         """A line below a call."""
         if mark == "!":
-            self.open.errors = f"{rest}\n".encode()
+            self.open.errors += f"{rest}\n".encode()
         elif mark == "=":
             self.open.status = int(rest)
         elif mark == ">":

@@ -2,18 +2,28 @@
 
 Raw pages are made word by word, of one CPU and of several, in one file and in several; captures of a running kernel
 have bytes changed and are cut; files of trace-cmd have numbers changed, and ranges that lie anywhere. They are listed
-as text and as JSON, with and without names.
+as text and as JSON, with names, with fields, and without.
 """
 
+import re
 import struct
 import subprocess
 from pathlib import Path
 
 from made.cases import SECONDS
 from made.texts import CAPTURES, data_of
-from oracles.collect import collected
+from oracles.collect import Collected
 
-FORMATS = [(b"ftrace", b"print", 5), (b"sched", b"sched_switch", 314), (b"odd", b'a"b\\c \x80', 7)]
+# Events with the lines of their formats; that of the last one has no fields that are known.
+MARKER = b"\tfield:unsigned long ip;\toffset:8;\tsize:8;\tsigned:0;\n\tfield:char buf[];\toffset:16;\tsize:0;\tsigned:1;\n"
+SWITCH = b"\tfield:char comm[4];\toffset:8;\tsize:4;\tsigned:1;\n\tfield:long state;\toffset:12;\tsize:8;\tsigned:1;\n"
+FORMATS = [
+    (b"ftrace", b"print", 5, MARKER),
+    (b"sched", b"sched_switch", 314, SWITCH),
+    (b"odd", b'a"b\\c \x80', 7, b"\tfield:int x;\n"),
+]
+# What is said of fields on standard error.
+OF_FIELDS = re.compile(rb"tracering: (the format of .* is malformed at byte \d+|records with a field .*)$")
 
 
 def kept_captures():
@@ -146,8 +156,9 @@ class Case:
         self.words, self.input, files = ["collect"], b"", []
         if size != 4096 or chance.random() < 0.2:
             self.words += ["--page", str(size)]
-        json, names, formats = (chance.random() < 0.5 for _ in range(3))
-        self.words += ["--json"] * json + ["--names"] * names + ["--formats", str(folder / "events")] * formats
+        json, names, formats, fields = (chance.random() < likely for likely in (0.5, 0.5, 0.5, 0.3))
+        self.words += ["--json"] * json + ["--names"] * names + ["--fields"] * fields
+        self.words += ["--formats", str(folder / "events")] * formats
         stdin = chance.choice([None, None, 0])
         for position, data in enumerate(made):
             cpu = chance.choice([None, None, 0, 7, 255])
@@ -157,20 +168,21 @@ class Case:
             word = "-" if position == stdin else str(path)
             self.words.append(word if cpu is None else f"{cpu}={word}")
             files.append((position if cpu is None else cpu, data))
-        given = [(system, b"name: %s\nID: %d\n" % (name, kind)) for system, name, kind in FORMATS] if formats else ()
-        self.wanted = collected(files, size, json, names or formats, given)
+        given = [(system, text_of(*event)) for system, *event in FORMATS] if formats else ()
+        self.wanted = Collected(files, size, json, names or formats, given, fields)
 
     def differs(self, program):
         """How the program differs from the plain one, or nothing."""
         command = [program, *self.words]
         ran = subprocess.run(command, input=self.input, capture_output=True, timeout=SECONDS, check=False)
-        if (ran.returncode, ran.stdout) == self.wanted:
+        said = b"".join(line for line in ran.stderr.splitlines(keepends=True) if OF_FIELDS.match(line))
+        if (ran.returncode, ran.stdout, said) == (self.wanted.status, self.wanted.output, self.wanted.errors):
             return None
         found = ran.returncode, ran.stdout, ran.stderr
-        return f"{' '.join(self.words)}: {found}, wanted {self.wanted[0]}"
+        return f"{' '.join(self.words)}: {found}, wanted {self.wanted.status} {self.wanted.errors}"
 
     def kinds(self):
-        first = {line.split(b" ")[0].decode() for line in self.wanted[1].splitlines() if b"{" not in line[:1]}
+        first = {line.split(b" ")[0].decode() for line in self.wanted.output.splitlines() if b"{" not in line[:1]}
         return {"records" if word.isdigit() else word for word in first}
 
     def keep(self, folder):
@@ -179,12 +191,17 @@ class Case:
             file = Path(word.partition("=")[2] or word)
             if file.is_file():
                 (folder / file.name).write_bytes(file.read_bytes())
-        (folder / "wanted").write_bytes(self.wanted[1])
+        (folder / "wanted").write_bytes(self.wanted.output)
+
+
+def text_of(name, kind, lines):
+    """The text of an event's format."""
+    return b"name: %s\nID: %d\nformat:\n%s\nprint fmt: \"\"\n" % (name, kind, lines)
 
 
 def write_formats(folder):
     """Writes the formats of the events that are made, to the folder that `Case` names."""
-    for system, name, kind in FORMATS:
+    for system, name, kind, lines in FORMATS:
         event = folder / "events" / system.decode() / f"event{kind}"
         event.mkdir(parents=True)
-        (event / "format").write_bytes(b"name: %s\nID: %d\n" % (name, kind))
+        (event / "format").write_bytes(text_of(name, kind, lines))

@@ -111,7 +111,7 @@ def formats():
 
 
 def listed(files, **how):
-    return collect.collected(files, formats=formats(), **how)[1].decode()
+    return collect.Collected(files, formats=formats(), **how).output.decode()
 
 
 def captured(names=True, json=False):

@@ -1,10 +1,10 @@
 """A plain `collect`, to compare with the program's: it works out from the bytes of captures what
-docs/formats/program.md says is printed of them, in "Captures".
+docs/formats/program.md says is printed of them, in "Captures" and "Fields".
 """
 
 import struct
 
-from oracles import trace_dat
+from oracles import fields, trace_dat
 from oracles.image import MOST, Fault, missed_before, records
 
 MAGIC = b"\x17\x08Dtracing"
@@ -171,14 +171,30 @@ def read_files(files, page):
 # ---- texts
 
 
+class Format:
+    """What the last format of an event's number says: its system and its name, and its fields, or at which offset it is
+    malformed."""
+
+    def __init__(self, system, name, text):
+        self.system, self.name, self.fields, self.malformed = system, name, None, None
+        try:
+            self.fields = fields.fields_of(text)
+        except fields.Malformed as malformed:
+            [self.malformed] = malformed.args
+
+    def shown(self):
+        return f"{shown(self.system)}:{shown(self.name)}"
+
+
 def events_of(formats):
+    """What is known of events, by their numbers."""
     events = {}
     for system, text in formats:
         kind = trace_dat.number(trace_dat.value(text, b"ID: "), 1 << 16)
         name = trace_dat.value(text, b"name: ")
         if kind is not None and name is not None:
-            events[kind] = system, name
-    return events
+            events[kind] = system, name, text
+    return {kind: Format(*events[kind]) for kind in sorted(events)}
 
 
 def shown(name):
@@ -204,51 +220,89 @@ def quoted(text):
 
 
 class Event:
-    """The event of a record, with its process, and its text if it is a marker."""
+    """The event of a record, with its process, and its text if it is a marker; or with the values of its fields."""
 
-    def __init__(self, data, events):
-        self.pid = self.name = self.text = None
+    def __init__(self, data, events, has_fields):
+        self.pid = self.name = self.text = self.values = None
         if len(data) >= 8:
             kind, self.pid = struct.unpack_from("<H2xi", data)
             found = events.get(kind)
-            self.name = ":".join(map(shown, found)) if found else kind
-            if found == (b"ftrace", b"print"):
+            self.name = found.shown() if found else kind
+            if has_fields:
+                self.values = fields.Values(found.fields, data) if found and found.fields is not None else None
+            elif found and (found.system, found.name) == (b"ftrace", b"print"):
                 self.text = quoted(data[16:].split(b"\0")[0])
 
-
-def text_line(record, events):
-    moment, cpu, number, data = record
-    words = [b"%d %d %d" % (cpu, number, moment)]
-    if events is not None:
-        event = Event(data, events)
-        words.append(b"- -" if event.pid is None else f"{event.pid} {event.name}".encode())
-        words += [event.text] if event.text is not None else []
-    return b" ".join([*words, data.hex().encode() or b"-"]) + b"\n"
+    def is_whole(self):
+        """Whether all that its fields say is there."""
+        return self.values is not None and self.values.is_whole()
 
 
-def json_line(record, events):
-    moment, cpu, number, data = record
-    keys = b'"cpu":%d,"number":%d,"time":%d,' % (cpu, number, moment)
-    if events is not None:
-        event = Event(data, events)
-        if event.pid is not None:
-            name = event.name if isinstance(event.name, int) else f'"{event.name}"'
-            keys += f'"pid":{event.pid},"event":{name},'.encode()
-        if event.text is not None:
-            keys += b'"text":' + event.text + b","
-    return b"{" + keys + b'"data":"' + data.hex().encode() + b'"}\n'
+class Lines:
+    """How records are listed: as text or JSON, with names or fields by these events, or without."""
+
+    def __init__(self, json, events, has_fields):
+        self.of = self.json_line if json else self.text_line
+        self.events, self.has_fields = events, has_fields
+        # Of how many records not all fields were there.
+        self.cut = 0
+
+    def event(self, data):
+        event = Event(data, self.events or {}, self.has_fields)
+        self.cut += event.values is not None and not event.is_whole()
+        return event
+
+    def text_line(self, record):
+        moment, cpu, number, data = record
+        words, payload = [b"%d %d %d" % (cpu, number, moment)], [data.hex().encode() or b"-"]
+        if self.events is not None:
+            event = self.event(data)
+            words.append(b"- -" if event.pid is None else f"{event.pid} {event.name}".encode())
+            words += [event.text] if event.text is not None else []
+            words += event.values.text(quoted) if event.values else []
+            payload = [] if event.is_whole() else payload
+        return b" ".join([*words, *payload]) + b"\n"
+
+    def json_line(self, record):
+        moment, cpu, number, data = record
+        keys = [b'"cpu":%d,"number":%d,"time":%d' % (cpu, number, moment)]
+        payload = [b'"data":"%s"' % data.hex().encode()]
+        if self.events is not None:
+            event = self.event(data)
+            if event.pid is not None:
+                name = event.name if isinstance(event.name, int) else f'"{event.name}"'
+                keys.append(f'"pid":{event.pid},"event":{name}'.encode())
+            keys += [b'"text":' + event.text] if event.text is not None else []
+            keys += event.values.json(quoted) if event.values else []
+            payload = [] if event.is_whole() else payload
+        return b"{" + b",".join([*keys, *payload]) + b"}\n"
 
 
-def collected(files, page=4096, json=False, names=False, formats=()):
-    """The exit status and the output for files, each with the CPU that it is of if it is raw."""
-    try:
-        cpus, found = read_files(files, page)
-    except Refused as refused:
-        return 1, f"{refused}\n".encode()
-    events = events_of([*found, *formats]) if names else None
-    order = [cpus[number] for number in sorted(cpus)]
-    line = json_line if json else text_line
-    out = [line(record, events) for record in sorted(record for cpu in order for record in cpu.records)]
+class Collected:
+    """What is listed of files, each with the CPU that it is of if it is raw: the exit status, the output, and what is
+    said of fields on standard error."""
+
+    def __init__(self, files, page=4096, json=False, names=False, formats=(), has_fields=False):
+        self.status, self.output, self.errors = 1, b"", b""
+        try:
+            cpus, found = read_files(files, page)
+        except Refused as refused:
+            self.output = f"{refused}\n".encode()
+            return
+        events = events_of([*found, *formats]) if names or has_fields else None
+        order = [cpus[number] for number in sorted(cpus)]
+        lines = Lines(json, events, has_fields)
+        self.output = b"".join(lines.of(record) for record in sorted(each for cpu in order for each in cpu.records))
+        self.output += lines_below(order, json)
+        said = [f"the format of {event.shown()} is malformed at byte {event.malformed}" for event in
+                (events if has_fields else {}).values() if event.malformed is not None]
+        said += [f"records with a field that is not whole: {lines.cut}"] * bool(lines.cut)
+        self.errors = "".join(f"tracering: {each}\n" for each in said).encode()
+        self.status = int(bool(said) or any(cpu.damaged for cpu in order))
+
+
+def lines_below(order, json):
+    """The lines of what is missing, unknown and damaged."""
     kinds = {
         "missing": ('{"cpu":%d,"missing":[%d,%d]}' if json else "missing %d %d-%d"),
         "unknown": ('{"cpu":%d,"unknown":%d}' if json else "unknown %d %d"),
@@ -259,5 +313,4 @@ def collected(files, page=4096, json=False, names=False, formats=()):
     rows = [("missing", run) for cpu in order for run in ((cpu.cpu, *run) for run in cpu.runs())]
     rows += [("unknown", (cpu.cpu, number)) for cpu in order for number in cpu.unknown]
     rows += [("damaged", (cpu.cpu, *page)) for cpu in order for page in cpu.damaged]
-    out += [(kinds[kind] % row).encode() + b"\n" for kind, row in rows]
-    return int(any(cpu.damaged for cpu in order)), b"".join(out)
+    return b"".join((kinds[kind] % row).encode() + b"\n" for kind, row in rows)
