@@ -11,7 +11,7 @@ pub mod laws;
 mod line;
 mod list;
 mod numbers;
-mod texts;
+pub mod texts;
 mod types;
 mod value;
 
