@@ -1,0 +1,4 @@
+pub mod TaskLines
+pub mod SymbolPlaces
+pub mod SymbolText
+pub mod SymbolLines

@@ -1,0 +1,4 @@
+pub mod Digits
+pub mod Symbols
+pub mod SymbolNames
+pub mod Tasks
