@@ -20,4 +20,5 @@ pub use field::{Field, Kind, Layout, NumberKind, NumberSize, Place};
 pub use list::Numbers;
 pub use numbers::FieldNumber;
 pub use texts::before_zero;
+pub use types::type_size;
 pub use value::{Value, value_of};

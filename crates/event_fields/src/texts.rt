@@ -31,7 +31,7 @@ pub fn before<'a>(text: &'a [u8], end: &[u8]) -> Option<&'a [u8]>
 }
 
 /// The position of the first of this byte.
-fn position_of(text: &[u8], byte: u8) -> Option<usize>
+pub fn position_of(text: &[u8], byte: u8) -> Option<usize>
     ensures place { result ≡ position (λ b. b == byte) text.now }
     ensures within { IfSome result (λ at. at < length text.now) }
 {
@@ -83,7 +83,7 @@ pub fn cut_at_last_space(text: &[u8]) -> (&[u8], &[u8])
 }
 
 /// Whether this is a letter, a digit or `_`.
-fn is_name_byte(byte: u8) -> bool
+pub fn is_name_byte(byte: u8) -> bool
     ensures { result ≡ is_name_byte byte }
 {
     byte.is_ascii_alphabetic() || byte.is_ascii_digit() || byte == b'_'
