@@ -12,7 +12,7 @@ mod line;
 mod list;
 mod malformed;
 mod numbers;
-mod texts;
+pub mod texts;
 mod types;
 mod value;
 
@@ -22,4 +22,5 @@ pub use list::Numbers;
 pub use malformed::{MalformedEvent, malformed_events};
 pub use numbers::FieldNumber;
 pub use texts::before_zero;
+pub use types::type_size;
 pub use value::{Value, value_of};

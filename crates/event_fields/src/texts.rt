@@ -10,7 +10,7 @@ use trace_dat::kernel_texts::number_of;
 
 /// What is after a front, if the text begins with it.
 #[tactic(auto, unfolding(crate::specs::Texts::after))]
-pub(crate) fn after<'a>(text: &'a [u8], front: &[u8]) -> Option<&'a [u8]>
+pub fn after<'a>(text: &'a [u8], front: &[u8]) -> Option<&'a [u8]>
     ensures { option_map (λ found. found.now) result ≡ after front.now text.now }
 {
     if !text.starts_with(front) {
@@ -21,7 +21,7 @@ pub(crate) fn after<'a>(text: &'a [u8], front: &[u8]) -> Option<&'a [u8]>
 
 /// What is before an end, if the text ends with it.
 #[tactic(auto, unfolding(crate::specs::Texts::before))]
-pub(crate) fn before<'a>(text: &'a [u8], end: &[u8]) -> Option<&'a [u8]>
+pub fn before<'a>(text: &'a [u8], end: &[u8]) -> Option<&'a [u8]>
     ensures { option_map (λ found. found.now) result ≡ before end.now text.now }
 {
     if !text.ends_with(end) {
@@ -31,7 +31,7 @@ pub(crate) fn before<'a>(text: &'a [u8], end: &[u8]) -> Option<&'a [u8]>
 }
 
 /// The position of the first of this byte.
-fn position_of(text: &[u8], byte: u8) -> Option<usize>
+pub fn position_of(text: &[u8], byte: u8) -> Option<usize>
     ensures place { result ≡ position (λ b. b == byte) text.now }
     ensures within { IfSome result (λ at. at < length text.now) }
 {
@@ -40,7 +40,7 @@ fn position_of(text: &[u8], byte: u8) -> Option<usize>
 
 /// What is before the first of this byte, and what is after it.
 #[tactic(auto, unfolding(crate::specs::Texts::cut_at))]
-pub(crate) fn cut_at(text: &[u8], byte: u8) -> Option<(&[u8], &[u8])>
+pub fn cut_at(text: &[u8], byte: u8) -> Option<(&[u8], &[u8])>
     ensures { option_map (λ parts. (parts.0.now, parts.1.now)) result ≡ cut_at byte text.now }
 {
     match position_of(text, byte) {
@@ -50,7 +50,7 @@ pub(crate) fn cut_at(text: &[u8], byte: u8) -> Option<(&[u8], &[u8])>
 }
 
 /// The first part of a text, which ends before the first of this byte, and what is after that byte, if it is there.
-pub(crate) fn part_cut(text: &[u8], byte: u8) -> (&[u8], Option<&[u8]>)
+pub fn part_cut(text: &[u8], byte: u8) -> (&[u8], Option<&[u8]>)
     ensures parts { MatchOption result.1
         (parts_of byte text.now ≡ result.0.now ∷ [])
         (λ rest. parts_of byte text.now ≡ result.0.now ∷ parts_of byte rest.now) }
@@ -74,7 +74,7 @@ fn last_start(text: &[u8]) -> usize
 }
 
 /// What is before the last space, and what is after it: nothing, and all of the text, if there is none.
-pub(crate) fn cut_at_last_space(text: &[u8]) -> (&[u8], &[u8])
+pub fn cut_at_last_space(text: &[u8]) -> (&[u8], &[u8])
     ensures front { result.0.now ≡ front_of text.now }
     ensures last { result.1.now ≡ last_of text.now }
 {
@@ -83,7 +83,7 @@ pub(crate) fn cut_at_last_space(text: &[u8]) -> (&[u8], &[u8])
 }
 
 /// Whether this is a letter, a digit or `_`.
-fn is_name_byte(byte: u8) -> bool
+pub fn is_name_byte(byte: u8) -> bool
     ensures { result ≡ is_name_byte byte }
 {
     byte.is_ascii_alphabetic() || byte.is_ascii_digit() || byte == b'_'
@@ -102,7 +102,7 @@ fn are_name_bytes(text: &[u8]) -> bool
 }
 
 /// Whether a text is a name.
-pub(crate) fn is_name(text: &[u8]) -> bool
+pub fn is_name(text: &[u8]) -> bool
     ensures { result ≡ is_name text.now }
 {
     match text {
@@ -112,7 +112,7 @@ pub(crate) fn is_name(text: &[u8]) -> bool
 }
 
 /// Whether a text has neither `[` nor `]`.
-pub(crate) fn has_no_bracket(text: &[u8]) -> bool
+pub fn has_no_bracket(text: &[u8]) -> bool
     ensures { result ≡ has_no_bracket text.now }
 {
     for byte in text {
@@ -125,7 +125,7 @@ pub(crate) fn has_no_bracket(text: &[u8]) -> bool
 
 /// The number that a text spells, if it fits 32 bits.
 #[tactic(auto, unfolding(crate::specs::Texts::number32_in))]
-pub(crate) fn number32_of(text: &[u8]) -> Option<u32>
+pub fn number32_of(text: &[u8]) -> Option<u32>
     ensures { result ≡ number32_in text.now }
 {
     let number = number_of(text)?;

@@ -137,7 +137,7 @@ fn is_eight_byte_type(text: &[u8]) -> bool
 
 /// The size of an element of a type, if it is known.
 #[tactic(auto, unfolding(crate::specs::Types::type_size))]
-pub(crate) fn type_size(text: &[u8]) -> Option<NumberSize>
+pub fn type_size(text: &[u8]) -> Option<NumberSize>
     ensures { result ≡ type_size text.now }
 {
     if is_pointer(text) || is_eight_byte_type(text) {

@@ -1,0 +1,7 @@
+pub mod TaskLines
+pub mod SymbolPlaces
+pub mod SymbolText
+pub mod SymbolLines
+pub mod PartLemmas
+pub mod EntryLemmas
+pub mod TableLemmas

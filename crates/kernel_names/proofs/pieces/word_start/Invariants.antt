@@ -1,0 +1,13 @@
+use Rattle.std.proofs.Common.{◌≡◌, ◌+◌, ◌≤◌, length, take}
+use Rattle.std.specs.List.{suffix_len}
+use Rattle.event_fields.specs.Texts.{is_name_byte}
+use Rattle.kernel_names.proofs.pieces.word_start.Given as goal
+
+abbrev pub invariant-loop-start : goal.invariant-loop-start
+invariant-loop-start l = record {
+  within : l.start ≤ length l.text;
+  passed : l.start + suffix_len is_name_byte l.text ≡ length l.text + suffix_len is_name_byte (take l.start l.text);
+}
+
+abbrev pub decreases-loop-start : goal.decreases-loop-start
+decreases-loop-start l = l.start

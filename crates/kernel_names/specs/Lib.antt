@@ -1,0 +1,9 @@
+pub mod Calls
+pub mod Constants
+pub mod Digits
+pub mod Entries
+pub mod FieldTables
+pub mod Pieces
+pub mod Symbols
+pub mod SymbolNames
+pub mod Tasks
