@@ -104,6 +104,21 @@ class Cpu:
 # ---- files
 
 
+def resembles_dat(file):
+    """Whether at most one of a file's first ten bytes isn't that of a file of trace-cmd."""
+    return sum(file[at : at + 1] != MAGIC[at : at + 1] for at in range(len(MAGIC))) < 2
+
+
+def main_texts(texts):
+    """Of texts of counters those of the main buffer: the text before an instance's counters names it."""
+    buffer = b""
+    for text in texts:
+        named = trace_dat.value(text, b"Buffer: ")
+        buffer = buffer if named is None else named
+        if not buffer:
+            yield text
+
+
 def dat_parts(file):
     """The parts of the main buffer of a file of trace-cmd, its formats, and its counters by CPU."""
     try:
@@ -123,7 +138,7 @@ def dat_parts(file):
     if sum(len(pages) for _, _, pages in parts) > len(file):
         raise Refused("trace.dat: Overlap")
     counters = {}
-    for text in texts:
+    for text in main_texts(texts):
         cpu = trace_dat.number(trace_dat.value(text, b"CPU: "), NUMBERS)
         overrun = trace_dat.number(trace_dat.value(text, b"overrun: "), NUMBERS)
         if None not in (cpu, overrun):
@@ -151,7 +166,7 @@ def read_files(files, page):
     cpus, formats = {}, []
     for cpu, file in files:
         parts, counters = [(cpu, page, file)], {}
-        if file.startswith(MAGIC):
+        if resembles_dat(file):
             parts, found, counters = dat_parts(file)
             formats += found
         if len(files) > 1:

@@ -7,4 +7,5 @@ pub mod Printing
 pub mod Selection
 pub mod Window
 pub mod Listed
+pub mod ListedLaws
 pub mod Printed
