@@ -1,6 +1,6 @@
 -- Which records of a collection are listed.
-use Rattle.std.specs.Prelude.{ℕ, ℤ, ◌-◌, ◌^◌, Bool, true, false, ◌&&◌, nat_le, List, Option, Some, None, option_map, is_none}
-use Rattle.std.specs.Prelude.{slice_index_or}
+use Rattle.std.specs.Prelude.{ℕ, ℤ, ◌-◌, ◌^◌, Bool, true, false, ◌&&◌, nat_le, List, Option, Some, None}
+use Rattle.std.specs.Prelude.{option_map, is_none, slice_index_or}
 use Rattle.std.specs.List.{list_any}
 use Rattle.std.specs.Ordering.{int_eq}
 use Rattle.trace_model.specs.Listing.{Line}

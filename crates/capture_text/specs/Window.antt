@@ -16,8 +16,8 @@ abbrev pub earlier : Option ℕ → ℕ → Option ℕ
 earlier None number = Some number
 earlier (Some known) number = Some (min known number)
 
--- what is known of a CPU: the greatest number of a record before the moments that are listed, and the smallest number of
--- one after them
+-- what is known of a CPU: the greatest number of a record before the moments that are listed, and the smallest number
+-- of one after them
 pub record KnownBound : Type 0 where
   pub before : Option ℕ
   pub after : Option ℕ

@@ -48,7 +48,8 @@ impl Printer<'_> {
     /// Prints a line for each loss of a capture whose number isn't known, if it is listed.
     pub fn put_unknown<W: Sink>(&self, out: &mut Out<'_, W>, capture: &Capture)
         ensures { (pages : List Page) → IsCapture capture.now pages →
-            Puts (listed_losses self.now.form (bounds_of self.now capture.now.cpu.0) capture.now.cpu.0 (unknown_from 0 pages)) out.old out.new }
+            Puts (listed_losses self.now.form (bounds_of self.now capture.now.cpu.0) capture.now.cpu.0
+            (unknown_from 0 pages)) out.old out.new }
     {
         let bound = self.window.of(&self.selection, capture.cpu);
         put_losses(out, self.form, bound, capture.cpu, &capture.unknown);
@@ -58,7 +59,8 @@ impl Printer<'_> {
     /// the other.
     pub fn put_damaged<W: Sink>(&self, out: &mut Out<'_, W>, capture: &Capture, parts: &[Part])
         ensures { (pages : List Page) → IsCapture capture.now pages →
-            Puts (listed_damages self.now.form (bounds_of self.now capture.now.cpu.0) parts.now capture.now.cpu.0 (damages_from 0 0 pages)) out.old out.new }
+            Puts (listed_damages self.now.form (bounds_of self.now capture.now.cpu.0) parts.now capture.now.cpu.0
+            (damages_from 0 0 pages)) out.old out.new }
     {
         let bound = self.window.of(&self.selection, capture.cpu);
         put_damages(out, self.form, bound, capture.cpu, &capture.damaged, parts);

@@ -45,7 +45,8 @@ impl Selection<'_> {
     ghost use Rattle.std.specs.Prelude.{◌≡◌};
     ghost use Rattle.time_merge.specs.Lines.{line_seen};
     ghost use Rattle.trace_dat.specs.kernel_texts.FirstBytes.{common_fields_in};
-    ghost use Rattle.capture_text.specs.Selection.{is_marked, all_selected, selection_seen, has_moment, has_writer, is_selected};
+    ghost use Rattle.capture_text.specs.Selection.{is_marked, all_selected, selection_seen};
+    ghost use Rattle.capture_text.specs.Selection.{has_moment, has_writer, is_selected};
 
     /// All records.
     pub const fn all() -> Selection<'static>

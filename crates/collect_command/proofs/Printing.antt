@@ -1,5 +1,6 @@
 -- What a printer prints, one text after the other.
-use Rattle.std.proofs.Common.{◌≡◌, ℕ, zero, suc, ◌+◌, ◌-◌, ◌^◌, ◌<◌, min, Bool, true, false, true≢false, ◌&&◌, ◌==◌, ◌↔◌, List, [], ◌∷◌}
+use Rattle.std.proofs.Common.{◌≡◌, ℕ, zero, suc, ◌+◌, ◌-◌, ◌^◌, ◌<◌, min, Bool, true, false, true≢false}
+use Rattle.std.proofs.Common.{◌&&◌, ◌==◌, ◌↔◌, List, [], ◌∷◌}
 use Rattle.std.proofs.Common.{◌++◌, length, flat_map, map, append_assoc, append-nil, Option, Some, Result, Ok, Err}
 use Rattle.std.proofs.Common.{OnOk, OnErr, IsErr, refl, sym, ap, ap₂, ◌∙◌, subst, arith}
 use Rattle.std.specs.Prelude.{cond, count_by, fold}
@@ -62,7 +63,8 @@ module _ {W : Type 0} {g : Ghosts W} where
       → Puts (flat_map (listed_line p.0.form detail (selection_seen p.0.selection)) lines) p.1 q.1
   walked detail [] p q is same = subst (λ (z : Printer × Out W g). Puts [] p.1 z.1) same (put_none p.1)
   walked detail (line ∷ lines) p q is (mid, first, rest) =
-      let others = walked detail lines mid q (subst (λ (n : Naming). IsDetail n detail) (sym first.same_naming) is) rest in
+      let others = walked detail lines mid q
+      (subst (λ (n : Naming). IsDetail n detail) (sym first.same_naming) is) rest in
       let formed : Puts (flat_map (listed_line p.0.form detail (selection_seen mid.0.selection)) lines) mid.1 q.1 =
       subst (λ (f : Form). Puts (flat_map (listed_line f detail (selection_seen mid.0.selection)) lines) mid.1 q.1)
       first.same_form others in

@@ -103,8 +103,8 @@ pub struct Collected {
     pub listed: Listed,
     /// Whether an instance was asked for that no file has.
     pub is_missing: bool,
-    /// The names of the instances that the files have and that aren't listed, one for each: trace buffers beside the one
-    /// that is listed. There are none if a file can't be read.
+    /// The names of the instances that the files have and that aren't listed, one for each: trace buffers beside the
+    /// one that is listed. There are none if a file can't be read.
     pub others: Vec<Vec<u8>>,
 }
 

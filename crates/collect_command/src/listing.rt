@@ -76,8 +76,8 @@ fn ending_of(is_written: bool, is_intact: bool) -> Ending
     }
 }
 
-/// Prints what captures have and miss, as far as it is selected, in this form, with what the naming says of each record's
-/// event; these are the events whose formats are malformed. If memory is refused, nothing is written.
+/// Prints what captures have and miss, as far as it is selected, in this form, with what the naming says of each
+/// record's event; these are the events whose formats are malformed. If memory is refused, nothing is written.
 pub(crate) fn print_listing<W: Sink>(
     alloc: Global,
     form: Form,

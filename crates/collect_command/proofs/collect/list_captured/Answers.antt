@@ -10,7 +10,8 @@ use Rattle.collect_command.proofs.collect.list_captured.Goals as goal
 pub print_captured-requires-clause-read : goal.print_captured-requires-clause-read
 print_captured-requires-clause-read g c =
     let (files, captured) = c.requires.read in
-    let all = pages_captured (overrun_in c.args.collecting.now.buffer.now files) captured.parts c.args.captured.now.cpus.items captured.cpus_are in
+    let all = pages_captured (overrun_in c.args.collecting.now.buffer.now files) captured.parts
+    c.args.captured.now.cpus.items captured.cpus_are in
     let read = subst (λ (cpus : List CpuCapture). AreReadFrom captured.parts 0 cpus all.captures)
     (sym c.deref.ensures.value) all.read in
     (captured.parts, all.captures, read)
@@ -18,7 +19,8 @@ print_captured-requires-clause-read g c =
 pub returns-clause-listed : goal.returns-clause-listed
 returns-clause-listed g c files captured =
     let parts = captured.parts in
-    let all = pages_captured (overrun_in c.args.collecting.now.buffer.now files) parts c.args.captured.now.cpus.items captured.cpus_are in
+    let all = pages_captured (overrun_in c.args.collecting.now.buffer.now files) parts
+    c.args.captured.now.cpus.items captured.cpus_are in
     let names = c.in_ok-add.ensures.added (all_formats files) captured.names_are in
     let read = subst (λ (cpus : List CpuCapture). AreReadFrom parts 0 cpus all.captures)
     (sym c.deref.ensures.value) all.read in

@@ -13,7 +13,8 @@ use Rattle.collect_command.proofs.listing.print_unknown.Goals as goal
 
 pub loop-found-init : goal.loop-found-init
 loop-found-init g c = λ parts captures read.
-    put_same _ _ (sym (ap (all_unknown c.args.printer.now.form (bounds_of c.args.printer.now) 0) (none_read parts 0 captures read)))
+    put_same _ _ (sym (ap (all_unknown c.args.printer.now.form (bounds_of c.args.printer.now) 0)
+    (none_read parts 0 captures read)))
     (put_none c.args.out.now)
 
 pub loop-found-preserved : goal.loop-found-preserved
