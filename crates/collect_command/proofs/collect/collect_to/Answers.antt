@@ -1,4 +1,4 @@
-use Rattle.std.proofs.Common.{ℕ, List, Vec, Bool, inl, ap, ◌∙◌}
+use Rattle.std.proofs.Common.{Bool, inl, ap, ◌∙◌}
 use Rattle.capture.specs.files.Captures.{texts_held}
 use Rattle.collect_command.specs.Runs.{is_missing}
 use Rattle.collect_command.proofs.collect.collect_to.Goals as goal

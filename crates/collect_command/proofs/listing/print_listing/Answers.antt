@@ -1,4 +1,4 @@
-use Rattle.std.proofs.Common.{rules, ◌≡◌, ◌++◌, ℕ, [], List, Bool, true, Option, flat_map, ◌∙◌, ap, ap₂, sym, subst}
+use Rattle.std.proofs.Common.{rules, ◌≡◌, ◌++◌, ℕ, [], Bool, true, Option, flat_map, ◌∙◌, ap, ap₂, sym, subst}
 use Rattle.std.proofs.Common.{◌+◌, ◌-◌, ◌^◌, min, arith}
 use Rattle.std.specs.Prelude.{count_by, fold}
 use Rattle.std.specs.Result.{is_ok}
