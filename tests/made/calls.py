@@ -135,8 +135,9 @@ class Table:
     def answer(self, call, text):
         """What is wanted of a call, in one line."""
         kind, _, rest = text.partition(" ")
-        if text == "usage":
-            call.status, call.errors = 2, self.usage
+        if kind == "usage":
+            cause = f"tracering: {rest}\n".encode() if rest else b""
+            call.status, call.errors = 2, cause + self.usage
         elif text == "help":
             call.wanted = HELP
         elif kind == "!":

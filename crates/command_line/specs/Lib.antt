@@ -1,3 +1,5 @@
 pub mod CommandLine
 pub mod FileWords
 pub mod Calls
+pub mod Causes
+pub mod CauseTexts

@@ -28,7 +28,7 @@ fn is_number(text: &str) -> bool
 }
 
 // The number that a text is, if it is one from `low` to `high`.
-fn number_in(low: u32, high: u32, text: &str) -> Option<u32>
+pub(crate) fn number_in(low: u32, high: u32, text: &str) -> Option<u32>
     ensures { result ≡ number_in_text low high text.now }
 {
     if !is_number(text) {

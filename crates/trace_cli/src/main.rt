@@ -9,12 +9,13 @@ mod version;
 
 use crate::answer::answer_to;
 use command_io::{Std, given_words, message_for};
-use command_line::{Call, USAGE_LINE, given_call};
+use command_line::{Call, CallFault, USAGE_LINE, given_call, given_cause};
 use host_commands::{collect, recover};
 use std::process::ExitCode;
 
-// What is chosen here, `answer_to` and `message_for` say, and of `collect` and `recover` the functions that these call.
-// The rest has no contract: that the line goes to standard error, and that the process ends with the status.
+// What is chosen here, `answer_to`, `given_cause` and `message_for` say, and of `collect` and `recover` the functions
+// that these call. The rest has no contract: that the lines go to standard error, and that the process ends with the
+// status.
 fn main(rt: HostRuntime) -> ExitCode {
     let words = given_words(&rt);
     let call = given_call(rt.alloc(), &words);
@@ -23,6 +24,11 @@ fn main(rt: HostRuntime) -> ExitCode {
     }
     if let Ok(Call::Recover(asked)) = &call {
         return ExitCode::from(recover(&rt, asked));
+    }
+    if let Err(CallFault::Usage) = &call {
+        if let Some(cause) = given_cause(&words) {
+            let _ = eprintln!(rt; "{cause}");
+        }
     }
     let mut input = Std::new(rt.stdin());
     let mut output = Std::new(rt.stdout());
