@@ -84,7 +84,8 @@ cast_in text = if list_all is_type_byte (unopened text) then narrow_of (type_siz
 -- whether one of several casts is, or one before them
 abbrev pub casts_after : Bool → List (List ℕ) → Option Bool
 casts_after is_narrow [] = Some is_narrow
-casts_after is_narrow (cast ∷ casts) = option_and_then (λ narrow. casts_after (is_narrow || narrow) casts) (cast_in cast)
+casts_after is_narrow (cast ∷ casts) =
+    option_and_then (λ narrow. casts_after (is_narrow || narrow) casts) (cast_in cast)
 
 -- whether one of the casts that a text is, which may be none, is to a type of four bytes
 unfoldable pub casts_in : List ℕ → Option Bool
@@ -115,8 +116,8 @@ operand_in text =
       closed = closed_in (closing_of text);
     }) (casts_in (front_of_opening (before_word text)))) (literal_in (last_word (front_of_closing text)))
 
--- A number shifted to the left: if the brackets that are closed behind it were opened right before it, and the result is
--- of the number's type.
+-- A number shifted to the left: if the brackets that are closed behind it were opened right before it, and the result
+-- is of the number's type.
 unfoldable pub shifted : Operand → ℕ → Option Term
 shifted operand count =
     if nat_le operand.closed operand.opened && nat_lt count 64

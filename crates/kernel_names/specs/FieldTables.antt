@@ -41,8 +41,8 @@ table_of name format =
 abbrev pub without : (bits number : ℕ) → ℕ
 without bits number = bit_and number (bit_not w64 bits)
 
--- the names of those entries, in their order, all of whose bits a number has, without the bits of the entries before; no
--- more once no bit is left
+-- the names of those entries, in their order, all of whose bits a number has, without the bits of the entries before;
+-- no more once no bit is left
 abbrev pub flag_names : List Entry → ℕ → List (List ℕ)
 flag_names [] number = []
 flag_names (entry ∷ entries) number =

@@ -2,8 +2,9 @@
 ghost use Rattle.std.specs.Prelude.{◌≡◌, ◌<◌, ◌≤◌, ⊤, [], ◌∷◌, length, take, MatchOption};
 ghost use Rattle.std.specs.Option.{option_map};
 ghost use Rattle.event_fields.specs.Texts.{parts_of};
-ghost use Rattle.kernel_names.specs.Calls.{call_seen, cut_near, bare_name, cast_name, named_in, is_closed_name, is_field};
-ghost use Rattle.kernel_names.specs.Calls.{delimited, flags_in, symbols_in, call_at, calls_of, sole, print_in};
+ghost use Rattle.kernel_names.specs.Calls.{call_seen, cut_near, bare_name, cast_name, named_in, is_closed_name};
+ghost use Rattle.kernel_names.specs.Calls.{is_field, delimited, flags_in, symbols_in, call_at, calls_of, sole};
+ghost use Rattle.kernel_names.specs.Calls.{print_in};
 
 use crate::constants::is_narrow_cast;
 use crate::pieces::{are_closing, unopened, unseparated};

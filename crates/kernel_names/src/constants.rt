@@ -2,10 +2,10 @@
 ghost use Rattle.std.specs.Prelude.{◌≡◌, ◌+◌, ◌==◌, ◌||◌, false, length};
 ghost use Rattle.std.specs.List.{list_all, list_any, suffix_len};
 ghost use Rattle.event_fields.specs.Texts.{parts_of};
-ghost use Rattle.kernel_names.specs.Constants.{is_suffix_byte, is_unsigned, is_long, is_type_byte, greatest_of, value_in};
-ghost use Rattle.kernel_names.specs.Constants.{front_of_suffix, suffix_of, literal_in, cast_in, casts_after, casts_in};
-ghost use Rattle.kernel_names.specs.Constants.{operand_in, shifted, count_in, term_in, joined, terms_after, positive_in};
-ghost use Rattle.kernel_names.specs.Constants.{negated, negative_in, key_in};
+ghost use Rattle.kernel_names.specs.Constants.{is_suffix_byte, is_unsigned, is_long, is_type_byte, greatest_of};
+ghost use Rattle.kernel_names.specs.Constants.{value_in, front_of_suffix, suffix_of, literal_in, cast_in, casts_after};
+ghost use Rattle.kernel_names.specs.Constants.{casts_in, operand_in, shifted, count_in, term_in, joined, terms_after};
+ghost use Rattle.kernel_names.specs.Constants.{positive_in, negated, negative_in, key_in};
 
 use crate::digits::digits_of;
 use crate::pieces::{are_opening, count_of, cut_closing, cut_opening, cut_word, unopened};

@@ -2,8 +2,9 @@
 ghost use Rattle.std.specs.Prelude.{◌≡◌, ◌+◌, ◌==◌, ◌<◌, not, length, position, IfSome};
 ghost use Rattle.std.specs.List.{count_by, list_all, suffix_len};
 ghost use Rattle.event_fields.specs.Texts.{is_name_byte};
-ghost use Rattle.kernel_names.specs.Pieces.{is_opening, is_closing, is_separator, unopened, unseparated, front_of_closing};
-ghost use Rattle.kernel_names.specs.Pieces.{closing_of, front_of_opening, opening_of, front_of_word, last_word};
+ghost use Rattle.kernel_names.specs.Pieces.{is_opening, is_closing, is_separator, unopened, unseparated};
+ghost use Rattle.kernel_names.specs.Pieces.{front_of_closing, closing_of, front_of_opening, opening_of};
+ghost use Rattle.kernel_names.specs.Pieces.{front_of_word, last_word};
 
 use event_fields::texts::is_name_byte;
 

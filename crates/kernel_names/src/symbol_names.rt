@@ -48,8 +48,8 @@ fn name_from(names: &[u8], at: usize) -> &[u8]
     name_at(&names[at..])
 }
 
-/// The functions of a kernel, by their addresses, as it lists its symbols (`/proc/kallsyms`): a line `ADDRESS TYPE NAME`
-/// for each. Of several lines of one address the first counts.
+/// The functions of a kernel, by their addresses, as it lists its symbols (`/proc/kallsyms`): a line `ADDRESS TYPE
+/// NAME` for each. Of several lines of one address the first counts.
 #[derive(Debug, Drop)]
 pub struct SymbolNames {
     /// The names, each with a line feed behind it.
@@ -66,9 +66,9 @@ impl SymbolNames {
     ghost use Rattle.kernel_names.specs.Symbols.{lent_seen, name_at, name_if_at, symbol_in};
     ghost use Rattle.kernel_names.specs.SymbolNames.{known_name, HasNoneUpTo, HasSymbols, IsSymbolAt};
 
-    /// Reads the functions of a text's lines. A line counts if it has an address in hexadecimal that isn't 0, a space, one
-    /// of the letters `t`, `T`, `w` and `W`, a space and a name, which ends at the first blank or control character; others
-    /// are passed over.
+    /// Reads the functions of a text's lines. A line counts if it has an address in hexadecimal that isn't 0, a space,
+    /// one of the letters `t`, `T`, `w` and `W`, a space and a name, which ends at the first blank or control
+    /// character; others are passed over.
     pub fn read(alloc: Global, text: &[u8]) -> Result<SymbolNames, NoMemory>
         ensures { IfOk result (λ names. HasSymbols names (parts_of 10 text.now)) }
     {

@@ -178,8 +178,8 @@ impl<'a> NumberNames<'a> {
         }
     }
 
-    /// The bits that have no name by a table of flags, which the kernel prints behind the names, in hexadecimal, if there
-    /// are any; 0 by a table of symbols.
+    /// The bits that have no name by a table of flags, which the kernel prints behind the names, in hexadecimal, if
+    /// there are any; 0 by a table of symbols.
     pub fn rest(self) -> u64
         ensures { result ≡ rest_seen self.entry }
     {
