@@ -1,8 +1,12 @@
 -- Why a command line is refused.
-use Rattle.std.specs.Prelude.{◌≡◌, ◌==◌, ◌&&◌, ◌||◌, ◌+◌, ◌<◌, ℕ, Bool, true, false, not, List, [], ◌∷◌, Option, Some}
-use Rattle.std.specs.Prelude.{None, bytes_eq, codes, if◌then◌else◌, is_some, take, ⊤}
+use Rattle.std.specs.Prelude.{◌≡◌, ◌==◌, ◌&&◌, ◌||◌, ◌++◌, ◌+◌, ◌<◌, ℕ, Bool, true, false, not, List, [], ◌∷◌, Option}
+use Rattle.std.specs.Prelude.{None, Some, bytes_eq, codes, if◌then◌else◌, is_some, take, ⊤}
 use Rattle.std.specs.List.{position as first_place}
+use Rattle.std.specs.List.{list_all}
+use Rattle.clap.specs.Simple.{Shape}
 use Rattle.clap.specs.Words.{Text}
+use Rattle.clap.specs.declared.builder.action.ArgAction.{ArgAction}
+use Rattle.clap.specs.declared.builder.action.ArgAction.TheVariants.{Append, Set, SetTrue}
 use Rattle.command_line.specs.FileWords.{file_word, is_equals, number_in}
 use Rattle.command_line.specs.declared.cause.Cause.{Cause}
 use Rattle.command_line.specs.declared.cause.Cause.TheVariants.{Unreadable, VersionAndMore, UnknownCommand}
@@ -59,6 +63,17 @@ is_unknown command word =
 -- the word has a value behind `=`, and the option takes none
 abbrev pub has_wrong_value : (command word : Text) → Bool
 has_wrong_value command word = is_flag command (option_name word) && not (is_flag command word)
+
+-- what the parse takes of a command is known here: this option of it, by its name, and whether it takes a value
+abbrev pub is_known_rule : (command : Text) → Option Text → Option ArgAction → Bool
+is_known_rule command (Some name) (Some SetTrue) = is_flag command (codes "--" ++ name)
+is_known_rule command (Some name) (Some Set) = is_valued command (codes "--" ++ name)
+is_known_rule command None (Some Append) = takes_files command
+is_known_rule command name action = false
+
+abbrev pub is_known_shape : Shape → Bool
+is_known_shape shape =
+    is_command shape.name && list_all (λ rule. is_known_rule shape.name rule.long rule.action) shape.rules
 
 -- ---- the words behind a command
 

@@ -29,7 +29,7 @@ pub fn given_call<'a>(
     }
 }
 
-/// Why these words, which [`given_call`] refuses, are refused; there is no cause if no word is behind the program's name.
+/// Why these words, which [`given_call`] refuses, are refused; there is no cause if the program's name is alone.
 pub fn given_cause(words: &Result<Vec<String>, WordsFault>) -> Option<Cause<'_>>
     ensures words { IfOk words.now (λ given. IfSome result (λ cause.
         IsCauseOf (map string_bytes given.items) cause)) }

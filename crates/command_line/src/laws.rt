@@ -1,5 +1,8 @@
-//! The value of the usage line.
-ghost use Rattle.std.specs.Prelude.{◌≡◌, ◌++◌, codes};
+//! The value of the usage line, and which options are known.
+ghost use Rattle.std.specs.Prelude.{◌≡◌, ◌++◌, codes, true};
+ghost use Rattle.std.specs.List.{list_all};
+ghost use Rattle.command_line.specs.Causes.{is_known_shape};
+ghost use Rattle.command_line.specs.CommandLine.{command_line};
 
 use crate::usage::USAGE_LINE;
 
@@ -9,4 +12,9 @@ pub fn usage_line_is()
         ++ codes " | collect [--page BYTES] [--names] [--fields] [--formats DIR] [--json] [--keep KEPT]"
         ++ codes " [--parcels] FILE.."
         ++ codes " | recover [--json] [--keep KEPT] FILE.." }
+{}
+
+/// Each command and option of the parse is known where the cause of a refused command line is looked for.
+pub fn options_are_known()
+    ensures { list_all is_known_shape command_line.subs ≡ true }
 {}
