@@ -59,7 +59,7 @@ def compare_captures(pool, rng, program, folder, count, seed):
             kept_in.mkdir(exist_ok=True)
             case.keep(kept_in)
             differ.append(str(kept_in))
-    return "captures", sum(case.wanted[0] == 1 for case in made), differ
+    return "captures", sum(case.wanted.status == 1 for case in made), differ
 
 
 def run(folder, count="1000", seed="1"):
