@@ -57,18 +57,21 @@ def words_of(verb, crate, named, root):
     return words
 
 
-def compile_crate(folder, crate, named, root, file):
-    """Proves the crate in this folder, which uses the named ones, and compiles it."""
+def compile_crate(folder, crate, named, root, file, target=None):
+    """Proves the crate in this folder, which uses the named ones, and compiles it, for another machine if that is
+    named."""
     words = words_of("build", crate, named, root)
+    if target:
+        words += ["--target", target]
     kept = folder / "out" / "over_gate"
     kept.mkdir(parents=True, exist_ok=True)
     words += ["--jobs", "4", "--links", f"{crate}=", "--incremental", kept]
     call([*words, "--toolchain", kit() / "toolchain", "--backend", "llvm", "-o", file], folder)
 
 
-def build_archive(folder, crate, named, file):
+def build_archive(folder, crate, named, file, target=None):
     """Builds a static library."""
-    compile_crate(folder, crate, named, ["src/lib.rt", "--crate-type", "staticlib"], file)
+    compile_crate(folder, crate, named, ["src/lib.rt", "--crate-type", "staticlib"], file, target)
 
 
 def build_program(folder, crate, named, file):

@@ -24,6 +24,7 @@ cpu-more known cpu parts part own old {capture = capture} new was cut is same co
   cpu_is = ap (λ (c : Capture). c.cpu.0) counts.capture_is ∙ ap (λ c. c.0) same ∙ was.cpu_is;
   capture_is = subst (λ (c : Capture). IsCapture c (map (told known) (was.pages ++ own))) (sym counts.capture_is)
       (subst (IsCapture capture) (sym (map-append (told known) was.pages own)) is);
+  counters_are = counts.counters_are ∙ was.counters_are;
   parts_are =
       counts.parts_are ∙ ap (λ (ps : List Part). ps ++ measured part ∷ []) was.parts_are
       ∙ sym (map-append measured parts (part ∷ []));

@@ -1,8 +1,8 @@
 -- Files, and one more.
-use Rattle.std.proofs.Common.{◌≡◌, ◌≢◌, ◌∙◌, ℕ, ◌-◌, ◌^◌, inl, Bool, true, false, List, [], ◌∷◌, ◌++◌, length, Ok}
-use Rattle.std.proofs.Common.{Err, refl, sym, ap, subst, arith, append-nil, append_assoc, Vec, Global}
-use Rattle.std.proofs.lemmas.List.{length-map}
-use Rattle.std.specs.Prelude.{◌||◌, ◌<◌, if◌then◌else◌, min, Result, IsOk}
+use Rattle.std.proofs.Common.{◌≡◌, ◌≢◌, ◌∙◌, ℕ, inl, Bool, true, false, List, [], ◌∷◌, ◌++◌, length, Ok}
+use Rattle.std.proofs.Common.{Err, refl, sym, ap, subst, append-nil, append_assoc, Vec, Global}
+use Rattle.std.specs.Prelude.{Option, Some, None, ◌||◌, if◌then◌else◌, Result, IsOk}
+use Rattle.std.specs.Option.{option_map, option_or}
 use Rattle.trace_model.specs.Image.{unknown}
 use Rattle.trace_dat.specs.Fields.{Reading}
 use Rattle.trace_dat.specs.Contents.{EventFormat, Contents}
@@ -17,13 +17,25 @@ use Rattle.capture.specs.declared.files.captured.Captured.{Captured}
 use Rattle.capture.specs.declared.files.dat.Losses.{Losses}
 use Rattle.capture.specs.declared.files.dat.Losses.TheVariants.{Kept, Settled}
 use Rattle.capture.specs.files.Files.{Checked, ◌>>=◌, File, ModelPart, is_dat, formatted, parts_in, parts_of, held}
+use Rattle.capture.specs.Smaller.{smaller_pages}
+use Rattle.capture.specs.declared.files.fault.FileFault.TheVariants.{SmallerPages}
+use Rattle.capture.specs.files.Files.{unless_smaller, raw_parts}
 use Rattle.capture.specs.files.Files.{held_by, formats_of, others_of, names_of_others, has_named, has_listed}
-use Rattle.capture.specs.files.Files.{counters_of, ArePartsOf, all_formats, all_others, all_instances, is_in_any}
-use Rattle.capture.specs.files.Losses.{overrun_of}
+use Rattle.capture.specs.files.Files.{counters_of, ArePartsOf, all_formats, all_others, is_in_any}
+use Rattle.capture.specs.files.Losses.{cpu_counters_of, overrun_by}
 use Rattle.capture.specs.files.Captures.{AreCpusRead, AreCpusCaptured, IsCpuPast, IsOwnPast, AreFilesRead}
 use Rattle.capture.specs.files.Captures.{AreFilesPast, unsaid, texts_held}
 use Rattle.capture.specs.files.Giving.{input_fault}
 use Rattle.capture.specs.files.FilesRead.{said_by, IsAlone, AddsFile, IsFileFault}
+use Rattle.capture.specs.declared.files.captured.Wanted.{Wanted}
+use Rattle.capture.specs.files.Files.{tasks_of, symbols_of, machine_of, lines_of, all_lines, if_wanted, machine_in}
+use Rattle.capture.specs.files.Files.{is_same_machine, parts_after}
+use Rattle.kernel_names.specs.declared.tasks.TaskNames.{TaskNames}
+use Rattle.kernel_names.specs.declared.symbol_names.SymbolNames.{SymbolNames}
+use Rattle.kernel_names.specs.Tasks.{HasTasks}
+use Rattle.kernel_names.specs.SymbolNames.{HasSymbols}
+use Rattle.capture.proofs.NameLists.{wanted-next, lines-stay, machine-more, of-one-more, same-unsaid, machine-stays}
+use Rattle.capture.proofs.NameLists.{own-fault}
 use Rattle.capture.proofs.Prefixes.{raw-reading}
 
 -- ---- what a file of trace-cmd holds
@@ -39,7 +51,7 @@ pub parts-of-dat : (page : ℕ) (name : List ℕ) (file : File) (contents : Cont
     → parts_of page name file ≡ Ok own
 parts-of-dat page name file contents own dat reads parts =
     ap (λ (b : Bool). if b then (formatted (reading_of file.bytes) >>= parts_in name (length file.bytes))
-    else Ok (record { cpu = file.cpu; size = page; bytes = file.bytes } ∷ [])) dat
+    else raw_parts page file) dat
     ∙ ap (λ (r : Checked Contents). r >>= parts_in name (length file.bytes)) reads ∙ parts
 
 pub held-dat : {A : Type 0} (of : Contents → A) (otherwise : A) (file : File) (contents : Contents)
@@ -104,6 +116,7 @@ as-captured parts cpus read = record {
         cut = r.cut;
         cpu_is = r.cpu_is;
         capture_is = r.capture_is;
+        counters_are = r.counters_are;
         parts_are = r.parts_are;
         bytes_are = r.bytes_are;
         bytes_fit = r.bytes_fit;
@@ -121,6 +134,7 @@ as-read parts cpus captured = record {
         cut = r.cut;
         cpu_is = r.cpu_is;
         capture_is = r.capture_is;
+        counters_are = r.counters_are;
         parts_are = r.parts_are;
         bytes_are = r.bytes_are;
         bytes_fit = r.bytes_fit;
@@ -138,7 +152,7 @@ cpus-said : (losses : Losses) (page : ℕ) (name : List ℕ) (files : List File)
     (own : List ModelPart) (mid new : List CpuCapture)
     → IsAlone losses files → ArePartsOf page name files parts → AreCpusRead unknown (parts ++ own) mid
     → (losses ≡ Kept → new ≡ mid)
-    → (losses ≡ Settled → AreCpusCaptured (λ cpu. overrun_of cpu (counters_of name file)) own new)
+    → (losses ≡ Settled → AreCpusCaptured (λ cpu. cpu_counters_of cpu (counters_of name file)) own new)
     → AreCpusCaptured (said_by losses name file) (parts ++ own) new
 cpus-said Kept page name files parts file own mid new alone are read kept settled =
     subst (AreCpusCaptured unsaid (parts ++ own)) (sym (kept refl)) (as-captured (parts ++ own) mid read)
@@ -146,23 +160,27 @@ cpus-said Settled page name files parts file own mid new alone are read kept set
     subst (λ (ps : List ModelPart). AreCpusCaptured (said_by Settled name file) (ps ++ own) new)
     (sym (no-files page name files parts alone are)) (settled refl)
 
--- a count that fits is the one that stops at the limit
-stopped : (a n : ℕ) → n ≡ a → n < 2 ^ 63 → n ≡ min a (2 ^ 64 - 1)
-stopped a n is fits = omega (arith, is, fits)
-
 pub file-added : (losses : Losses) (page : ℕ) (name : List ℕ) (files : List File) (file : File) (own : List ModelPart)
     (old new : Captured) (mid : List CpuCapture)
     → IsAlone losses files → (was : AreFilesRead unsaid page name files old) → parts_of page name file ≡ Ok own
     → AreCpusRead unknown (was.parts ++ own) mid
     → (losses ≡ Kept → new.cpus.items ≡ mid)
-    → (losses ≡ Settled → AreCpusCaptured (λ cpu. overrun_of cpu (counters_of name file)) own new.cpus.items)
+    → (losses ≡ Settled → AreCpusCaptured (λ cpu. cpu_counters_of cpu (counters_of name file)) own new.cpus.items)
     → HasEvents new.names (all_formats files ++ formats_of file)
     → texts_held new.others.items ≡ texts_held old.others.items ++ others_of name file
-    → new.instances ≡ length new.others.items → new.instances < 2 ^ 63
-    → new.found ≡ (old.found || has_listed name file)
+    → new.found ≡ (old.found || has_listed name file) → new.wanted ≡ old.wanted
+    → HasTasks new.tasks (if old.wanted.tasks
+    then if_wanted old.wanted.tasks (all_lines tasks_of files) ++ lines_of (tasks_of file)
+    else if_wanted old.wanted.tasks (all_lines tasks_of files))
+    → HasSymbols new.symbols (if old.wanted.symbols
+    then if_wanted old.wanted.symbols (all_lines symbols_of files) ++ lines_of (symbols_of file)
+    else if_wanted old.wanted.symbols (all_lines symbols_of files))
+    → option_map (λ (v : Vec ℕ Global). v.items) new.machine
+    ≡ option_or (option_map (λ (v : Vec ℕ Global). v.items) old.machine) (machine_of file)
+    → is_same_machine (machine_in files) (machine_of file) ≡ true
     → AddsFile losses page name files file new
-file-added losses page name files file own old new mid alone was is read kept settled names others instances fits
-    found =
+file-added losses page name files file own old new mid alone was is read kept settled names others found
+    wanted tasks symbols machine same =
     let all : texts_held new.others.items ≡ all_others name (files ++ file ∷ []) =
     others ∙ ap (λ (ns : List (List ℕ)). ns ++ others_of name file) was.others_are
     ∙ sym (others-more name files file) in
@@ -172,13 +190,18 @@ file-added losses page name files file own old new mid alone was is read kept se
       cpus_are = cpus-said losses page name files was.parts file own mid new.cpus.items alone was.parts_are read kept
           settled;
       names_are = subst (HasEvents new.names) (sym (formats-more files file)) names;
-      instances_are =
-          stopped (all_instances name (files ++ file ∷ [])) new.instances
-          (instances ∙ sym (length-map new.others.items (λ (v : Vec ℕ Global). v.items))
-          ∙ ap (length {A = List ℕ}) all) fits;
       others_are = all;
       found_is =
           found ∙ ap (λ (b : Bool). b || has_listed name file) was.found_is ∙ sym (found-more name files file);
+      tasks_are = subst (λ (w : Wanted).
+          HasTasks new.tasks (if_wanted w.tasks (all_lines tasks_of (files ++ file ∷ []))))
+          (sym wanted) (subst (HasTasks new.tasks) (wanted-next old.wanted.tasks tasks_of files file) tasks);
+      symbols_are = subst (λ (w : Wanted).
+          HasSymbols new.symbols (if_wanted w.symbols (all_lines symbols_of (files ++ file ∷ []))))
+          (sym wanted) (subst (HasSymbols new.symbols) (wanted-next old.wanted.symbols symbols_of files file) symbols);
+      machine_is = machine ∙ ap (λ (known : Option (List ℕ)). option_or known (machine_of file)) was.machine_is
+          ∙ sym (machine-more None files file);
+      of_one = of-one-more files file was.of_one same;
     }
 
 -- ---- faults
@@ -188,12 +211,14 @@ pub added-fault : (losses : Losses) (page : ℕ) (name : List ℕ) (files : List
     (own : List ModelPart) (old : Captured)
     (was : AreFilesRead unsaid page name files old)
     (fault : CaptureFault) → parts_of page name file ≡ Ok own
+    → is_same_machine (machine_in files) (machine_of file) ≡ true
     → (fault ≡ captures.Numbers → (cpu : ℕ) × IsCpuPast unknown cpu (was.parts ++ own))
     → IsFileFault losses page name files file (input_fault fault)
-added-fault losses page name files file own old was captures.NoMemory is past = tt
-added-fault losses page name files file own old was captures.Numbers is past = record {
+added-fault losses page name files file own old was captures.NoMemory is same past = tt
+added-fault losses page name files file own old was captures.Numbers is same past = record {
   parts = was.parts ++ own;
   parts_are = parts-more page name files was.parts file own was.parts_are is;
+  of_one = of-one-more files file was.of_one same;
   cpu = (past refl).0;
   past = (unknown, inl refl, (past refl).1);
 }
@@ -202,19 +227,22 @@ added-fault losses page name files file own old was captures.Numbers is past = r
 pub settled-fault : (losses : Losses) (page : ℕ) (name : List ℕ) (files : List File) (file : File)
     (own : List ModelPart)
     (old : Captured) (was : AreFilesRead unsaid page name files old)
-    (fault : CaptureFault) → IsAlone losses files → parts_of page name file ≡ Ok own → losses ≢ Kept
+    (fault : CaptureFault) → IsAlone losses files → parts_of page name file ≡ Ok own
+    → is_same_machine (machine_in files) (machine_of file) ≡ true → losses ≢ Kept
     → (losses ≡ Settled → fault ≡ captures.Numbers → (cpu : ℕ)
-    × IsOwnPast (overrun_of cpu (counters_of name file)) cpu own)
+    × IsOwnPast (overrun_by (cpu_counters_of cpu (counters_of name file))) cpu own)
     → IsFileFault losses page name files file (input_fault fault)
-settled-fault losses page name files file own old was captures.NoMemory alone is not past = tt
-settled-fault Kept page name files file own old was captures.Numbers alone is not past = absurd (not refl)
-settled-fault Settled page name files file own old was captures.Numbers alone is not past = record {
+settled-fault losses page name files file own old was captures.NoMemory alone is same not past = tt
+settled-fault Kept page name files file own old was captures.Numbers alone is same not past = absurd (not refl)
+settled-fault Settled page name files file own old was captures.Numbers alone is same not past = record {
   parts = was.parts ++ own;
   parts_are = parts-more page name files was.parts file own was.parts_are is;
+  of_one = of-one-more files file was.of_one same;
   cpu = (past refl refl).0;
   past =
       subst (λ (ps : List ModelPart).
-      IsOwnPast (overrun_of (past refl refl).0 (counters_of name file)) (past refl refl).0 (ps ++ own))
+      IsOwnPast (overrun_by (cpu_counters_of (past refl refl).0 (counters_of name file))) (past refl refl).0
+      (ps ++ own))
       (sym (no-files page name files was.parts alone was.parts_are)) (past refl refl).1;
 }
 
@@ -231,33 +259,52 @@ ok-not-err (Err f) e ok is = cc
 
 -- ---- a raw file
 
-parts-of-raw : (page : ℕ) (name : List ℕ) (file : File) → is_dat name file.bytes ≡ false
-    → parts_of page name file ≡ Ok (record { cpu = file.cpu; size = page; bytes = file.bytes } ∷ [])
-parts-of-raw page name file raw =
+-- what is read of it, by what its pages show
+raw-by : (page : ℕ) (name : List ℕ) (file : File) (shown : Option ℕ) → is_dat name file.bytes ≡ false
+    → smaller_pages page file.bytes ≡ shown
+    → parts_of page name file ≡ unless_smaller shown (record { cpu = file.cpu; size = page; bytes = file.bytes } ∷ [])
+raw-by page name file shown raw is =
     ap (λ (b : Bool). if b then (formatted (reading_of file.bytes) >>= parts_in name (length file.bytes))
-    else Ok (record { cpu = file.cpu; size = page; bytes = file.bytes } ∷ [])) raw
+    else raw_parts page file) raw
+    ∙ ap (λ (o : Option ℕ). unless_smaller o (record { cpu = file.cpu; size = page; bytes = file.bytes } ∷ [])) is
+
+parts-of-raw : (page : ℕ) (name : List ℕ) (file : File) → is_dat name file.bytes ≡ false
+    → smaller_pages page file.bytes ≡ None
+    → parts_of page name file ≡ Ok (record { cpu = file.cpu; size = page; bytes = file.bytes } ∷ [])
+parts-of-raw page name file raw none = raw-by page name file None raw none
+
+pub smaller-raw : (page : ℕ) (name : List ℕ) (files : List File) (file : File) (smaller : ℕ)
+    → is_dat name file.bytes ≡ false
+    → smaller_pages page file.bytes ≡ Some smaller → parts_after page name files file ≡ Err (SmallerPages smaller)
+smaller-raw page name files file smaller raw shown =
+    own-fault page name files file (SmallerPages smaller) (raw-by page name file (Some smaller) raw shown)
 
 held-raw : {A : Type 0} (of : Contents → A) (otherwise : A) (name : List ℕ) (file : File)
     → is_dat name file.bytes ≡ false → held_by of otherwise file ≡ otherwise
 held-raw of otherwise name file raw = ap (λ (r : Reading Contents). held of otherwise r)
     (raw-reading name file.bytes raw)
 
+raw-unsaid : (name : List ℕ) (file : File) → is_dat name file.bytes ≡ false → machine_of file ≡ None
+raw-unsaid name file raw = held-raw (λ (contents : Contents). contents.machine) None name file raw
+
 raw-said : (losses : Losses) (name : List ℕ) (file : File) (parts : List ModelPart) (cpus : List CpuCapture)
     → is_dat name file.bytes ≡ false → AreCpusRead unknown parts cpus
     → AreCpusCaptured (said_by losses name file) parts cpus
 raw-said Kept name file parts cpus raw read = as-captured parts cpus read
 raw-said Settled name file parts cpus raw read =
-    subst (λ (ts : List (List ℕ)). AreCpusCaptured (λ cpu. overrun_of cpu ts) parts cpus)
+    subst (λ (ts : List (List ℕ)). AreCpusCaptured (λ cpu. cpu_counters_of cpu ts) parts cpus)
     (sym (held-raw (λ (contents : Contents). texts_of name contents.counters) [] name file raw))
     (as-captured parts cpus read)
 
 pub raw-added : (losses : Losses) (page : ℕ) (name : List ℕ) (files : List File) (file : File) (old new : Captured)
     (was : AreFilesRead unsaid page name files old)
-    → is_dat name file.bytes ≡ false
+    → is_dat name file.bytes ≡ false → smaller_pages page file.bytes ≡ None
     → AreCpusRead unknown (was.parts ++ record { cpu = file.cpu; size = page; bytes = file.bytes } ∷ []) new.cpus.items
-    → new.names ≡ old.names → new.instances ≡ old.instances → new.others ≡ old.others → new.found ≡ old.found
+    → new.names ≡ old.names → new.others ≡ old.others → new.found ≡ old.found → new.wanted ≡ old.wanted
+    → new.tasks ≡ old.tasks → new.symbols ≡ old.symbols → new.machine ≡ old.machine
     → AddsFile losses page name files file new
-raw-added losses page name files file old new was raw read names instances others found =
+raw-added losses page name files file old new was raw none_smaller read names others found wanted
+    tasks symbols machine =
     let none : others_of name file ≡ [] =
     held-raw (λ (contents : Contents). names_of_others name contents.buffers) [] name file raw in
     let lacks : has_listed name file ≡ false =
@@ -267,29 +314,48 @@ raw-added losses page name files file old new was raw read names instances other
     ∙ ap (λ (ns : List (List ℕ)). all_others name files ++ ns) none ∙ append-nil (all_others name files)) in
     record {
       parts = was.parts ++ record { cpu = file.cpu; size = page; bytes = file.bytes } ∷ [];
-      parts_are = parts-more page name files was.parts file _ was.parts_are (parts-of-raw page name file raw);
+      parts_are = parts-more page name files was.parts file _ was.parts_are
+          (parts-of-raw page name file raw none_smaller);
       cpus_are = raw-said losses name file _ new.cpus.items raw read;
       names_are = subst (λ (n : EventNames). HasEvents n (all_formats (files ++ file ∷ []))) (sym names)
           (subst (HasEvents old.names) (sym (formats-more files file
           ∙ ap (λ (fs : List EventFormat). all_formats files ++ fs)
           (held-raw (λ (contents : Contents). contents.formats) [] name file raw)
           ∙ append-nil (all_formats files))) was.names_are);
-      instances_are =
-          instances ∙ was.instances_are ∙ ap (λ (ns : List (List ℕ)). min (length ns) (2 ^ 64 - 1)) all;
       others_are = ap (λ (v : Vec (Vec ℕ Global) Global). texts_held v.items) others ∙ was.others_are ∙ all;
       found_is = found ∙ was.found_is
           ∙ sym (found-more name files file ∙ ap (λ (b : Bool). is_in_any name files || b) lacks
           ∙ or-none (is_in_any name files));
+      tasks_are = subst (λ (t : TaskNames).
+          HasTasks t (if_wanted new.wanted.tasks (all_lines tasks_of (files ++ file ∷ [])))) (sym tasks)
+          (subst (λ (w : Wanted). HasTasks old.tasks (if_wanted w.tasks (all_lines tasks_of (files ++ file ∷ []))))
+          (sym wanted)
+          (subst (λ (ls : List (List ℕ)). HasTasks old.tasks (if_wanted old.wanted.tasks ls))
+          (lines-stay tasks_of files file
+          (held-raw (λ (contents : Contents). contents.tasks) [] name file raw)) was.tasks_are));
+      symbols_are = subst (λ (t : SymbolNames).
+          HasSymbols t (if_wanted new.wanted.symbols (all_lines symbols_of (files ++ file ∷ [])))) (sym symbols)
+          (subst (λ (w : Wanted).
+          HasSymbols old.symbols (if_wanted w.symbols (all_lines symbols_of (files ++ file ∷ []))))
+          (sym wanted)
+          (subst (λ (ls : List (List ℕ)). HasSymbols old.symbols (if_wanted old.wanted.symbols ls))
+          (lines-stay symbols_of files file
+          (held-raw (λ (contents : Contents). contents.symbols) [] name file raw)) was.symbols_are));
+      machine_is = ap (option_map (λ (v : Vec ℕ Global). v.items)) machine ∙ was.machine_is
+          ∙ machine-stays files file (raw-unsaid name file raw);
+      of_one = of-one-more files file was.of_one
+          (same-unsaid (machine_in files) file (raw-unsaid name file raw));
     }
 
 pub raw-past : (losses : Losses) (page : ℕ) (name : List ℕ) (files : List File) (file : File) (old : Captured)
     (was : AreFilesRead unsaid page name files old)
-    → is_dat name file.bytes ≡ false
+    → is_dat name file.bytes ≡ false → smaller_pages page file.bytes ≡ None
     → IsCpuPast unknown file.cpu (was.parts ++ record { cpu = file.cpu; size = page; bytes = file.bytes } ∷ [])
     → AreFilesPast (said_by losses name file) page name (files ++ file ∷ [])
-raw-past losses page name files file old was raw past = record {
+raw-past losses page name files file old was raw none_smaller past = record {
   parts = was.parts ++ record { cpu = file.cpu; size = page; bytes = file.bytes } ∷ [];
-  parts_are = parts-more page name files was.parts file _ was.parts_are (parts-of-raw page name file raw);
+  parts_are = parts-more page name files was.parts file _ was.parts_are (parts-of-raw page name file raw none_smaller);
+  of_one = of-one-more files file was.of_one (same-unsaid (machine_in files) file (raw-unsaid name file raw));
   cpu = file.cpu;
   past = (unknown, inl refl, past);
 }

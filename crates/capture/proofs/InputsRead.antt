@@ -13,7 +13,7 @@ use Rattle.capture.specs.declared.files.dat.Losses.TheVariants.{Kept, Settled}
 use Rattle.capture.specs.declared.files.fault.InputFault.{InputFault}
 use Rattle.capture.specs.declared.files.fault.InputFault.TheVariants as faults
 use Rattle.capture.specs.files.Files.{File, ModelPart, parts_of_cpu}
-use Rattle.capture.specs.files.Losses.{overrun_in}
+use Rattle.capture.specs.files.Losses.{cpu_counters_in, overrun_by}
 use Rattle.capture.specs.files.Captures.{AreFilesRead, AreFilesPast, AreCaptured, ArePast, IsKnown, unsaid}
 use Rattle.capture.specs.files.FilesRead.{said_by, IsAlone, AddsFile, AddsRestOf, IsRestFault}
 use Rattle.capture.specs.files.Inputs.{IsReadOf, AreRead, IsWhy, IsUnread}
@@ -23,7 +23,7 @@ abbrev pub AreSoFar : Losses → (page : ℕ) → (name : List ℕ) → List Fil
 AreSoFar Kept page name files captured = AreFilesRead unsaid page name files captured
 AreSoFar Settled page name [] captured = AreFilesRead unsaid page name [] captured
 AreSoFar Settled page name (file ∷ []) captured =
-    AreFilesRead (overrun_in name (file ∷ [])) page name (file ∷ []) captured
+    AreFilesRead (cpu_counters_in name (file ∷ [])) page name (file ∷ []) captured
 AreSoFar Settled page name (file ∷ other ∷ files) captured = ⊥
 
 -- the losses are settled if there is one input alone
@@ -76,10 +76,11 @@ past-said : (losses : Losses) (page : ℕ) (name : List ℕ) (files : List File)
 past-said Kept page name files file alone past = record {
   parts = past.parts;
   parts_are = past.parts_are;
+  of_one = past.of_one;
   cpu = past.cpu;
   past = (
     past.past.0,
-    known-none (overrun_in name (files ++ file ∷ []) past.cpu)
+    known-none (overrun_by (cpu_counters_in name (files ++ file ∷ []) past.cpu))
         (parts_of_cpu past.cpu past.parts) past.past.0 past.past.1,
     past.past.2,
   );
@@ -96,8 +97,8 @@ module _ {R : Type 0} (remaining : R → Option (List ℕ)) (failed : R → Bool
       fault
       → IsWhy remaining failed page name files old new fault
   why-unread losses page name files old new alone faults.Read why = why
-  why-unread losses page name files old new alone (faults.File fault) (sound, end, (more, taken, is)) =
-      (sound, end, (record { cpu = old.cpu.0; bytes = more }, record { cpu_is = refl; taken = taken }, is))
+  why-unread losses page name files old new alone (faults.File fault) (sound, (more, taken, is, end)) =
+      (sound, (record { cpu = old.cpu.0; bytes = more }, record { cpu_is = refl; taken = taken }, is, end))
   why-unread losses page name files old new alone faults.Numbers (sound, (more, taken, past)) = (
     sound,
     (

@@ -3,6 +3,8 @@ mod CapturedFiles
 pub mod Cut
 pub mod Told
 mod Adding
+mod SmallerPages
+mod OnePage
 mod ReadingOn
 mod Numbers
 mod Each
@@ -26,6 +28,7 @@ mod TrueLosses
 mod Overruns
 mod Settled
 mod FirstRead
+mod NameLists
 mod FilesMore
 mod Prefixes
 mod RestFaults

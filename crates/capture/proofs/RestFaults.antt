@@ -10,7 +10,8 @@ use Rattle.capture.specs.declared.files.captured.Captured.{Captured}
 use Rattle.capture.specs.declared.files.dat.Losses.{Losses}
 use Rattle.capture.specs.declared.files.fault.InputFault.{InputFault}
 use Rattle.capture.specs.declared.files.fault.InputFault.TheVariants as faults
-use Rattle.capture.specs.files.Files.{File}
+use Rattle.capture.specs.declared.files.fault.FileFault.TheVariants.{SmallerPages}
+use Rattle.capture.specs.files.Files.{File, is_dat, parts_after}
 use Rattle.capture.specs.files.Captures.{AreFilesPast}
 use Rattle.capture.specs.files.FilesRead.{said_by, AddsRestOf, IsFileFault, IsRestFault}
 use Rattle.capture.specs.files.Giving.{read_fault}
@@ -36,13 +37,13 @@ read-rest-fault losses page name cpu first more bytes unread left failed files i
 read-rest-fault losses page name cpu first more bytes unread left failed files is sound end taken
     (faults.File fault) why = (
       sound,
-      end,
       (
         more,
         taken,
         subst (λ (bs : List ℕ). IsFileFault losses page name files (record { cpu = cpu; bytes = bs })
             (faults.File fault)) is
             why,
+        λ dat. end,
       ),
     )
 read-rest-fault losses page name cpu first more bytes unread left failed files is sound end taken faults.Numbers why = (
@@ -66,8 +67,8 @@ pub fault-before : (losses : Losses) (page : ℕ) (name : List ℕ) (cpu : ℕ) 
     → IsRestFault losses page name cpu [] start left failed files fault
 fault-before losses page name cpu first start unread left failed files taken faults.Read why = why
 fault-before losses page name cpu first start unread left failed files taken (faults.File fault)
-    (sound, end, (more, took, is)) =
-    (sound, end, (first ++ more, Consumes-trans start unread left first more taken took, is))
+    (sound, (more, took, is, end)) =
+    (sound, (first ++ more, Consumes-trans start unread left first more taken took, is, end))
 fault-before losses page name cpu first start unread left failed files taken faults.Numbers (
   sound,
   (more, took, past),
@@ -111,12 +112,18 @@ pub raw-fault : (losses : Losses) (page : ℕ) (name : List ℕ) (cpu : ℕ) (fi
     (List ℕ)) (failed : Bool)
     (files : List File)
     → (fault : ReadFault) → (fault ≡ reads.Read → failed ≡ true) → (fault ≢ reads.Read → failed ≡ false)
+    → ((smaller : ℕ) → fault ≡ reads.SmallerPages smaller → (more : List ℕ) × Consumes unread left more
+    × (parts_after page name files (record { cpu = cpu; bytes = first ++ more }) ≡ Err (SmallerPages smaller))
+    × (is_dat name (first ++ more) ≡ true → IsAtEnd left))
     → (fault ≡ reads.Capture captures.Numbers → (more : List ℕ) × Consumes unread left more
     × AreFilesPast (said_by losses name (record { cpu = cpu; bytes = first ++ more })) page name
     (files ++ record { cpu = cpu; bytes = first ++ more } ∷ []))
     → IsRestFault losses page name cpu first unread left failed files (read_fault fault)
-raw-fault losses page name cpu first unread left failed files reads.Read broken sound past = broken refl
-raw-fault losses page name cpu first unread left failed files (reads.Capture captures.Numbers) broken sound past =
-    (sound (λ e. cc), past refl)
-raw-fault losses page name cpu first unread left failed files (reads.Capture captures.NoMemory) broken sound past =
-    sound (λ e. cc)
+raw-fault losses page name cpu first unread left failed files reads.Read broken sound smaller past =
+    broken refl
+raw-fault losses page name cpu first unread left failed files (reads.Capture captures.Numbers) broken sound
+    smaller past = (sound (λ e. cc), past refl)
+raw-fault losses page name cpu first unread left failed files (reads.Capture captures.NoMemory) broken sound
+    smaller past = sound (λ e. cc)
+raw-fault losses page name cpu first unread left failed files (reads.SmallerPages size) broken sound smaller past =
+    (sound (λ e. cc), smaller size refl)

@@ -1,6 +1,6 @@
 -- A CPU whose loss is settled.
 use Rattle.std.proofs.Common.{◌≡◌, ◌≢◌, ◌∙◌, ℕ, ⊎_elim, ◌<◌, List, [], ◌∷◌, ◌++◌, map, set, get_or, ◌+◌, ◌≤◌, Option}
-use Rattle.std.proofs.Common.{Some, sym, ap, ap₂, subst, arith}
+use Rattle.std.proofs.Common.{Some, refl, sym, ap, ap₂, subst, arith}
 use Rattle.std.specs.List.{slice_get}
 use Rattle.std.proofs.lemmas.Option.{get_or_from_slice_get}
 use Rattle.std.proofs.lemmas.Bool.{cases_lt}
@@ -9,10 +9,11 @@ use Rattle.capture.specs.Pages.{Page, told}
 use Rattle.capture.specs.Captures.{IsCapture}
 use Rattle.capture.proofs.OneReading.{one-reading}
 use Rattle.capture.proofs.Told.{all-told-unknown}
+use Rattle.trace_dat.specs.declared.kernel_texts.counters.Counters.{Counters}
 use Rattle.capture.specs.declared.files.captured.CpuCapture.{CpuCapture}
 use Rattle.capture.specs.files.Files.{ModelPart, parts_of_cpu}
-use Rattle.capture.specs.files.Losses.{loss_of}
-use Rattle.capture.specs.files.Captures.{CutsOf, IsCpuRead, IsCpuCaptured}
+use Rattle.capture.specs.files.Losses.{loss_of, overrun_by}
+use Rattle.capture.specs.files.Captures.{CutsOf, IsCpuRead, IsCpuSettled, IsCpuCaptured}
 use Rattle.capture.proofs.CpuLists.{get-set}
 
 -- parts have one list of pages at most
@@ -28,7 +29,7 @@ one-cut (part ∷ parts) pages others (own, more, is, cut, rest) (own_too, more_
 -- what is read is settled, if this is what is known of a loss
 pub captured-as : (known : Missed) (cpu : ℕ) (overrun : Option ℕ) (parts : List ModelPart) (found : CpuCapture)
     (read : IsCpuRead known cpu parts found)
-    → known ≡ loss_of overrun read.pages → IsCpuCaptured cpu overrun parts found
+    → known ≡ loss_of overrun read.pages → IsCpuSettled cpu overrun parts found
 captured-as known cpu overrun parts found read is = record {
   pages = read.pages;
   cut = read.cut;
@@ -42,10 +43,25 @@ captured-as known cpu overrun parts found read is = record {
 -- it was read before that nothing is known, and then again
 pub captured-again : (known : Missed) (cpu : ℕ) (overrun : Option ℕ) (parts : List ModelPart) (old new : CpuCapture)
     (was : IsCpuRead unknown cpu parts old)
-    → IsCpuRead known cpu parts new → known ≡ loss_of overrun was.pages → IsCpuCaptured cpu overrun parts new
+    → IsCpuRead known cpu parts new → known ≡ loss_of overrun was.pages → IsCpuSettled cpu overrun parts new
 captured-again known cpu overrun parts old new was read is =
     captured-as known cpu overrun parts new read
     (is ∙ ap (loss_of overrun) (one-cut parts was.pages read.pages was.cut read.cut))
+
+-- a CPU whose loss is settled, with its counters
+pub captured-counted : (cpu : ℕ) (counted : Option Counters) (parts : List ModelPart) (found : CpuCapture)
+    → IsCpuSettled cpu (overrun_by counted) parts found
+    → IsCpuCaptured cpu counted parts (record found { counters = counted })
+captured-counted cpu counted parts found is = record {
+  pages = is.pages;
+  cut = is.cut;
+  cpu_is = is.cpu_is;
+  capture_is = is.capture_is;
+  counters_are = refl;
+  parts_are = is.parts_are;
+  bytes_are = is.bytes_are;
+  bytes_fit = is.bytes_fit;
+}
 
 -- the pages of a capture of which nothing is known
 pub plain-capture : (cpu : ℕ) (parts : List ModelPart) (found : CpuCapture) (read : IsCpuRead unknown cpu parts found)
@@ -53,21 +69,22 @@ pub plain-capture : (cpu : ℕ) (parts : List ModelPart) (found : CpuCapture) (r
 plain-capture cpu parts found read = subst (IsCapture found.capture) (all-told-unknown read.pages) read.capture_is
 
 -- the CPUs before one are settled, and the others are read
-pub record AreSettledTo (overrun : ℕ → Option ℕ) (parts : List ModelPart) (at : ℕ) (cpus : List CpuCapture) : Type 0
+pub record AreSettledTo (counted : ℕ → Option Counters) (parts : List ModelPart) (at : ℕ) (cpus : List CpuCapture)
+    : Type 0
   where
     pub done : (cpu : ℕ) (found : CpuCapture) → slice_get cpus cpu ≡ Some found → cpu < at
-        → IsCpuCaptured cpu (overrun cpu) (parts_of_cpu cpu parts) found
+        → IsCpuCaptured cpu (counted cpu) (parts_of_cpu cpu parts) found
     pub left : (cpu : ℕ) (found : CpuCapture) → slice_get cpus cpu ≡ Some found → at ≤ cpu
         → IsCpuRead unknown cpu (parts_of_cpu cpu parts) found
 
-pub settled-next : (overrun : ℕ → Option ℕ) (parts : List ModelPart) (at : ℕ) (cpus : List CpuCapture)
+pub settled-next : (counted : ℕ → Option Counters) (parts : List ModelPart) (at : ℕ) (cpus : List CpuCapture)
     (new : CpuCapture)
-    → AreSettledTo overrun parts at cpus → IsCpuCaptured at (overrun at) (parts_of_cpu at parts) new
-    → AreSettledTo overrun parts (at + 1) (set cpus at new)
-settled-next overrun parts at cpus new was own = record {
+    → AreSettledTo counted parts at cpus → IsCpuCaptured at (counted at) (parts_of_cpu at parts) new
+    → AreSettledTo counted parts (at + 1) (set cpus at new)
+settled-next counted parts at cpus new was own = record {
   done = λ cpu found is below. ⊎_elim
-      (λ here. subst (IsCpuCaptured cpu (overrun cpu) (parts_of_cpu cpu parts)) here.1
-      (subst (λ (n : ℕ). IsCpuCaptured n (overrun n) (parts_of_cpu n parts) new) (sym here.0) own))
+      (λ here. subst (IsCpuCaptured cpu (counted cpu) (parts_of_cpu cpu parts)) here.1
+      (subst (λ (n : ℕ). IsCpuCaptured n (counted n) (parts_of_cpu n parts) new) (sym here.0) own))
       (λ other. was.done cpu found other.1 (below_next cpu at below other.0))
       (get-set cpus at new cpu found is);
   left = λ cpu found is above. ⊎_elim
@@ -80,6 +97,6 @@ settled-next overrun parts at cpus new was own = record {
     below_next cpu n below other =
         ⊎_elim (λ less. less) (λ more. absurd (other (omega (arith, below, more)))) (cases_lt cpu n)
 
-pub overrun-at : (overruns : List (Option ℕ)) (cpu : ℕ) (d found : Option ℕ) → slice_get overruns cpu ≡ Some found
-    → get_or overruns cpu d ≡ found
-overrun-at overruns cpu d found is = get_or_from_slice_get overruns cpu found d is
+pub counted-at : (counted : List (Option Counters)) (cpu : ℕ) (d found : Option Counters)
+    → slice_get counted cpu ≡ Some found → get_or counted cpu d ≡ found
+counted-at counted cpu d found is = get_or_from_slice_get counted cpu found d is

@@ -1,6 +1,7 @@
 pub mod Pages
 pub mod Captures
 pub mod Rings
+pub mod Smaller
 pub mod Reading
 pub mod stamps
 pub mod files

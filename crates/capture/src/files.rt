@@ -12,11 +12,13 @@ mod fault;
 mod first;
 mod inputs;
 pub mod laws;
+mod lists;
+mod machine;
 mod others;
 mod parts;
 mod raw;
 mod settle;
 
-pub use captured::{Captured, CpuCapture, Input};
+pub use captured::{Captured, CpuCapture, Input, Wanted};
 pub use fault::{FileFault, InputFault, Unread};
 pub use inputs::read_inputs;

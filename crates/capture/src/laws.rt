@@ -1,18 +1,21 @@
 //! What a capture says of the ring that it was taken from.
-ghost use Rattle.std.specs.Prelude.{◌-◌, ◌≡◌, ◌≢◌, ℕ, ◌+◌, ◌^◌, ◌<◌, ◌≤◌, true, List, length, map, Some};
+ghost use Rattle.std.specs.Prelude.{◌-◌, ◌≡◌, ◌≢◌, ℕ, ◌+◌, ◌*◌, ◌^◌, ◌<◌, ◌≤◌, ◌++◌, true, List, length, map, Some};
+ghost use Rattle.std.specs.Prelude.{None, replicate};
 ghost use Rattle.std.specs.List.{slice_get, AllByRecursion};
 ghost use Rattle.trace_model.specs.Record.{Record};
 ghost use Rattle.trace_model.specs.Order.{first_moment_or, NeverFalls, IsWritable};
 ghost use Rattle.trace_model.specs.Words.{page_encoding};
 ghost use Rattle.trace_model.specs.Partition.{Piece, first_of};
 ghost use Rattle.trace_model.specs.Parcel.{Parcel, AreGenuine};
-ghost use Rattle.trace_model.specs.Image.{unknown, has_room, image_of, missed_reported};
+ghost use Rattle.trace_model.specs.Image.{unknown, has_room, image_of, missed_reported, from_le64};
 ghost use Rattle.trace_model.specs.ParcelBytes.{AgreesWith};
 ghost use Rattle.trace_model.specs.Collection.{Agree};
 ghost use Rattle.trace_model.specs.declared.limits.TheConstants.{MAX_IMAGE};
 ghost use Rattle.capture.specs.Pages.{PageRead, Page, intact, told, least_missed, IsPageOf, AreCut, parcels_from};
 ghost use Rattle.capture.specs.Rings.{AreReported, HaveCounts, IsAtMost, parcels_of_captures, FitsImage, images_from};
 ghost use Rattle.capture.specs.Rings.{page_written};
+ghost use Rattle.capture.specs.stamps.Restored.{stated_size};
+ghost use Rattle.capture.specs.Smaller.{begins_page, comes_after, has_page_at, smaller_in, smaller_pages};
 
 /// Bytes are cut into pages of a size in one way at most.
 pub fn captures_have_one_reading()
@@ -82,4 +85,22 @@ pub fn written_images_are_pages()
         → AllByRecursion (FitsImage size) pieces → 16 + size ≤ MAX_IMAGE
         → AreCut (16 + size) (images_from times size 0 pieces) (map (page_written size) pieces)
         × AreReported (map (page_written size) pieces) pieces }
+{}
+
+/// A page isn't taken for several, if all is zeros behind its data and the count of lost records after it, as the
+/// kernel leaves it.
+pub fn one_page_is_not_several()
+    ensures { (page front : List ℕ) (n : ℕ) → page ≡ front ++ replicate n 0
+        → length front ≤ 24 + stated_size page → smaller_in page ≡ None }
+{}
+
+/// Two pages of one size that are read as one are told apart, whatever is behind their data: if the data of the first
+/// ends in it, the second one has data, and its time is as late, or later by less than 2^48. And what the first pages
+/// of bytes show, all show.
+pub fn several_pages_are_told()
+    ensures two { (size : ℕ) (page other : List ℕ) → length page ≡ size → 16 + stated_size page ≤ size
+        → 16 ≤ length other → begins_page size other ≡ true → comes_after (from_le64 page) (from_le64 other) ≡ true
+        → has_page_at size (page ++ other) ≡ true }
+    ensures beginning { (size n smaller : ℕ) (front behind : List ℕ) → 0 < size → length front ≡ size * n
+        → smaller_pages size front ≡ Some smaller → smaller_pages size (front ++ behind) ≡ Some smaller }
 {}

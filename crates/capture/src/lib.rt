@@ -8,10 +8,12 @@
 #![tactic(auto)]
 
 pub mod files;
+mod head;
 pub mod laws;
 mod pages;
 mod part;
 mod read;
+mod smaller;
 pub mod stamps;
 
 pub use pages::{Capture, CaptureFault, Damaged};

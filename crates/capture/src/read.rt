@@ -1,16 +1,18 @@
 //! A capture, read from its source in pieces of one page.
 ghost use Rattle.std.specs.Prelude.{◌≡◌, ◌↔◌, ◌<◌, ◌≤◌, false, true, Err, length, take, IfOk, OnOk};
-ghost use Rattle.std.specs.Prelude.{List};
+ghost use Rattle.std.specs.Prelude.{ℕ, List};
 ghost use Rattle.std.specs.Io.KnownBytes.{IsAtEnd};
 ghost use Rattle.trace_model.specs.declared.limits.TheConstants.{MAX_CPUS};
 ghost use Rattle.capture.specs.Pages.{Page};
 ghost use Rattle.capture.specs.Captures.{IsCapture};
-ghost use Rattle.capture.specs.Reading.{IsRead, IsReadPast, IsReadOn, IsReadOnPast};
+ghost use Rattle.capture.specs.Reading.{IsRead, IsReadPast, IsReadSmaller};
+ghost use Rattle.capture.specs.Reading.{IsReadOn, IsReadOnPast, IsReadOnSmaller};
 ghost use Rattle.capture.specs.declared.pages.CaptureFault.{CaptureFault};
 ghost use Rattle.capture.specs.declared.pages.CaptureFault.TheVariants.{NoMemory as MemoryIs};
 ghost use Rattle.capture.specs.declared.read.ReadFault.TheVariants.{Capture as CaptureIs};
 
 use crate::pages::{Capture, CaptureFault};
+use crate::smaller::smaller_in;
 use command_io::{Source, fill_piece};
 use page_image::Missed;
 use std::alloc::{AllocError, Global};
@@ -23,6 +25,8 @@ pub enum ReadFault {
     Read,
     /// What was read can't be held.
     Capture(CaptureFault),
+    /// What was read as one page has several, of this many bytes each.
+    SmallerPages(u32),
 }
 
 impl From<CaptureFault> for ReadFault {
@@ -52,7 +56,8 @@ pub struct Extent {
 
 /// Reads on in a source of whose first page `filled` bytes are read already, into `piece`: fewer than there is room
 /// for only if it is at its end. Each page of it, which is as long as `piece` but for the last one, is read after those
-/// that the capture has. Where there is no answer, the capture is of no use; and nothing is read after a fault.
+/// that the capture has. Where there is no answer, the capture is of no use; and nothing is read after a fault, or
+/// after a page that has several smaller ones.
 pub fn read_on<R: Source>(
     alloc: Global,
     capture: &mut Capture,
@@ -76,10 +81,16 @@ pub fn read_on<R: Source>(
         → result ≡ Err (ReadFault.Capture CaptureFault.Numbers)
         → IsReadOnPast (length piece.old) (take filled piece.old) (R.remaining reader.old) (R.remaining reader.new)
         before }
+    ensures smaller { (bytes : ℕ) → result ≡ Err (ReadFault.SmallerPages bytes)
+        → IsReadOnSmaller (length piece.old) (take filled piece.old) (R.remaining reader.old)
+        (R.remaining reader.new) bytes }
 {
     let before = capture.pages;
     let mut filled = filled;
     while filled == piece.len() {
+        if let Some(bytes) = smaller_in(piece) {
+            return Err(ReadFault::SmallerPages(bytes));
+        }
         capture.add_page(alloc, piece, Missed::Unknown)?;
         let Ok(count) = fill_piece(reader, piece) else {
             return Err(ReadFault::Read);
@@ -87,7 +98,11 @@ pub fn read_on<R: Source>(
         filled = count;
     }
     let whole = capture.pages - before;
-    capture.add_rest(alloc, &mut piece[..filled], Missed::Unknown)?;
+    let rest = &mut piece[..filled];
+    if let Some(bytes) = smaller_in(rest) {
+        return Err(ReadFault::SmallerPages(bytes));
+    }
+    capture.add_rest(alloc, rest, Missed::Unknown)?;
     Ok(Extent {
         whole,
         rest: filled,
@@ -111,6 +126,8 @@ pub fn read_capture<R: Source>(
     ensures read_fault { (R.failed reader.new ≡ true) ↔ (result ≡ Err ReadFault.Read) }
     ensures numbers { result ≡ Err (ReadFault.Capture CaptureFault.Numbers)
         → IsReadPast size (R.remaining reader.old) (R.remaining reader.new) }
+    ensures smaller { (bytes : ℕ) → result ≡ Err (ReadFault.SmallerPages bytes)
+        → IsReadSmaller size (R.remaining reader.old) (R.remaining reader.new) bytes }
 {
     let mut piece = vec![in alloc; 0u8; size]?;
     let mut capture = Capture::new(alloc, cpu);

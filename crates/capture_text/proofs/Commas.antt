@@ -1,11 +1,11 @@
 -- Texts with a comma between two, one after the other.
 use Rattle.std.proofs.Common.{◌≡◌, ℕ, ◌+◌, ◌<◌, false, List, [], ◌∷◌, ◌++◌, length, get_or, take, map, refl}
 use Rattle.std.proofs.Common.{sym, ap, ◌∙◌, append_assoc, append-nil}
-use Rattle.std.specs.Prelude.{flat_map, ◌&&◌}
+use Rattle.std.specs.Prelude.{flat_map, codes, ◌&&◌}
 use Rattle.std.proofs.lemmas.List.{take_more, map-append}
 use Rattle.std.proofs.lemmas.List.Folds.{flat_map-map}
 use Rattle.std.proofs.lemmas.Grind.{flat_map-append}
-use Rattle.capture_text.specs.Fields.{joined, continued, is_no_text}
+use Rattle.capture_text.specs.Fields.{joined, continued, is_no_text, names_continued, open_names}
 
 after_first : (texts : List (List ℕ)) → flat_map (λ other. 44 ∷ other) texts ≡ continued false texts
 after_first [] = refl
@@ -25,6 +25,19 @@ pub none_more : (before next : List (List ℕ)) → is_no_text (before ++ next) 
 none_more [] next = refl
 none_more (first ∷ others) next = refl
 
+-- members of names after these
+after_some : (next : List (List ℕ)) → continued false next ≡ names_continued false next
+after_some [] = refl
+after_some (one ∷ others) = refl
+
+pub names_more : (before next : List (List ℕ))
+    → open_names (before ++ next) ≡ open_names before ++ names_continued (is_no_text before) next
+names_more [] next = refl
+names_more (first ∷ others) next =
+    ap (λ (l : List ℕ). codes ",\"names\":{" ++ l)
+    (joined_more (first ∷ others) next ∙ ap (λ (l : List ℕ). joined (first ∷ others) ++ l) (after_some next))
+    ∙ sym (append_assoc (codes ",\"names\":{") (joined (first ∷ others)) (names_continued false next))
+
 -- texts that are made of values
 pub joined_values : {A : Type 0} (text : A → List ℕ) (first : A) (others : List A)
     → joined (map text (first ∷ others)) ≡ text first ++ flat_map (λ other. 44 ∷ text other) others
@@ -34,7 +47,7 @@ joined_values text first others =
 -- ---- what is made of the first values, and of one more
 
 module _ {A B : Type 0} (seen : A → B) (values : List A) (index : ℕ) (default : A) (below : index < length values) where
-  one_more : map seen (take (index + 1) values)
+  pub one_more : map seen (take (index + 1) values)
       ≡ map seen (take index values) ++ seen (get_or values index default) ∷ []
   one_more = ap (map seen) (take_more values index default below)
       ∙ map-append seen (take index values) (get_or values index default ∷ [])

@@ -10,7 +10,27 @@ use Rattle.text_values.specs.declared.output.Out.{Out}
 use Rattle.text_values.specs.Putting.{Puts}
 use Rattle.text_values.proofs.Chains.{put_then, put_same}
 use Rattle.capture_text.specs.Fields.{joined, continued, is_no_text, uncut_part, json_uncut, is_uncut, has_uncut}
-use Rattle.capture_text.proofs.Commas.{joined_more, none_more, made_more}
+use Rattle.capture_text.specs.Fields.{open_names, names_continued, fields_text, field_text, shown_text}
+use Rattle.capture_text.specs.Beside.{NameSource}
+use Rattle.event_fields.specs.Shown.{is_shown}
+use Rattle.std.specs.List.{list_any}
+use Rattle.std.specs.Prelude.{if◌then◌else◌}
+use Rattle.std.proofs.Common.{ap₂}
+use Rattle.capture_text.proofs.Commas.{joined_more, names_more, none_more, one_more, made_more}
+
+or_false : (b : Bool) → (b || false) ≡ b
+or_false true = refl
+or_false false = refl
+
+or_or : (a b c : Bool) → (a || (b || c)) ≡ ((a || b) || c)
+or_or true b c = refl
+or_or false b c = refl
+
+any_more : {A : Type 0} (test : A → Bool) (done : List A) (one : A)
+    → list_any test (done ++ one ∷ []) ≡ (list_any test done || test one)
+any_more test [] one = or_false (test one)
+any_more test (first ∷ done) one =
+    ap (λ (b : Bool). test first || b) (any_more test done one) ∙ or_or (test first) (list_any test done) (test one)
 
 module _ {W : Type 0} {g : Ghosts W} (fields : List Field) (index : ℕ) (default field : Field)
     (below : index < length fields) (is : field ≡ get_or fields index default) {start before after : Out W g} where
@@ -30,6 +50,51 @@ module _ {W : Type 0} {g : Ghosts W} (fields : List Field) (index : ℕ) (defaul
         put_same _ _ (sym (ap joined more ∙ joined_more made next))
             (put_then (joined made) (continued (is_no_text made) next) so_far.0
             (subst (λ (b : Bool). Puts (continued b next) before after) so_far.1 put)),
+        first ∙ ap (λ (b : Bool). b && is_no_text next) so_far.1 ∙ sym (ap is_no_text more ∙ none_more made next),
+      )
+
+  -- one field more in a line of text
+  pub fields_put : (source_of given : EventField → NameSource) (payload : List ℕ) (cut one_cut : Bool)
+      → Puts (fields_text source_of payload (map field_seen (take index fields))) start before
+      × (cut ≡ has_uncut payload (map field_seen (take index fields)))
+      → given (field_seen field) ≡ source_of (field_seen field)
+      → Puts (field_text given payload (field_seen field)) before after
+      → one_cut ≡ is_uncut payload (field_seen field)
+      → Puts (fields_text source_of payload (map field_seen (take (index + 1) fields))) start after
+      × ((cut || one_cut) ≡ has_uncut payload (map field_seen (take (index + 1) fields)))
+  fields_put source_of given payload cut one_cut so_far source_is put cut_is =
+      let done = map field_seen (take index fields) in
+      let here : field_seen (get_or fields index default) ≡ field_seen field = ap field_seen (sym is) in
+      let same =
+      ap (λ (s : NameSource). if is_shown (field_seen field) then shown_text s payload (field_seen field) else [])
+      source_is in (
+        put_same _ _
+            (sym (made_more field_seen fields index default below (field_text source_of payload)
+            ∙ ap (λ (f : EventField). fields_text source_of payload done ++ field_text source_of payload f) here))
+            (put_then _ _ so_far.0 (put_same _ _ same put)),
+        ap₂ (λ (a b : Bool). a || b) so_far.1 cut_is
+            ∙ sym (ap (has_uncut payload) (one_more field_seen fields index default below)
+            ∙ any_more (is_uncut payload) done (field_seen (get_or fields index default))
+            ∙ ap (λ (f : EventField). has_uncut payload done || is_uncut payload f) here),
+      )
+
+  -- the names of one field more
+  pub names_put : (make : EventField → List (List ℕ)) (next : List (List ℕ)) (is_first is_first' : Bool)
+      → Puts (open_names (flat_map make (map field_seen (take index fields)))) start before
+      × (is_first ≡ is_no_text (flat_map make (map field_seen (take index fields))))
+      → next ≡ make (field_seen field)
+      → Puts (names_continued is_first next) before after
+      → is_first' ≡ (is_first && is_no_text next)
+      → Puts (open_names (flat_map make (map field_seen (take (index + 1) fields)))) start after
+      × (is_first' ≡ is_no_text (flat_map make (map field_seen (take (index + 1) fields))))
+  names_put make next is_first is_first' so_far next_is put first =
+      let made = flat_map make (map field_seen (take index fields)) in
+      let more = made_more field_seen fields index default below make
+      ∙ ap (λ (f : Field). made ++ make (field_seen f)) (sym is)
+      ∙ ap (λ (l : List (List ℕ)). made ++ l) (sym next_is) in (
+        put_same _ _ (sym (ap open_names more ∙ names_more made next))
+            (put_then (open_names made) (names_continued (is_no_text made) next) so_far.0
+            (subst (λ (b : Bool). Puts (names_continued b next) before after) so_far.1 put)),
         first ∙ ap (λ (b : Bool). b && is_no_text next) so_far.1 ∙ sym (ap is_no_text more ∙ none_more made next),
       )
 

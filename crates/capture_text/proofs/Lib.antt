@@ -9,4 +9,9 @@ mod Damages
 mod Places
 mod Pieces
 mod Events
-mod UnknownLosses
+mod SaidNumbers
+mod Details
+mod NameTables
+mod NumberNames
+mod LossSums
+mod LeftOut

@@ -37,18 +37,18 @@ known text pid pid' event event' print print' same_pid same_event same_print =
     ∙ ap (λ (p : List ℕ). text ++ (pid' ++ space ∷ event' ++ p)) same_print
 
 json_known_pieces : (text pid event print : List ℕ)
-    → ((((text ++ codes ",\"pid\":") ++ pid) ++ codes ",\"event\":") ++ event) ++ print
-    ≡ text ++ (codes ",\"pid\":" ++ pid ++ codes ",\"event\":" ++ event ++ print)
+    → (((text ++ pid) ++ codes ",\"event\":") ++ event) ++ print
+    ≡ text ++ (pid ++ codes ",\"event\":" ++ event ++ print)
 json_known_pieces text pid event print = simp append_assoc
 
 pub json_known : (text pid pid' event event' print print' : List ℕ) → pid ≡ pid' → event ≡ event' → print ≡ print'
-    → ((((text ++ codes ",\"pid\":") ++ pid) ++ codes ",\"event\":") ++ event) ++ print
-    ≡ text ++ (codes ",\"pid\":" ++ pid' ++ codes ",\"event\":" ++ event' ++ print')
+    → (((text ++ pid) ++ codes ",\"event\":") ++ event) ++ print
+    ≡ text ++ (pid' ++ codes ",\"event\":" ++ event' ++ print')
 json_known text pid pid' event event' print print' same_pid same_event same_print =
     json_known_pieces text pid event print
-    ∙ ap (λ (n : List ℕ). text ++ (codes ",\"pid\":" ++ n ++ codes ",\"event\":" ++ event ++ print)) same_pid
-    ∙ ap (λ (e : List ℕ). text ++ (codes ",\"pid\":" ++ pid' ++ codes ",\"event\":" ++ e ++ print)) same_event
-    ∙ ap (λ (p : List ℕ). text ++ (codes ",\"pid\":" ++ pid' ++ codes ",\"event\":" ++ event' ++ p)) same_print
+    ∙ ap (λ (n : List ℕ). text ++ (n ++ codes ",\"event\":" ++ event ++ print)) same_pid
+    ∙ ap (λ (e : List ℕ). text ++ (pid' ++ codes ",\"event\":" ++ e ++ print)) same_event
+    ∙ ap (λ (p : List ℕ). text ++ (pid' ++ codes ",\"event\":" ++ event' ++ p)) same_print
 
 five : (a b c d e : List ℕ) → (((a ++ b) ++ c) ++ d) ++ e ≡ a ++ (b ++ (c ++ (d ++ e)))
 five a b c d e = simp append_assoc

@@ -1,5 +1,5 @@
 -- What holds of the printing of fields.
-use Rattle.std.specs.Prelude.{◌≡◌, suc, ℤ, pos, negsuc, ◌^◌, ◌<◌}
+use Rattle.std.specs.Prelude.{◌≡◌, ◌⊎◌, ℕ, suc, ℤ, pos, negsuc, ◌^◌, ◌<◌, List, [], ◌∷◌, ◌++◌, ⊤}
 use Rattle.event_fields.specs.declared.field.NumberKind.{NumberKind}
 use Rattle.event_fields.specs.declared.field.NumberKind.TheVariants.{Signed, Unsigned, Word, Address}
 use Rattle.capture_text.specs.declared.form.Form.TheVariants.{Text}
@@ -17,3 +17,15 @@ IsOfKind Address (negsuc n) = ⊥
 abbrev pub NumbersReadBack : Type 0
 NumbersReadBack = (kind : NumberKind) (a b : ℤ) → IsOfKind kind a → IsOfKind kind b
     → number_text Text kind a ≡ number_text Text kind b → a ≡ b
+
+-- what ends a number in a line: nothing more, a space, or the colon before its names
+abbrev pub Ends : List ℕ → Type 0
+Ends [] = ⊤
+Ends (b ∷ more) = (b ≡ 32) ⊎ (b ≡ 58)
+
+-- Where a number ends in a line is seen: two numbers of a kind, each with such an end behind it, are the same if the
+-- texts are, and so are their ends.
+abbrev pub NumbersEnd : Type 0
+NumbersEnd =
+    (kind : NumberKind) (a b : ℤ) (end other : List ℕ) → IsOfKind kind a → IsOfKind kind b → Ends end → Ends other
+    → number_text Text kind a ++ end ≡ number_text Text kind b ++ other → (a ≡ b) × (end ≡ other)

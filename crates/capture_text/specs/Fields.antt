@@ -12,7 +12,8 @@ use Rattle.event_fields.specs.Shown.{is_shown, numbers_of_kind}
 use Rattle.event_fields.specs.Values.{FieldValue, number, numbers, text, bytes, value_of}
 use Rattle.capture_text.specs.declared.form.Form.{Form}
 use Rattle.capture_text.specs.declared.form.Form.TheVariants.{Text, Json}
-use Rattle.capture_text.specs.Quoting.{quotation_mark, quoted}
+use Rattle.capture_text.specs.Quoting.{marked, quoted}
+use Rattle.capture_text.specs.Beside.{NameSource, value_names, names_part, names_member}
 
 -- texts with a comma between two
 abbrev pub joined : List (List ℕ) → List ℕ
@@ -37,10 +38,6 @@ continued is_first (one ∷ others) = comma is_first ++ joined (one ∷ others)
 -- texts with a comma between two, in brackets
 abbrev pub bracketed : List (List ℕ) → List ℕ
 bracketed texts = codes "[" ++ joined texts ++ codes "]"
-
--- a name between quotation marks
-abbrev pub marked : List ℕ → List ℕ
-marked name = quotation_mark ∷ name ++ quotation_mark ∷ []
 
 -- a field that is shown and has no value in the payload
 abbrev pub is_uncut : (payload : List ℕ) → EventField → Bool
@@ -74,18 +71,19 @@ abbrev pub value_or_mark : NumberKind → Option FieldValue → List ℕ
 value_or_mark kind (Some value) = value_text Text kind value
 value_or_mark kind None = codes "!"
 
--- a space, the name of a field, `=` and its value
-abbrev pub shown_text : (payload : List ℕ) → EventField → List ℕ
-shown_text payload field =
+-- a space, the name of a field, `=`, its value, and the names that this has
+abbrev pub shown_text : (source : NameSource) → (payload : List ℕ) → EventField → List ℕ
+shown_text source payload field =
     space ∷ field.name ++ 61 ∷ value_or_mark (numbers_of_kind field.layout.kind) (value_of field.layout payload)
+    ++ names_part (value_names source (value_of field.layout payload))
 
--- the same, if the field is shown
-abbrev pub field_text : (payload : List ℕ) → EventField → List ℕ
-field_text payload field = if is_shown field then shown_text payload field else []
+-- the same, if the field is shown. The names of its numbers are from a source.
+abbrev pub field_text : (source_of : EventField → NameSource) → (payload : List ℕ) → EventField → List ℕ
+field_text source_of payload field = if is_shown field then shown_text (source_of field) payload field else []
 
 -- The fields of a payload that are shown, in their order.
-abbrev pub fields_text : (payload : List ℕ) → List EventField → List ℕ
-fields_text payload fields = flat_map (field_text payload) fields
+abbrev pub fields_text : (source_of : EventField → NameSource) → (payload : List ℕ) → List EventField → List ℕ
+fields_text source_of payload fields = flat_map (field_text source_of payload) fields
 
 -- ---- in a JSON line
 
@@ -109,8 +107,40 @@ abbrev pub uncut_part : List (List ℕ) → List ℕ
 uncut_part [] = []
 uncut_part (name ∷ names) = codes ",\"uncut\":" ++ bracketed (name ∷ names)
 
--- The fields of a payload that are shown and have values, in their order, and the names of those that have none.
-abbrev pub json_fields : (payload : List ℕ) → List EventField → List ℕ
-json_fields payload fields =
+-- the member of the names of a field that is shown, and whose value has some, or none
+abbrev pub shown_names : NameSource → (payload : List ℕ) → EventField → List (List ℕ)
+shown_names source payload field =
+    if is_shown field then names_member field.name (value_names source (value_of field.layout payload)) else []
+
+abbrev pub json_names : (source_of : EventField → NameSource) → (payload : List ℕ) → EventField → List (List ℕ)
+json_names source_of payload field = shown_names (source_of field) payload field
+
+-- what is before a member of names: the beginning of all, or a comma
+abbrev pub names_start : (is_first : Bool) → List ℕ
+names_start true = codes ",\"names\":{"
+names_start false = codes ","
+
+-- the members of the names of a field, after what is before them
+abbrev pub names_continued : (is_first : Bool) → List (List ℕ) → List ℕ
+names_continued is_first [] = []
+names_continued is_first (one ∷ others) = names_start is_first ++ joined (one ∷ others)
+
+-- the names of fields, if there are any, but for the brace behind them
+abbrev pub open_names : List (List ℕ) → List ℕ
+open_names members = names_continued true members
+
+abbrev pub closing_brace : (is_none : Bool) → List ℕ
+closing_brace true = []
+closing_brace false = codes "}"
+
+-- the names of fields, if there are any
+abbrev pub json_names_part : List (List ℕ) → List ℕ
+json_names_part members = open_names members ++ closing_brace (is_no_text members)
+
+-- The fields of a payload that are shown and have values, in their order, the names of these, and the names of the
+-- fields that have none.
+abbrev pub json_fields : (source_of : EventField → NameSource) → (payload : List ℕ) → List EventField → List ℕ
+json_fields source_of payload fields =
     codes ",\"fields\":{" ++ joined (flat_map (json_member payload) fields) ++ codes "}"
+    ++ json_names_part (flat_map (json_names source_of payload) fields)
     ++ uncut_part (flat_map (json_uncut payload) fields)

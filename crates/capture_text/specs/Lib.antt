@@ -1,4 +1,5 @@
 pub mod Quoting
+pub mod Beside
 pub mod Fields
 pub mod FieldLaws
 pub mod Names
@@ -6,6 +7,9 @@ pub mod Fielded
 pub mod Printing
 pub mod Selection
 pub mod Window
+pub mod Lent
+pub mod Sources
 pub mod Listed
 pub mod ListedLaws
+pub mod LossSums
 pub mod Printed

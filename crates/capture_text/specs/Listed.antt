@@ -7,13 +7,17 @@ use Rattle.capture.specs.declared.part.Part.{Part}
 use Rattle.capture.specs.declared.pages.Damaged.{Damaged}
 use Rattle.capture_text.specs.declared.form.Form.{Form}
 use Rattle.capture_text.specs.Printing.{Detail, record_line, is_line_cut, run_line, unknown_line, damage_line}
-use Rattle.capture_text.specs.Printing.{reported_line}
+use Rattle.capture_text.specs.Printing.{late_line, reported_line}
 use Rattle.capture_text.specs.Selection.{Selected, is_selected}
 use Rattle.capture_text.specs.Window.{KnownBound, has_run, has_place}
 
 -- a record's line, if it is listed
 abbrev pub listed_line : Form → Detail → Selected → Line → List ℕ
 listed_line form detail selected line = if is_selected selected line then record_line form detail line else []
+
+-- that a record comes late, if it is listed
+abbrev pub listed_late : Form → Selected → Line → List ℕ
+listed_late form selected line = if is_selected selected line then late_line form line.cpu line.number else []
 
 -- whether a field is in a line that is listed, and has no value in the payload
 abbrev pub is_listed_cut : Detail → Selected → Line → Bool

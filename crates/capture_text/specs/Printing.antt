@@ -1,7 +1,8 @@
 -- The lines of a collection: of its records, of its missing runs, of losses of unknown number, and of damaged pages, as
 -- text or as JSON. docs/formats/program.md, "Captures".
-use Rattle.std.specs.Prelude.{ℕ, ◌+◌, ◌-◌, ◌*◌, ◌==◌, nat_lt, Bool, false, if◌then◌else◌, List, [], ◌∷◌, ◌++◌}
-use Rattle.std.specs.Prelude.{flat_map, codes, Option}
+use Rattle.std.specs.Prelude.{ℕ, ℤ, pos, negsuc, ◌+◌, ◌-◌, ◌*◌, ◌==◌, nat_lt, Bool, false, if◌then◌else◌, List, []}
+use Rattle.std.specs.Prelude.{◌∷◌, ◌++◌, flat_map, codes, Option, Some, None}
+use Rattle.std.specs.Option.{option_map}
 use Rattle.std.specs.Int.{div_ceil}
 use Rattle.std.specs.Fmt.{decimal}
 use Rattle.std.specs.List.{enumerate_from}
@@ -20,15 +21,19 @@ use Rattle.capture.specs.declared.part.Part.{Part}
 use Rattle.capture_text.specs.declared.form.Form.{Form}
 use Rattle.capture_text.specs.declared.form.Form.TheVariants.{Text, Json}
 use Rattle.capture_text.specs.Names.{named_part, json_named}
+use Rattle.kernel_names.specs.Symbols.{name_by}
+use Rattle.kernel_names.specs.SymbolNames.{name_up_to}
+use Rattle.kernel_names.specs.Tasks.{task_by}
+use Rattle.capture_text.specs.Beside.{FieldNaming}
 use Rattle.capture_text.specs.Fielded.{is_cut, fielded_part, json_fielded}
 
 -- ---- records
 
 -- a record's line with what its event is
-abbrev pub named_line : (ℕ → Option Event) → Line → List ℕ
-named_line event_by line =
+abbrev pub named_line : (ℕ → Option Event) → (ℤ → Option (List ℕ)) → Line → List ℕ
+named_line event_by task_by line =
     decimal line.cpu ++ space ∷ decimal line.number ++ space ∷ decimal line.moment
-    ++ space ∷ named_part event_by line.bytes (common_fields_in line.bytes)
+    ++ space ∷ named_part event_by task_by line.bytes (common_fields_in line.bytes)
     ++ space ∷ hex_text line.bytes ++ line_feed ∷ []
 
 -- a record's line as JSON, with what `named` says of its event
@@ -39,40 +44,64 @@ json_line named line =
     ++ line_feed ∷ []
 
 -- a record's line with the fields of its event
-abbrev pub fielded_line : (ℕ → Option Event) → Line → List ℕ
-fielded_line event_by line =
+abbrev pub fielded_line : FieldNaming → (ℕ → Option Event) → (ℤ → Option (List ℕ)) → Line → List ℕ
+fielded_line naming event_by task_by line =
     decimal line.cpu ++ space ∷ decimal line.number ++ space ∷ decimal line.moment
-    ++ space ∷ fielded_part event_by line.bytes (common_fields_in line.bytes) ++ line_feed ∷ []
+    ++ space ∷ fielded_part naming event_by task_by line.bytes (common_fields_in line.bytes) ++ line_feed ∷ []
 
 -- the same as JSON
-abbrev pub json_fielded_line : (ℕ → Option Event) → Line → List ℕ
-json_fielded_line event_by line =
+abbrev pub json_fielded_line : FieldNaming → (ℕ → Option Event) → (ℤ → Option (List ℕ)) → Line → List ℕ
+json_fielded_line naming event_by task_by line =
     codes "{\"cpu\":" ++ decimal line.cpu ++ codes ",\"number\":" ++ decimal line.number
     ++ codes ",\"time\":" ++ decimal line.moment
-    ++ json_fielded event_by line.bytes (common_fields_in line.bytes) ++ codes "}" ++ line_feed ∷ []
+    ++ json_fielded naming event_by task_by line.bytes (common_fields_in line.bytes) ++ codes "}" ++ line_feed ∷ []
+
+-- What names numbers: the lines of the kernel's list of processes, if their names are printed; whether the tables of
+-- the formats name the numbers of fields; and the lines of the kernel's list of symbols, if functions are printed.
+pub record NameTexts : Type 0 where
+  pub tasks : Option (List (List ℕ))
+  pub tables : Bool
+  pub symbols : Option (List (List ℕ))
+
+-- the name of a process by such lines
+abbrev pub task_in_lines : Option (List (List ℕ)) → ℤ → Option (List ℕ)
+task_in_lines None pid = None
+task_in_lines (Some lines) (pos pid) = task_by pid lines
+task_in_lines (Some lines) (negsuc n) = None
+
+-- what names the numbers of fields by such lines
+abbrev pub naming_by : NameTexts → FieldNaming
+naming_by texts = record {
+  tables = texts.tables;
+  functions = option_map (λ lines address. name_up_to (λ a. name_by a lines) address) texts.symbols;
+}
 
 -- What a line says of its record besides the numbers: its payload; what its event is by these formats, and the payload;
--- or what its event is and the fields that its format describes.
+-- or what its event is and the fields that its format describes; and the names that numbers have by these texts.
 pub data Detail : Type 0 where
   bare : Detail
-  named : List EventFormat → Detail
-  fielded : List EventFormat → Detail
+  named : List EventFormat → (tasks : Option (List (List ℕ))) → Detail
+  fielded : List EventFormat → NameTexts → Detail
 
 -- A record's line, in this detail.
 abbrev pub record_line : Form → Detail → Line → List ℕ
 record_line Text bare line = printed_line line
-record_line Text (named formats) line = named_line (λ id. event_of id formats) line
-record_line Text (fielded formats) line = fielded_line (λ id. event_of id formats) line
+record_line Text (named formats tasks) line = named_line (λ id. event_of id formats) (task_in_lines tasks) line
+record_line Text (fielded formats texts) line =
+    fielded_line (naming_by texts) (λ id. event_of id formats) (task_in_lines texts.tasks) line
 record_line Json bare line = json_line [] line
-record_line Json (named formats) line =
-    json_line (json_named (λ id. event_of id formats) line.bytes (common_fields_in line.bytes)) line
-record_line Json (fielded formats) line = json_fielded_line (λ id. event_of id formats) line
+record_line Json (named formats tasks) line =
+    json_line (json_named (λ id. event_of id formats) (task_in_lines tasks) line.bytes (common_fields_in line.bytes))
+    line
+record_line Json (fielded formats texts) line =
+    json_fielded_line (naming_by texts) (λ id. event_of id formats) (task_in_lines texts.tasks) line
 
 -- Whether a field is in the line that has no value in the payload.
 abbrev pub is_line_cut : Detail → Line → Bool
 is_line_cut bare line = false
-is_line_cut (named formats) line = false
-is_line_cut (fielded formats) line = is_cut (λ id. event_of id formats) line.bytes (common_fields_in line.bytes)
+is_line_cut (named formats tasks) line = false
+is_line_cut (fielded formats texts) line =
+    is_cut (λ id. event_of id formats) line.bytes (common_fields_in line.bytes)
 
 -- ---- missing runs
 
@@ -101,6 +130,14 @@ unknown_line Json cpu number =
 
 abbrev pub unknown_lines : Form → (cpu : ℕ) → (numbers : List ℕ) → List ℕ
 unknown_lines form cpu numbers = flat_map (unknown_line form cpu) numbers
+
+-- ---- records that come late
+
+-- the record of this number of a CPU comes later than its place in the order: one was printed that belongs after it
+abbrev pub late_line : Form → (cpu number : ℕ) → List ℕ
+late_line Text cpu number = codes "late " ++ decimal cpu ++ space ∷ decimal number ++ line_feed ∷ []
+late_line Json cpu number =
+    codes "{\"cpu\":" ++ decimal cpu ++ codes ",\"late\":" ++ decimal number ++ codes "}" ++ line_feed ∷ []
 
 -- ---- damaged pages
 

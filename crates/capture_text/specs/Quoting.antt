@@ -39,6 +39,10 @@ escaped_text is_text text = flat_map (escaped is_text) text
 abbrev pub IsPlain : Bool → ℕ → Type 0
 IsPlain is_text b = escaped is_text b ≡ b ∷ []
 
+-- a name between quotation marks, as it is
+abbrev pub marked : List ℕ → List ℕ
+marked name = quotation_mark ∷ name ++ quotation_mark ∷ []
+
 -- a text between quotation marks
 abbrev pub quoted : List ℕ → List ℕ
 quoted text = quotation_mark ∷ escaped_text (is_utf8 text) text ++ quotation_mark ∷ []

@@ -2,6 +2,7 @@
 //! pages, as text or as JSON. It is put through a buffer of fixed size.
 #![tactic(auto)]
 
+mod beside;
 mod fielded;
 mod fields;
 mod form;
@@ -14,11 +15,13 @@ mod offsets;
 mod printer;
 mod quoting;
 mod selection;
+mod sums;
 mod window;
 
 pub use form::Form;
-pub use naming::Naming;
+pub use naming::{Beside, Naming};
 pub use printer::Printer;
 pub use quoting::shown_byte;
 pub use selection::Selection;
+pub use sums::RingLosses;
 pub use window::Window;

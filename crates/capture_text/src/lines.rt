@@ -11,7 +11,8 @@ ghost use Rattle.text_values.specs.Putting.{Puts};
 ghost use Rattle.event_fields.specs.Events.{HasFields};
 ghost use Rattle.capture_text.specs.Fielded.{is_cut};
 ghost use Rattle.capture_text.specs.Names.{json_named};
-ghost use Rattle.capture_text.specs.Printed.{IsDetail, IsSound};
+ghost use Rattle.capture_text.specs.Lent.{naming_seen, tables_lent, task_known, tasks_lent};
+ghost use Rattle.capture_text.specs.Printed.{AreTables, IsDetail, IsSound};
 ghost use Rattle.capture_text.specs.Printing.{Detail, record_line, is_line_cut};
 ghost use Rattle.capture_text.specs.Printing.{named_line, fielded_line, json_line, json_fielded_line};
 ghost use Rattle.capture_text.specs.Selection.{selection_seen};
@@ -20,11 +21,12 @@ ghost use Rattle.capture_text.specs.Listed.{listed_line, is_listed_cut};
 use crate::fielded::{put_fielded, put_json_fielded};
 use crate::form::Form;
 use crate::names::{put_json_named, put_named};
-use crate::naming::Naming;
+use crate::naming::{Beside, Naming};
 use crate::selection::Selection;
 use command_io::Sink;
 use event_fields::EventFields;
 use itoa::write_digits;
+use kernel_names::TaskNames;
 use text_values::Out;
 use time_merge::Line;
 use trace_dat::kernel_texts::EventNames;
@@ -67,11 +69,17 @@ fn put_line<W: Sink>(out: &mut Out<'_, W>, line: &Line<'_>)
 }
 
 /// Puts a record's line with what its event is.
-fn put_named_line<W: Sink>(out: &mut Out<'_, W>, names: &EventNames, line: &Line<'_>)
-    ensures { Puts (named_line (events_of names.now) (line_seen line.now)) out.old out.new }
+fn put_named_line<W: Sink>(
+    out: &mut Out<'_, W>,
+    names: &EventNames,
+    tasks: Option<&TaskNames>,
+    line: &Line<'_>,
+)
+    ensures { Puts (named_line (events_of names.now) (task_known (tasks_lent tasks.entry)) (line_seen line.now))
+        out.old out.new }
 {
     put_numbers(out, line);
-    put_named(out, names, line.bytes);
+    put_named(out, names, tasks, line.bytes);
     out.put(b" ");
     out.put_payload(line.bytes);
     out.put(b"\n");
@@ -108,12 +116,17 @@ fn put_json_line<W: Sink>(out: &mut Out<'_, W>, line: &Line<'_>)
 }
 
 /// Puts a record's line as JSON, with what its event is.
-fn put_json_named_line<W: Sink>(out: &mut Out<'_, W>, names: &EventNames, line: &Line<'_>)
-    ensures { Puts (json_line (json_named (events_of names.now) line.now.bytes.now
-        (common_fields_in line.now.bytes.now)) (line_seen line.now)) out.old out.new }
+fn put_json_named_line<W: Sink>(
+    out: &mut Out<'_, W>,
+    names: &EventNames,
+    tasks: Option<&TaskNames>,
+    line: &Line<'_>,
+)
+    ensures { Puts (json_line (json_named (events_of names.now) (task_known (tasks_lent tasks.entry))
+        line.now.bytes.now (common_fields_in line.now.bytes.now)) (line_seen line.now)) out.old out.new }
 {
     put_json_numbers(out, line);
-    put_json_named(out, names, line.bytes);
+    put_json_named(out, names, tasks, line.bytes);
     put_json_payload(out, line.bytes);
 }
 
@@ -122,14 +135,17 @@ fn put_fielded_line<W: Sink>(
     out: &mut Out<'_, W>,
     names: &EventNames,
     fields: &EventFields,
+    beside: Beside<'_>,
     line: &Line<'_>,
 ) -> bool
-    requires { HasFields fields.now (events_of names.now) }
-    ensures text { Puts (fielded_line (events_of names.now) (line_seen line.now)) out.old out.new }
+    requires fields { HasFields fields.now (events_of names.now) }
+    requires tables { AreTables (tables_lent beside.tables) (events_of names.now) }
+    ensures text { Puts (fielded_line (naming_seen beside.entry) (events_of names.now)
+        (task_known (tasks_lent beside.entry.tasks)) (line_seen line.now)) out.old out.new }
     ensures cut { result ≡ is_cut (events_of names.now) line.now.bytes.now (common_fields_in line.now.bytes.now) }
 {
     put_numbers(out, line);
-    let is_cut = put_fielded(out, names, fields, line.bytes);
+    let is_cut = put_fielded(out, names, fields, beside, line.bytes);
     out.put(b"\n");
     is_cut
 }
@@ -139,14 +155,17 @@ fn put_json_fielded_line<W: Sink>(
     out: &mut Out<'_, W>,
     names: &EventNames,
     fields: &EventFields,
+    beside: Beside<'_>,
     line: &Line<'_>,
 ) -> bool
-    requires { HasFields fields.now (events_of names.now) }
-    ensures text { Puts (json_fielded_line (events_of names.now) (line_seen line.now)) out.old out.new }
+    requires fields { HasFields fields.now (events_of names.now) }
+    requires tables { AreTables (tables_lent beside.tables) (events_of names.now) }
+    ensures text { Puts (json_fielded_line (naming_seen beside.entry) (events_of names.now)
+        (task_known (tasks_lent beside.entry.tasks)) (line_seen line.now)) out.old out.new }
     ensures cut { result ≡ is_cut (events_of names.now) line.now.bytes.now (common_fields_in line.now.bytes.now) }
 {
     put_json_numbers(out, line);
-    let is_cut = put_json_fielded(out, names, fields, line.bytes);
+    let is_cut = put_json_fielded(out, names, fields, beside, line.bytes);
     out.put(b"}\n");
     is_cut
 }
@@ -166,14 +185,14 @@ fn put_record<W: Sink>(
 {
     match (form, naming) {
         (Form::Text, Naming::Payload) => put_line(out, line),
-        (Form::Text, Naming::Names(names)) => put_named_line(out, names, line),
-        (Form::Text, Naming::Fields(names, fields)) => {
-            return put_fielded_line(out, names, fields, line);
+        (Form::Text, Naming::Names(names, tasks)) => put_named_line(out, names, tasks, line),
+        (Form::Text, Naming::Fields(names, fields, beside)) => {
+            return put_fielded_line(out, names, fields, beside, line);
         }
         (Form::Json, Naming::Payload) => put_json_line(out, line),
-        (Form::Json, Naming::Names(names)) => put_json_named_line(out, names, line),
-        (Form::Json, Naming::Fields(names, fields)) => {
-            return put_json_fielded_line(out, names, fields, line);
+        (Form::Json, Naming::Names(names, tasks)) => put_json_named_line(out, names, tasks, line),
+        (Form::Json, Naming::Fields(names, fields, beside)) => {
+            return put_json_fielded_line(out, names, fields, beside, line);
         }
     }
     false

@@ -7,6 +7,7 @@ ghost use Rattle.world_model.specs.Printing.{printed_missing};
 ghost use Rattle.dump_command.specs.ImageFaults.{reader_fault_text, word_fault_text};
 ghost use Rattle.text_values.specs.Putting.{Puts};
 ghost use Rattle.capture_text.specs.Printing.{json_missing, run_line, unknown_line, damaged_line, reported_line};
+ghost use Rattle.capture_text.specs.Printing.{late_line};
 ghost use Rattle.capture_text.specs.Selection.{selection_seen};
 ghost use Rattle.capture_text.specs.Window.{bound_at, bound_seen, listed_bound};
 ghost use Rattle.capture_text.specs.Listed.{is_run_listed, is_place_listed, listed_run, listed_runs};
@@ -23,6 +24,7 @@ use itoa::Buffer;
 use page_image::ImageFault;
 use record_words::WordFault;
 use text_values::Out;
+use time_merge::Line;
 use trace_model::{CpuId, MAX_CPUS, RecordNo};
 
 /// Whether a missing run of a CPU is listed; the CPU is if it has a bound.
@@ -83,7 +85,7 @@ fn put_run<W: Sink>(out: &mut Out<'_, W>, form: Form, cpu: CpuId, first: RecordN
 }
 
 /// Puts the line of a missing run, if it is listed.
-fn put_listed_run<W: Sink>(
+pub(crate) fn put_listed_run<W: Sink>(
     out: &mut Out<'_, W>,
     form: Form,
     bound: Option<Bound>,
@@ -178,6 +180,23 @@ pub(crate) fn put_losses<W: Sink>(
 {
     for number in numbers {
         put_listed_loss(out, form, bound, cpu, *number);
+    }
+}
+
+/// Puts that a record comes later than its place.
+pub(crate) fn put_late<W: Sink>(out: &mut Out<'_, W>, form: Form, line: &Line<'_>)
+    ensures { Puts (late_line form line.now.cpu.0 line.now.number.0) out.old out.new }
+{
+    let cpu = u64::from(line.cpu.0);
+    match form {
+        Form::Text => {
+            put_between(out, b"late ", cpu, b" ");
+            put_between(out, b"", line.number.0, b"\n");
+        }
+        Form::Json => {
+            put_between(out, b"{\"cpu\":", cpu, b",\"late\":");
+            put_between(out, b"", line.number.0, b"}\n");
+        }
     }
 }
 

@@ -6,11 +6,14 @@ ghost use Rattle.trace_dat.specs.kernel_texts.FirstBytes.{common_fields_in};
 ghost use Rattle.text_values.specs.Putting.{Puts};
 ghost use Rattle.capture_text.specs.Names.{event_text, is_print, print_text, event_or_number};
 ghost use Rattle.capture_text.specs.Names.{print_part, named_part, known_part, json_event, json_print, json_named};
-ghost use Rattle.capture_text.specs.Names.{json_known};
+ghost use Rattle.capture_text.specs.Names.{json_known, process_part, json_process};
+ghost use Rattle.capture_text.specs.Lent.{task_known, tasks_lent};
 
+use crate::beside::{put_json_task, put_task, task_of};
 use crate::quoting::{put_name, put_quoted};
 use command_io::Sink;
 use event_fields::before_zero;
+use kernel_names::TaskNames;
 use text_values::Out;
 use trace_dat::kernel_texts::{EventName, EventNames, common_fields};
 
@@ -72,23 +75,45 @@ fn put_print<W: Sink>(out: &mut Out<'_, W>, event: Option<EventName<'_>>, bytes:
     }
 }
 
+/// Puts a process, and its name if it has one.
+pub(crate) fn put_process<W: Sink>(out: &mut Out<'_, W>, tasks: Option<&TaskNames>, pid: i32)
+    ensures { Puts (process_part pid (task_known (tasks_lent tasks.entry) pid)) out.old out.new }
+{
+    out.put_signed(i64::from(pid));
+    put_task(out, task_of(tasks, pid));
+}
+
 /// Puts the process and the event of a record, whose event has this number.
-fn put_known<W: Sink>(out: &mut Out<'_, W>, names: &EventNames, bytes: &[u8], id: u16, pid: i32)
-    ensures { Puts (known_part (events_of names.now) bytes.now id pid) out.old out.new }
+fn put_known<W: Sink>(
+    out: &mut Out<'_, W>,
+    names: &EventNames,
+    tasks: Option<&TaskNames>,
+    bytes: &[u8],
+    id: u16,
+    pid: i32,
+)
+    ensures { Puts (known_part (events_of names.now) (task_known (tasks_lent tasks.entry)) bytes.now id pid)
+        out.old out.new }
 {
     let event = names.event(id);
-    out.put_signed(i64::from(pid));
+    put_process(out, tasks, pid);
     out.put(b" ");
     put_event_or_number(out, id, event);
     put_print(out, event, bytes);
 }
 
 /// Puts what a line says of its record's event.
-pub(crate) fn put_named<W: Sink>(out: &mut Out<'_, W>, names: &EventNames, bytes: &[u8])
-    ensures { Puts (named_part (events_of names.now) bytes.now (common_fields_in bytes.now)) out.old out.new }
+pub(crate) fn put_named<W: Sink>(
+    out: &mut Out<'_, W>,
+    names: &EventNames,
+    tasks: Option<&TaskNames>,
+    bytes: &[u8],
+)
+    ensures { Puts (named_part (events_of names.now) (task_known (tasks_lent tasks.entry)) bytes.now
+        (common_fields_in bytes.now)) out.old out.new }
 {
     match common_fields(bytes) {
-        Some(fields) => put_known(out, names, bytes, fields.event, fields.pid),
+        Some(fields) => put_known(out, names, tasks, bytes, fields.event, fields.pid),
         None => out.put(b"- -"),
     }
 }
@@ -124,29 +149,45 @@ fn put_json_print<W: Sink>(out: &mut Out<'_, W>, event: Option<EventName<'_>>, b
     }
 }
 
+/// Puts a process, and its name if it has one, as JSON members.
+pub(crate) fn put_json_process<W: Sink>(out: &mut Out<'_, W>, tasks: Option<&TaskNames>, pid: i32)
+    ensures { Puts (json_process pid (task_known (tasks_lent tasks.entry) pid)) out.old out.new }
+{
+    out.put(b",\"pid\":");
+    out.put_signed(i64::from(pid));
+    put_json_task(out, task_of(tasks, pid));
+}
+
 /// Puts the process and the event of a record, whose event has this number, as JSON members.
 fn put_json_known<W: Sink>(
     out: &mut Out<'_, W>,
     names: &EventNames,
+    tasks: Option<&TaskNames>,
     bytes: &[u8],
     id: u16,
     pid: i32,
 )
-    ensures { Puts (json_known (events_of names.now) bytes.now id pid) out.old out.new }
+    ensures { Puts (json_known (events_of names.now) (task_known (tasks_lent tasks.entry)) bytes.now id pid)
+        out.old out.new }
 {
     let event = names.event(id);
-    out.put(b",\"pid\":");
-    out.put_signed(i64::from(pid));
+    put_json_process(out, tasks, pid);
     out.put(b",\"event\":");
     put_json_event(out, id, event);
     put_json_print(out, event, bytes);
 }
 
 /// Puts what a JSON line says of its record's event.
-pub(crate) fn put_json_named<W: Sink>(out: &mut Out<'_, W>, names: &EventNames, bytes: &[u8])
-    ensures { Puts (json_named (events_of names.now) bytes.now (common_fields_in bytes.now)) out.old out.new }
+pub(crate) fn put_json_named<W: Sink>(
+    out: &mut Out<'_, W>,
+    names: &EventNames,
+    tasks: Option<&TaskNames>,
+    bytes: &[u8],
+)
+    ensures { Puts (json_named (events_of names.now) (task_known (tasks_lent tasks.entry)) bytes.now
+        (common_fields_in bytes.now)) out.old out.new }
 {
     if let Some(fields) = common_fields(bytes) {
-        put_json_known(out, names, bytes, fields.event, fields.pid);
+        put_json_known(out, names, tasks, bytes, fields.event, fields.pid);
     }
 }

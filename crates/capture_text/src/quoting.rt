@@ -4,7 +4,7 @@ ghost use Rattle.text_values.specs.Digits.{pair_of};
 ghost use Rattle.std.specs.Str.{is_utf8};
 ghost use Rattle.text_values.specs.Putting.{Puts};
 ghost use Rattle.capture_text.specs.Quoting.{shown_byte, shown_name, escaped_ascii, escaped, escaped_text, IsPlain};
-ghost use Rattle.capture_text.specs.Quoting.{quoted};
+ghost use Rattle.capture_text.specs.Quoting.{marked, quoted};
 
 use command_io::Sink;
 use std::str::from_utf8;
@@ -126,6 +126,22 @@ fn is_text(bytes: &[u8]) -> bool
     ensures { result ≡ is_utf8 bytes.now }
 {
     from_utf8(bytes).is_ok()
+}
+
+/// Puts a name as it is between quotation marks.
+pub(crate) fn put_escaped_name<W: Sink>(out: &mut Out<'_, W>, name: &[u8])
+    ensures { Puts (escaped_text (is_utf8 name.now) name.now) out.old out.new }
+{
+    put_escaped_text(out, is_text(name), name);
+}
+
+/// Puts a name between quotation marks, as it is.
+pub(crate) fn put_marked<W: Sink>(out: &mut Out<'_, W>, name: &[u8])
+    ensures { Puts (marked name.now) out.old out.new }
+{
+    out.put(b"\"");
+    out.put(name);
+    out.put(b"\"");
 }
 
 /// Puts a text between quotation marks.

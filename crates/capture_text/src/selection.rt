@@ -46,6 +46,7 @@ impl Selection<'_> {
     ghost use Rattle.time_merge.specs.Lines.{line_seen};
     ghost use Rattle.trace_dat.specs.kernel_texts.FirstBytes.{common_fields_in};
     ghost use Rattle.capture_text.specs.Selection.{is_marked, all_selected, selection_seen};
+    ghost use Rattle.capture_text.specs.LossSums.{has_all_moments};
     ghost use Rattle.capture_text.specs.Selection.{has_moment, has_writer, is_selected};
 
     /// All records.
@@ -73,6 +74,13 @@ impl Selection<'_> {
         ensures { result ≡ has_moment (selection_seen self.now) moment.0 }
     {
         self.since.0 <= moment.0 && moment.0 <= self.until.0
+    }
+
+    /// Whether all moments are.
+    pub(crate) fn has_all_moments(&self) -> bool
+        ensures { result ≡ has_all_moments (selection_seen self.now) }
+    {
+        self.since.0 == 0 && self.until.0 == u64::MAX
     }
 
     /// Whether a record's event and process are such. A record that is too short to have either is none of some.

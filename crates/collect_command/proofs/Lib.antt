@@ -1,7 +1,10 @@
+mod PatternRows
 mod Gathered
 mod Captures
 mod PagesOfAll
 mod Printing
+mod Sums
+mod Given
 mod OneOutput
 pub mod Readings
 pub mod Inputs
@@ -10,3 +13,4 @@ pub mod Endings
 pub mod AllRead
 pub mod Told
 pub mod Adds
+mod Followed

@@ -1,5 +1,5 @@
 -- What pieces that are added one after the other state, and what is kept of them.
-use Rattle.std.proofs.Common.{◌≡◌, ℕ, List, [], ◌∷◌, ◌++◌, append_assoc, append-nil, sym, subst}
+use Rattle.std.proofs.Common.{◌≡◌, ℕ, List, [], ◌∷◌, ◌++◌, append_assoc, append-nil, sym, subst, ap, ◌∙◌}
 use Rattle.std.proofs.lemmas.List.{map-append}
 use Rattle.parcel_streams.specs.Pieces.{Packed, bytes_of_pieces}
 use Rattle.parcel_streams.specs.Answers.{piece_seen, pieces_seen}
@@ -16,6 +16,9 @@ use Rattle.fleet_collector.proofs.Telling.{told_by_none}
 use Rattle.command_io.specs.declared.ends.Sink.{Ghosts}
 use Rattle.text_values.specs.declared.output.Out.{Out}
 use Rattle.text_values.specs.Putting.{Start, HasPut}
+use Rattle.fleet_text.specs.Hidden.{given_by, given_by_all}
+use Rattle.fleet_text.specs.Runs.{Run}
+use Rattle.collect_command.specs.declared.streams.gather.Gatherer.{Gatherer}
 use Rattle.collect_command.specs.streams.Reading.{Placed, TakesAll}
 use Rattle.collect_command.specs.streams.Gathering.{AreAdded, none_added, one_more, kept_of, Gathers, HasGathered}
 use Rattle.collect_command.specs.streams.Gathering.{pieces_in}
@@ -26,10 +29,6 @@ stays_known : (old new : List (ℕ × Stream)) (piece : Piece) → AddsPiece old
 stays_known old new (ParcelPiece stream parcel) a = a.unchanged
 stays_known old new (MarkPiece stream cpu mark) a = a.0
 
-stays_forgotten : (old new : List (ℕ × Stream)) (piece : Piece) → AddsPiece old new piece Forgotten → new ≡ old
-stays_forgotten old new (ParcelPiece stream parcel) a = a.0
-stays_forgotten old new (MarkPiece stream cpu mark) a = absurd a
-
 kept_more : (kept : List Packed) (old new : List (ℕ × Stream)) (piece : Piece) (added : Added) → AddsPiece old new piece
     added
     → IsFleetOf kept old → IsFleetOf (kept ++ kept_of piece added) new
@@ -37,9 +36,7 @@ kept_more kept old new piece New a was = piece_added kept old new piece New a wa
 kept_more kept old new piece Known a was =
     subst (IsFleetOf (kept ++ [])) (sym (stays_known old new piece a)) (subst (λ ps. IsFleetOf ps old)
     (sym (append-nil kept)) was)
-kept_more kept old new piece Forgotten a was =
-    subst (IsFleetOf (kept ++ [])) (sym (stays_forgotten old new piece a)) (subst (λ ps. IsFleetOf ps old)
-    (sym (append-nil kept)) was)
+kept_more kept old new piece Forgotten a was = piece_added kept old new piece Forgotten a was
 
 of_none : IsFleetOf [] []
 of_none = record { streams = told_by_none }
@@ -89,3 +86,18 @@ module _ {K : Type 0} {g : Ghosts K} where
         subst (HasGathered start q.1 (fleet_of q.0)) (append_assoc before (x.piece ∷ []) (pieces_in xs))
         (all_gathered start (before ++ x.piece ∷ []) xs m q
         (gathered_more start p.1 m.1 (fleet_of p.0) (fleet_of m.0) before x.piece has one) more)
+
+  -- what the gatherer makes of a piece
+  abbrev pub TakesTo : (Gatherer × Out K g) → Placed → (Gatherer × Out K g) → Type 0
+  TakesTo p placed q = Gathers placed.piece p.0.fleet p.1 q.0.fleet q.1
+      × (q.0.given ≡ p.0.given ++ given_by (piece_seen placed.piece))
+
+  -- the numbers of all pieces' records are noted
+  pub all_given : (pieces : List Placed) (p q : Gatherer × Out K g) → TakesAll TakesTo p pieces q
+      → q.0.given ≡ p.0.given ++ given_by_all (pieces_seen (pieces_in pieces))
+  all_given [] p q same =
+      ap (λ (z : Gatherer × Out K g). z.0.given) (sym same) ∙ sym (append-nil p.0.given)
+  all_given (x ∷ xs) p q (m, one, more) =
+      let rest = given_by_all (pieces_seen (pieces_in xs)) in
+      all_given xs m q more ∙ ap (λ (runs : List Run). runs ++ rest) one.1
+      ∙ append_assoc p.0.given (given_by (piece_seen x.piece)) rest

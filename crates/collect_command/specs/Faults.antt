@@ -7,6 +7,7 @@ use Rattle.trace_dat.specs.declared.fault.Cause.TheVariants.{Cut, NotTraceDat, B
 use Rattle.trace_dat.specs.declared.fault.Cause.TheVariants.{Misplaced, OutsideFile, Backward}
 use Rattle.capture.specs.declared.files.fault.FileFault.{FileFault}
 use Rattle.capture.specs.declared.files.fault.FileFault.TheVariants.{Format, BadCpu, BadPage, Overlap}
+use Rattle.capture.specs.declared.files.fault.FileFault.TheVariants.{OtherHost, SmallerPages}
 
 -- what is wrong with a file of trace-cmd
 abbrev pub cause_text : Cause → List ℕ
@@ -25,10 +26,21 @@ fault_text (Format fault) = cause_text fault.cause ++ (codes " at " ++ decimal f
 fault_text (BadCpu cpu) = codes "BadCpu " ++ decimal cpu
 fault_text (BadPage size) = codes "BadPage " ++ decimal size
 fault_text Overlap = codes "Overlap"
+fault_text OtherHost = codes "OtherHost"
+fault_text (SmallerPages size) = codes "SmallerPages " ++ decimal size
+
+-- what the file is
+abbrev pub file_text : FileFault → List ℕ
+file_text (Format fault) = codes "trace.dat: "
+file_text (BadCpu cpu) = codes "trace.dat: "
+file_text (BadPage size) = codes "trace.dat: "
+file_text Overlap = codes "trace.dat: "
+file_text OtherHost = codes "trace.dat: "
+file_text (SmallerPages size) = codes "pages: "
 
 -- the line of a file's fault
 abbrev pub fault_line : FileFault → List ℕ
-fault_line fault = codes "trace.dat: " ++ (fault_text fault ++ line_feed ∷ [])
+fault_line fault = file_text fault ++ (fault_text fault ++ line_feed ∷ [])
 
 -- the line for numbers that don't fit
 abbrev pub numbers_line : List ℕ

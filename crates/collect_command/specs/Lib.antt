@@ -1,4 +1,6 @@
+pub mod Patterns
 pub mod Statuses
+pub mod Following
 pub mod Faults
 pub mod Gathered
 pub mod Listings

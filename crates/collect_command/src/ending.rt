@@ -12,6 +12,8 @@ pub enum Ending {
     Done,
     /// All is printed but some damaged pages or slots, and a line says of each what is wrong with it.
     Damaged,
+    /// All is printed but records that marks hide, and a line says of each run of them which they are.
+    Hidden,
     /// A file of trace-cmd has a fault, whose line was printed.
     MalformedFile {
         /// How many inputs are before it.
@@ -44,6 +46,7 @@ impl Ending {
         match self {
             Ending::Done => DONE,
             Ending::Damaged
+            | Ending::Hidden
             | Ending::MalformedFile { .. }
             | Ending::Malformed(_)
             | Ending::Numbers => REFUSED,
@@ -63,6 +66,8 @@ pub struct Listed {
     pub cut: u64,
     /// The events whose formats are malformed, if fields are printed.
     pub malformed: Vec<MalformedEvent>,
+    /// Whether events were asked for by a pattern that names none.
+    pub is_unnamed: bool,
 }
 
 impl Listed {
@@ -79,16 +84,17 @@ impl Listed {
             ending,
             cut: 0,
             malformed: Vec::new(alloc),
+            is_unnamed: false,
         }
     }
 
-    /// The exit status: 1 if all is printed, but a field has no value or a format is malformed, and else that of the
-    /// ending.
+    /// The exit status: 1 if all is printed, but a field has no value, a format is malformed, or a pattern names no
+    /// event, and else that of the ending.
     pub fn status(&self) -> u8
         ensures { result ≡ status_of_listing self.now }
     {
         let status = self.ending.status();
-        if status == DONE && (self.cut > 0 || !self.malformed.is_empty()) {
+        if status == DONE && (self.cut > 0 || !self.malformed.is_empty() || self.is_unnamed) {
             REFUSED
         } else {
             status

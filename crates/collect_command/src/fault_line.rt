@@ -1,7 +1,7 @@
 //! The line of a fault.
 ghost use Rattle.std.specs.Prelude.{◌≡◌, ◌++◌, IfOk, OnOk};
 ghost use Rattle.std.specs.Fmt.{decimal};
-ghost use Rattle.collect_command.specs.Faults.{cause_text, fault_text, fault_line};
+ghost use Rattle.collect_command.specs.Faults.{cause_text, fault_text, fault_line, file_text};
 
 use capture::files::FileFault;
 use std::alloc::Global;
@@ -45,15 +45,27 @@ fn put_fault(out: &mut Vec<u8>, fault: FileFault) -> Result<(), NoMemory>
         FileFault::BadCpu(cpu) => put_numbered(out, b"BadCpu ", u64::from(cpu))?,
         FileFault::BadPage(size) => put_numbered(out, b"BadPage ", u64::from(size))?,
         FileFault::Overlap => out.extend_from_slice(b"Overlap")?,
+        FileFault::OtherHost => out.extend_from_slice(b"OtherHost")?,
+        FileFault::SmallerPages(size) => put_numbered(out, b"SmallerPages ", u64::from(size))?,
     }
     Ok(())
+}
+
+/// What a file is that has this fault: one of trace-cmd, or raw pages.
+fn file_name(fault: FileFault) -> &'static [u8]
+    ensures { result.now ≡ file_text fault }
+{
+    match fault {
+        FileFault::SmallerPages(_) => b"pages: ",
+        _ => b"trace.dat: ",
+    }
 }
 
 /// The line of a file's fault.
 pub(crate) fn fault_line(alloc: Global, fault: FileFault) -> Result<Vec<u8>, NoMemory>
     ensures { IfOk result (λ line. line.items ≡ fault_line fault) }
 {
-    let mut line = Vec::from_slice(alloc, b"trace.dat: ")?;
+    let mut line = Vec::from_slice(alloc, file_name(fault))?;
     put_fault(&mut line, fault)?;
     line.push(b'\n')?;
     Ok(line)

@@ -4,13 +4,17 @@
 
 mod collect;
 mod ending;
+mod events;
 mod fault_line;
+mod follow;
 mod gather;
 pub mod laws;
 mod listing;
 mod memory;
+mod pattern;
 pub mod recovery;
 pub mod streams;
 
 pub use collect::{Collecting, Detail, collect_to};
 pub use ending::{Collected, Ending, Listed, Outcome};
+pub use follow::{LiveCollected, follow_to};

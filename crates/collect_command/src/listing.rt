@@ -1,6 +1,10 @@
 //! The listing of captures.
-ghost use Rattle.std.specs.Prelude.{◌≡◌, ◌==◌, false, List, length, IfOk, OnErr};
-ghost use Rattle.capture.specs.Pages.{Page};
+ghost use Rattle.std.specs.Prelude.{◌≡◌, ◌==◌, ℕ, false, List, [], Option, length, slice_index_or, IfOk, OnErr};
+ghost use Rattle.trace_dat.specs.declared.kernel_texts.counters.Counters.{Counters};
+ghost use Rattle.collector.specs.Runs.{AreMissingRuns};
+ghost use Rattle.capture.specs.Captures.{IsCapture};
+ghost use Rattle.capture_text.specs.LossSums.{missing_count};
+ghost use Rattle.capture.specs.Pages.{Page, unknown_from};
 ghost use Rattle.capture.specs.files.Files.{ModelPart};
 ghost use Rattle.text_values.specs.Putting.{Puts};
 ghost use Rattle.capture_text.specs.Printed.{IsSound, bounds_of};
@@ -8,18 +12,20 @@ ghost use Rattle.capture_text.specs.Printing.{Detail};
 ghost use Rattle.capture_text.specs.Selection.{selection_seen};
 ghost use Rattle.collect_command.specs.Gathered.{AreReadFrom};
 ghost use Rattle.collect_command.specs.Listings.{all_unknown, all_damaged, are_all_intact, ending_of};
-ghost use Rattle.collect_command.specs.Listings.{Describes, IsListed};
+ghost use Rattle.collect_command.specs.Listings.{AreCounted, Describes, IsListed, all_sums, ring_losses, sum_of};
 
 use crate::ending::{Ending, Listed};
 use crate::gather::gather;
 use capture::Capture;
 use capture::files::CpuCapture;
-use capture_text::{Form, Naming, Printer, Selection, Window};
+use capture_text::{Form, Naming, Printer, RingLosses, Selection, Window};
+use collector::Collector;
 use command_io::Sink;
 use event_fields::MalformedEvent;
 use std::alloc::Global;
 use text_values::{Out, TextBuffer};
 use time_merge::walk_lines;
+use trace_dat::kernel_texts::Counters;
 use trace_model::NoMemory;
 
 /// Prints the losses of unknown number of each CPU.
@@ -39,6 +45,52 @@ fn print_damaged<W: Sink>(printer: &Printer<'_>, out: &mut Out<'_, W>, cpus: &[C
 {
     for found in cpus {
         printer.put_damaged(out, &found.capture, &found.parts);
+    }
+}
+
+/// What the kernel counted of a ring.
+fn ring_losses(counters: Counters) -> RingLosses
+    ensures { result ≡ ring_losses counters }
+{
+    RingLosses {
+        overrun: counters.overrun,
+        commit_overrun: counters.commit_overrun,
+        dropped: counters.dropped,
+    }
+}
+
+/// Prints the losses of a CPU in sum, if its ring's counters are known.
+fn print_sum<W: Sink>(
+    printer: &Printer<'_>,
+    out: &mut Out<'_, W>,
+    collector: &Collector,
+    found: &CpuCapture,
+)
+    ensures { (pages : List Page) (runs : List (ℕ × ℕ)) → IsCapture found.now.capture pages
+        → AreMissingRuns collector.now found.now.capture.cpu.0 runs
+        → Puts (sum_of printer.now.form (selection_seen printer.now.selection) found.now.counters
+        found.now.capture.cpu.0 (missing_count runs) (length (unknown_from 0 pages))) out.old out.new }
+{
+    if let Some(counters) = found.counters {
+        printer.put_losses_in_sum(out, collector, &found.capture, ring_losses(counters));
+    }
+}
+
+/// Prints the losses of each CPU in sum.
+fn print_sums<W: Sink>(
+    printer: &Printer<'_>,
+    out: &mut Out<'_, W>,
+    collector: &Collector,
+    cpus: &[CpuCapture],
+)
+    ensures { (counted : ℕ → Option Counters) (parts : List ModelPart) (captures : List (List Page))
+        (runs : List (List (ℕ × ℕ))) → AreReadFrom parts 0 cpus.now captures → AreCounted counted 0 cpus.now
+        → ((cpu : ℕ) → AreMissingRuns collector.now cpu (slice_index_or runs cpu []))
+        → Puts (all_sums printer.now.form (selection_seen printer.now.selection) counted runs 0 captures)
+        out.old out.new }
+{
+    for found in cpus {
+        print_sum(printer, out, collector, found);
     }
 }
 
@@ -90,9 +142,10 @@ pub(crate) fn print_listing<W: Sink>(
     requires sound { W.failed writer.old ≡ false }
     requires sound_naming { IsSound naming }
     requires read { (parts : List ModelPart) × (captures : List (List Page)) × AreReadFrom parts 0 cpus.now captures }
-    ensures listed { (detail : Detail) (parts : List ModelPart) (captures : List (List Page))
-        → Describes naming.entry malformed.items detail → AreReadFrom parts 0 cpus.now captures → IfOk result (λ listed.
-        IsListed form detail (selection_seen selection.entry) parts captures (W.contents writer.old)
+    ensures listed { (detail : Detail) (counted : ℕ → Option Counters) (parts : List ModelPart)
+        (captures : List (List Page)) → Describes naming.entry malformed.items detail
+        → AreReadFrom parts 0 cpus.now captures → AreCounted counted 0 cpus.now → IfOk result (λ listed.
+        IsListed form detail (selection_seen selection.entry) counted parts captures (W.contents writer.old)
         (W.contents writer.new) (W.failed writer.new) listed) }
     ensures refused { OnErr result (writer.new ≡ writer.old) }
 {
@@ -111,10 +164,12 @@ pub(crate) fn print_listing<W: Sink>(
     printer.put_missing(&mut out, &collector);
     print_unknown(&printer, &mut out, cpus);
     print_damaged(&printer, &mut out, cpus);
+    print_sums(&printer, &mut out, &collector, cpus);
     let is_written = out.finish().is_ok();
     Ok(Listed {
         ending: ending_of(is_written, are_intact(cpus)),
         cut: printer.cut,
         malformed,
+        is_unnamed: false,
     })
 }

@@ -4,13 +4,13 @@
 //! a write is asked for only of an end that has not failed, so whatever is proved over these ends stops
 //! at the first failure: after a failed read nothing more is read, after a failed write nothing more is
 //! written.
-ghost use Rattle.std.specs.Prelude.{◌≡◌, ℕ, Bool, true, false, List, length, Option, IsTrue, ◌↔◌};
+ghost use Rattle.std.specs.Prelude.{◌≡◌, ℕ, Bool, true, false, List, length, Option, IsErrAnd, IsTrue, ◌↔◌, ◌≢◌};
 ghost use Rattle.std.specs.Io.{ReadsAtMost, WritesAtMost};
 ghost use Rattle.std.specs.Io.KnownBytes.{ReadConsumes, WriteAppends};
 ghost use Rattle.command_io.specs.Counting.{count_more};
 ghost use Rattle.command_io.specs.Failing.{read_fails, write_fails};
 
-use std::io::{Read, Write};
+use std::io::{ErrorKind, Read, Write};
 use std::{fmt, io};
 
 /// What a command reads from.
@@ -48,16 +48,38 @@ pub trait Sink {
         ensures fails { failed self.new ≡ write_fails result (length buf.now) };
 }
 
+/// Whether an end can still be used.
+#[derive(Clone, Copy)]
+enum State {
+    /// No read or write has failed.
+    Sound,
+    /// A write has failed, as it is to a pipe that nobody reads any more.
+    NoReader,
+    /// A read or a write has failed for another reason.
+    Failed,
+}
+
+/// The state after a call that failed by an error of this kind.
+fn state_after(kind: ErrorKind) -> State
+    ensures no_reader { kind ≡ ErrorKind.BrokenPipe → result ≡ State.NoReader }
+    ensures failed { kind ≢ ErrorKind.BrokenPipe → result ≡ State.Failed }
+{
+    match kind {
+        ErrorKind::BrokenPipe => State::NoReader,
+        _ => State::Failed,
+    }
+}
+
 /// An end of std as an end of a command, with a note whether it has failed, and how many bytes it has given.
 #[derive(Drop)]
 pub struct Std<T> {
     inner: T,
-    failed: bool,
+    state: State,
     count: u64,
 }
 
 impl<T> Std<T> {
-    ghost use Rattle.command_io.specs.Ends.{inner_of, has_failed, count_of};
+    ghost use Rattle.command_io.specs.Ends.{inner_of, has_failed, has_no_reader, count_of};
 
     /// The end `inner`, which has not failed yet, and has given nothing.
     pub fn new(inner: T) -> Std<T>
@@ -67,7 +89,7 @@ impl<T> Std<T> {
     {
         Std {
             inner,
-            failed: false,
+            state: State::Sound,
             count: 0,
         }
     }
@@ -76,7 +98,21 @@ impl<T> Std<T> {
     pub fn has_failed(&self) -> bool
         ensures { IsTrue result ↔ (has_failed self.now ≡ true) }
     {
-        self.failed
+        match self.state {
+            State::Sound => false,
+            State::NoReader | State::Failed => true,
+        }
+    }
+
+    /// Whether a write of it has failed since nobody reads any more what is written, as of a pipe that its reader has
+    /// closed.
+    pub fn has_no_reader(&self) -> bool
+        ensures { IsTrue result ↔ (has_no_reader self.now ≡ true) }
+    {
+        match self.state {
+            State::NoReader => true,
+            State::Sound | State::Failed => false,
+        }
     }
 
     /// How many bytes it has given to those who read from it; the count stops at 2^64 - 1.
@@ -91,7 +127,7 @@ impl<T> Std<T> {
 impl<T> fmt::Debug for Std<T> {
     fn fmt<W: fmt::Write>(&self, f: &mut fmt::Formatter<W>) -> fmt::Result {
         f.debug_struct("Std")
-            .field("failed", &self.failed)
+            .field("failed", &self.has_failed())
             .field("count", &self.count)
             .finish_non_exhaustive()
     }
@@ -110,25 +146,33 @@ impl<T: Read> Source for Std<T> {
         let result = self.inner.read(buf);
         match &result {
             Ok(count) => self.count = self.count.saturating_add(*count as u64),
-            Err(_) => self.failed = true,
+            Err(_) => self.state = State::Failed,
         }
         result
     }
 }
 
 impl<T: Write> Sink for Std<T> {
-    ghost use Rattle.command_io.specs.Ends.{inner_of, has_failed};
+    ghost use Rattle.std.specs.IoError.{error_kind};
+    ghost use Rattle.command_io.specs.Ends.{inner_of, has_failed, has_no_reader};
 
     ghost contents = { λ s. T.contents (inner_of s) };
 
     ghost failed = { has_failed };
 
-    fn write(&mut self, buf: &[u8]) -> io::Result<usize> {
+    fn write(&mut self, buf: &[u8]) -> io::Result<usize>
+        requires { has_failed self.old ≡ false }
+        ensures bound { WritesAtMost result buf.now }
+        ensures bytes { WriteAppends (T.contents (inner_of self.old)) (T.contents (inner_of self.new)) result buf.now }
+        ensures fails { has_failed self.new ≡ write_fails result (length buf.now) }
+        ensures no_reader { (has_no_reader self.new ≡ true)
+            ↔ IsErrAnd result (λ error. error_kind error ≡ ErrorKind.BrokenPipe) }
+    {
         let result = self.inner.write(buf);
         match &result {
-            Ok(0) if !buf.is_empty() => self.failed = true,
+            Ok(0) if !buf.is_empty() => self.state = State::Failed,
             Ok(_) => {}
-            Err(_) => self.failed = true,
+            Err(error) => self.state = state_after(error.kind()),
         }
         result
     }

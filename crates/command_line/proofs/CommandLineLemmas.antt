@@ -1,6 +1,6 @@
 -- What the program makes of words of any kind.
-use Rattle.std.proofs.Common.{◌≡◌, ◌≢◌, Bool, List, Option, Some, None, Ok, Err, IfSome, true, false, codes, refl, sym}
-use Rattle.std.proofs.Common.{ap, subst, ◌∙◌}
+use Rattle.std.proofs.Common.{◌≡◌, ◌≢◌, ◌⊎◌, Bool, List, Option, Some, None, Ok, Err, IfSome, true, false, codes, refl}
+use Rattle.std.proofs.Common.{sym, ap, subst, ◌∙◌}
 use Rattle.std.specs.Box.{box_value}
 use Rattle.std.specs.Prelude.{IsErrAnd, Result, option_map, ok_or}
 use Rattle.clap.specs.Words.{App, HasMatchesOf, Row, Text, is_simple, is_simple_and_free, one_of, one_text, rows_of}
@@ -16,7 +16,8 @@ use Rattle.command_line.proofs.Names.{collect_is_not_recover, recover_is_not_col
 use Rattle.command_line.specs.CommandLine.{HasSource, IsAccepted, IsCallOf, IsParseOf, command_line, fault_of_kind}
 use Rattle.command_line.specs.CommandLine.{flag_text, is_help, is_version, log_text, name_of, names_command}
 use Rattle.command_line.specs.CommandLine.{rows_found, rows_named}
-use Rattle.command_line.specs.Calls.{AreUnread, AsksFor, AsksToRecover, asked_of, recovering_of, regions_matched}
+use Rattle.command_line.specs.Calls.{AreApart, AreUnread, AsksFor, AsksToRecover, asked_of, goes_together}
+use Rattle.command_line.specs.Calls.{recovering_of, regions_matched}
 use Rattle.command_line.specs.declared.call.CollectCall.{CollectCall}
 use Rattle.command_line.specs.declared.call.RecoverCall.{RecoverCall}
 use Rattle.command_line.specs.declared.call.Call.{Call}
@@ -95,6 +96,7 @@ call_of_matches-words words m None has accepted other unlike named none log no_l
       no_steps = λ _ _ is. (none refl).2 (name ∙ is);
       no_dump = λ _ _ is. (none refl).3 (name ∙ is);
       collect = λ x is. absurd (cc);
+      together = λ x is. absurd (cc);
       no_collect = λ _ _ is. absurd (other (name ∙ is));
       recover = λ x is. absurd (cc);
       no_recover = λ _ _ is. absurd (unlike (name ∙ is));
@@ -114,6 +116,7 @@ call_of_matches-words words m (Some x) has accepted other unlike named none log 
       no_steps = λ is. absurd (cc);
       no_dump = λ is. absurd (cc);
       collect = λ call is. let same : x ≡ Collect call = cc in absurd (subst HasSource same named.0);
+      together = λ call is. let same : x ≡ Collect call = cc in absurd (subst HasSource same named.0);
       no_collect = λ is. absurd (cc);
       recover = λ call is. let same : x ≡ Recover call = cc in absurd (subst HasSource same named.0);
       no_recover = λ is. absurd (cc);
@@ -124,8 +127,9 @@ pub collect_call-words : (words : List Text) (m : ArgMatches) (found : Found) (c
     → HasMatchesOf command_line words m → IsAccepted words
     → subcommand_name_of m ≡ Some (codes "collect")
     → option_map (λ p. p.1) (subcommand_rows_of m) ≡ Some (rows_of found)
-    → AsksFor (rows_of found) (asked_of call) → IsParseOf words (Ok (Collect call))
-collect_call-words words m found call has accepted named rows asks =
+    → AsksFor (rows_of found) (asked_of call) → goes_together (asked_of call) ≡ true
+    → IsParseOf words (Ok (Collect call))
+collect_call-words words m found call has accepted named rows asks goes =
     let name = name_of_matches command_line words m refl has in
     let same_rows = rows_of_found (subcommand_rows_of m) found rows ∙ rows_of_matches command_line words m refl has in
     let asks_words : AsksFor (rows_named words) (asked_of call) =
@@ -146,6 +150,8 @@ collect_call-words words m found call has accepted named rows asks =
       no_dump = λ is. absurd (cc);
       collect = λ other is. let same : call ≡ other = cc in
           subst (λ (call : CollectCall). AsksFor (rows_named words) (asked_of call)) same asks_words;
+      together = λ other is. let same : call ≡ other = cc in
+          subst (λ (call : CollectCall). goes_together (asked_of call) ≡ true) same goes;
       no_collect = λ is. absurd (cc);
       recover = λ other is. absurd (cc);
       no_recover = λ is. absurd (cc);
@@ -165,6 +171,7 @@ no_memory-words words = record {
   no_steps = λ is. absurd (cc);
   no_dump = λ is. absurd (cc);
   collect = λ other is. absurd (cc);
+  together = λ other is. absurd (cc);
   no_collect = λ is. absurd (cc);
   recover = λ other is. absurd (cc);
   no_recover = λ is. absurd (cc);
@@ -174,7 +181,7 @@ no_memory-words words = record {
 unread-words : (words : List Text) (m : ArgMatches) (found : Found) → HasMatchesOf command_line words m
     → subcommand_name_of m ≡ Some (codes "collect")
     → option_map (λ p. p.1) (subcommand_rows_of m) ≡ Some (rows_of found)
-    → AreUnread (rows_of found) → IsParseOf words (Err Usage)
+    → AreUnread (rows_of found) ⊎ AreApart (rows_of found) → IsParseOf words (Err Usage)
 unread-words words m found has named rows unread =
     let name = name_of_matches command_line words m refl has in
     let same_rows = rows_of_found (subcommand_rows_of m) found rows ∙ rows_of_matches command_line words m refl has in
@@ -190,7 +197,8 @@ unread-words words m found has named rows unread =
       no_steps = λ _ _ is. let wrong = sym named ∙ name ∙ is in cc;
       no_dump = λ _ _ is. let wrong = sym named ∙ name ∙ is in cc;
       collect = λ other is. absurd (cc);
-      no_collect = λ _ _ _. subst AreUnread same_rows unread;
+      together = λ other is. absurd (cc);
+      no_collect = λ _ _ _. subst (λ (rows : List Row). AreUnread rows ⊎ AreApart rows) same_rows unread;
       recover = λ other is. absurd (cc);
       no_recover = λ _ _ is. absurd (collect_is_not_recover (sym named ∙ name ∙ is));
     }
@@ -199,7 +207,7 @@ pub no_collect-words : (words : List Text) (m : ArgMatches) (found : Found) (fau
     → HasMatchesOf command_line words m
     → subcommand_name_of m ≡ Some (codes "collect")
     → option_map (λ p. p.1) (subcommand_rows_of m) ≡ Some (rows_of found)
-    → (fault ≡ Usage → AreUnread (rows_of found)) → IsParseOf words (Err fault)
+    → (fault ≡ Usage → AreUnread (rows_of found) ⊎ AreApart (rows_of found)) → IsParseOf words (Err fault)
 no_collect-words words m found NoMemory has named rows unread = no_memory-words words
 no_collect-words words m found Usage has named rows unread = unread-words words m found has named rows (unread refl)
 
@@ -229,6 +237,7 @@ recovered-words words m found call has accepted named rows asks =
       no_steps = λ is. absurd (cc);
       no_dump = λ is. absurd (cc);
       collect = λ other is. absurd (cc);
+      together = λ other is. absurd (cc);
       no_collect = λ is. absurd (cc);
       recover = λ other is. let same : call ≡ other = cc in
           subst (λ (call : RecoverCall). AsksToRecover (rows_named words) (recovering_of call)) same asks_words;
@@ -254,6 +263,7 @@ no_regions-words words m found has named rows unread =
       no_steps = λ _ _ is. let wrong = sym named ∙ name ∙ is in cc;
       no_dump = λ _ _ is. let wrong = sym named ∙ name ∙ is in cc;
       collect = λ other is. absurd (cc);
+      together = λ other is. absurd (cc);
       no_collect = λ _ _ is. absurd (recover_is_not_collect (sym named ∙ name ∙ is));
       recover = λ other is. absurd (cc);
       no_recover = λ _ _ _. subst (λ (rows : List Row). regions_matched rows ≡ None) same_rows unread;
@@ -282,6 +292,7 @@ refused-words words fault memory = record {
   no_steps = λ is accepted. let why = memory accepted in absurd (cc);
   no_dump = λ is accepted. let why = memory accepted in absurd (cc);
   collect = λ other is. absurd (cc);
+  together = λ other is. absurd (cc);
   no_collect = λ is accepted. let why = memory accepted in absurd (cc);
   recover = λ other is. absurd (cc);
   no_recover = λ is accepted. let why = memory accepted in absurd (cc);
@@ -297,9 +308,11 @@ failed-words words (Err fault) kind is memory =
 -- and what the program makes of words is of `collect` only if the parse makes it of them
 pub parsed_collect : (words : List Text) (result : Result Call CallFault) (asked : CollectCall) (version help : Bool)
     → is_version words ≡ version → is_help words ≡ help → IsCallOf words result → result ≡ Ok (Collect asked)
-    → AsksFor (rows_named words) (asked_of asked)
+    → AsksFor (rows_named words) (asked_of asked) × (goes_together (asked_of asked) ≡ true)
 parsed_collect words result asked true help is not_help call same =
     absurd (let wrong = sym (call.version is) ∙ same in cc)
 parsed_collect words result asked false true is not_help call same =
     absurd (let wrong = sym (call.help not_help) ∙ same in cc)
-parsed_collect words result asked false false is not_help call same = (call.parsed is not_help).collect asked same
+parsed_collect words result asked false false is not_help call same =
+    let parsed = call.parsed is not_help in
+    (parsed.collect asked same, parsed.together asked same)

@@ -3,6 +3,8 @@ pub mod CommandLineLemmas
 pub mod CommandLineExamples
 pub mod NumberWords
 pub mod FileLists
+pub mod ListParts
+pub mod WordLists
 pub mod CollectExamples
 pub mod RecoverExamples
 pub mod Ranges

@@ -23,25 +23,26 @@ first true b is = refl
 first false b is = absurd (cc)
 
 -- what `parse` makes of digits
-parsed : {E : Type 0} (text : List ℕ) (r : Result ℕ E) → ParsesUnsigned 32 10 text r → is_number text ≡ true
-    → OkIff r ((0 < length text) × (digits_value 10 text < 2 ^ 32)) (digits_value 10 text)
-parsed text r h is =
+parsed : {E : Type 0} (bits : ℕ) (text : List ℕ) (r : Result ℕ E) → ParsesUnsigned bits 10 text r
+    → is_number text ≡ true → OkIff r ((0 < length text) × (digits_value 10 text < 2 ^ bits)) (digits_value 10 text)
+parsed bits text r h is =
     let digits : all_ascii_digits text ≡ true =
     sym (same_test text) ∙ second (nat_lt 0 (length text)) (list_all is_ascii_digit text) is in
-    parse_digits (numerals_by_value (λ ds. all_ascii_digits ds ≡ true) tells_all_ascii_digits) 32 text r h digits
+    parse_digits (numerals_by_value (λ ds. all_ascii_digits ds ≡ true) tells_all_ascii_digits) bits text r h digits
 
 -- a number that doesn't fit is above every bound that does
-pub too_high : (low high : ℕ) (text : List ℕ) → is_number text ≡ true → 2 ^ 32 ≤ digits_value 10 text → high < 2 ^ 32
-    → None ≡ number_in low high text
-too_high low high text is large fits = grind (arith, nat_tests)
+pub too_high : (bits low high : ℕ) (text : List ℕ) → is_number text ≡ true → 2 ^ bits ≤ digits_value 10 text
+    → high < 2 ^ bits → None ≡ number_in low high text
+too_high bits low high text is large fits = grind (arith, nat_tests)
 
-pub refused : {E : Type 0} (low high : ℕ) (text : List ℕ) (r : Result ℕ E) (e : E) → ParsesUnsigned 32 10 text r
-    → is_number text ≡ true → r ≡ Err e → high < 2 ^ 32 → None ≡ number_in low high text
-refused low high text r e h is failed fits =
+pub refused : {E : Type 0} (bits low high : ℕ) (text : List ℕ) (r : Result ℕ E) (e : E)
+    → ParsesUnsigned bits 10 text r → is_number text ≡ true → r ≡ Err e → high < 2 ^ bits
+    → None ≡ number_in low high text
+refused bits low high text r e h is failed fits =
     let some : 0 < length text =
     grind (arith, nat_tests, first (nat_lt 0 (length text)) (list_all is_ascii_digit text) is) in
-    let no : ¬ ((0 < length text) × (digits_value 10 text < 2 ^ 32)) =
-    subst (λ r. OkIff r ((0 < length text) × (digits_value 10 text < 2 ^ 32)) (digits_value 10 text)) failed
-    (parsed text r h is) in
-    let large : ¬ (digits_value 10 text < 2 ^ 32) = λ small. no (some, small) in
-    too_high low high text is (omega (arith, large)) fits
+    let no : ¬ ((0 < length text) × (digits_value 10 text < 2 ^ bits)) =
+    subst (λ r. OkIff r ((0 < length text) × (digits_value 10 text < 2 ^ bits)) (digits_value 10 text)) failed
+    (parsed bits text r h is) in
+    let large : ¬ (digits_value 10 text < 2 ^ bits) = λ small. no (some, small) in
+    too_high bits low high text is (omega (arith, large)) fits

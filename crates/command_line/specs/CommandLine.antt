@@ -1,6 +1,6 @@
 -- The program's command line as `clap` parses it.
 use Rattle.std.specs.Prelude.{◌≡◌, ◌≢◌, Bool, List, [], ◌∷◌, Option, None, Some, Result, Ok, Err, true, false, codes}
-use Rattle.std.specs.Prelude.{bytes_eq, not, ◌&&◌, ◌||◌, option_and_then, option_map, ⊤}
+use Rattle.std.specs.Prelude.{bytes_eq, not, ◌&&◌, ◌||◌, ◌⊎◌, option_and_then, option_map, ⊤}
 use Rattle.clap.specs.Words.{App, Row, Rule, Text, fault_of, new_app, new_rule, one_of, subcommand_of, with_rule}
 use Rattle.clap.specs.Words.{with_subcommand}
 use Rattle.clap.specs.declared.builder.action.ArgAction.TheVariants.{Append, Set, SetTrue}
@@ -8,7 +8,8 @@ use Rattle.clap.specs.declared.error.ErrorKind.{ErrorKind}
 use Rattle.clap.specs.declared.error.ErrorKind.TheVariants.{OutOfMemory}
 use Rattle.command_line.specs.declared.call.Call.{Call}
 use Rattle.command_line.specs.declared.call.Call.TheVariants.{Replay, Run, Steps, Dump, Collect, Recover, Version, Help}
-use Rattle.command_line.specs.Calls.{AreUnread, AsksFor, AsksToRecover, asked_of, recovering_of, regions_matched}
+use Rattle.command_line.specs.Calls.{AreApart, AreUnread, AsksFor, AsksToRecover, asked_of, goes_together}
+use Rattle.command_line.specs.Calls.{recovering_of, regions_matched}
 use Rattle.command_line.specs.declared.call.CollectCall.{CollectCall}
 use Rattle.command_line.specs.declared.call.RecoverCall.{RecoverCall}
 use Rattle.command_line.specs.declared.call.CallFault.{CallFault}
@@ -53,15 +54,39 @@ reading_options =
     let fielded = with_rule named (flag_rule (codes "fields")) in
     with_rule fielded (option_rule (codes "formats"))
 
+-- and with what asks for names beside numbers
+abbrev pub naming_options : App
+naming_options =
+    let tasked = with_rule reading_options (flag_rule (codes "tasks")) in
+    let listed = with_rule tasked (option_rule (codes "tasks-from")) in
+    let symbolic = with_rule listed (flag_rule (codes "symbols")) in
+    with_rule symbolic (option_rule (codes "symbols-from"))
+
+-- and with what says from where and when the records are
+abbrev pub span_options : App
+span_options =
+    let placed = with_rule naming_options (option_rule (codes "instance")) in
+    let marked = with_rule placed (option_rule (codes "cpu")) in
+    let begun = with_rule marked (option_rule (codes "since")) in
+    with_rule begun (option_rule (codes "until"))
+
+-- and with what says which events and processes they are of
+abbrev pub part_options : App
+part_options = with_rule (with_rule span_options (option_rule (codes "event"))) (option_rule (codes "pid"))
+
 -- and with its other options and flags
 abbrev pub collect_options : App
 collect_options =
-    let kept = with_rule (with_rule reading_options (flag_rule (codes "json"))) (option_rule (codes "keep")) in
+    let kept = with_rule (with_rule part_options (flag_rule (codes "json"))) (option_rule (codes "keep")) in
     with_rule kept (flag_rule (codes "parcels"))
+
+-- and with what says that its files are read while they are written
+abbrev pub follow_options : App
+follow_options = with_rule (with_rule collect_options (flag_rule (codes "follow"))) (option_rule (codes "round"))
 
 -- and with its files
 abbrev pub collect_command : App
-collect_command = with_rule collect_options (values_rule (codes "file"))
+collect_command = with_rule follow_options (values_rule (codes "file"))
 
 -- the program with its fifth command, `collect`
 abbrev pub collect_commands : App
@@ -124,8 +149,8 @@ HasSource Help = ⊥
 HasSource _ = ⊤
 
 -- What the parse makes of the words: the command and what else it finds, if it accepts the words; if it doesn't, or
--- finds no command, or what it finds for `collect` or `recover` can't be read, the usage line. Memory is refused at any
--- of them.
+-- finds no command, or what it finds for `collect` or `recover` can't be read or doesn't go together, the usage line.
+-- Memory is refused at any of them.
 pub record IsParseOf (words : List Text) (result : Result Call CallFault) : Type 0 where
   pub no_version : result ≢ Ok Version
   pub no_help : result ≢ Ok Help
@@ -138,8 +163,9 @@ pub record IsParseOf (words : List Text) (result : Result Call CallFault) : Type
   pub no_steps : result ≡ Err Usage → IsAccepted words → names_command words ≢ Some (codes "steps")
   pub no_dump : result ≡ Err Usage → IsAccepted words → names_command words ≢ Some (codes "dump")
   pub collect : (call : CollectCall) → result ≡ Ok (Collect call) → AsksFor (rows_named words) (asked_of call)
+  pub together : (call : CollectCall) → result ≡ Ok (Collect call) → goes_together (asked_of call) ≡ true
   pub no_collect : result ≡ Err Usage → IsAccepted words → names_command words ≡ Some (codes "collect")
-      → AreUnread (rows_named words)
+      → AreUnread (rows_named words) ⊎ AreApart (rows_named words)
   pub recover : (call : RecoverCall) → result ≡ Ok (Recover call)
       → AsksToRecover (rows_named words) (recovering_of call)
   pub no_recover : result ≡ Err Usage → IsAccepted words → names_command words ≡ Some (codes "recover")

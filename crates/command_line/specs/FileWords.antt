@@ -21,10 +21,10 @@ number_in low high text =
 abbrev pub is_equals : ℕ → Bool
 is_equals byte = byte == 61
 
--- `before` is what is before the word's first `=`, and `after` what is after it
-abbrev pub IsSplitAt : (word before after : List ℕ) → Type 0
-IsSplitAt word before after =
-    (at : ℕ) × (first_place is_equals word ≡ Some at) × (before ≡ take at word) × (after ≡ drop (at + 1) word)
+-- `before` is what is before the word's first byte of this kind, and `after` what is after it
+abbrev pub IsSplitAt : (is_byte : ℕ → Bool) (word before after : List ℕ) → Type 0
+IsSplitAt is_byte word before after =
+    (at : ℕ) × (first_place is_byte word ≡ Some at) × (before ≡ take at word) × (after ≡ drop (at + 1) word)
 
 -- the CPU and the path of a FILE whose first `=` is at this place, if it has one
 abbrev pub file_split : (position : ℕ) (word : List ℕ) → Option ℕ → Option (ℕ × List ℕ)

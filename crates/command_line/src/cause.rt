@@ -1,8 +1,11 @@
 //! Why a command line is refused.
 ghost use Rattle.std.specs.Prelude.{◌≡◌};
 ghost use Rattle.command_line.specs.Causes.{begins_option as is_option_text, is_command as is_command_text};
-ghost use Rattle.command_line.specs.Causes.{is_flag as is_flag_text, is_valued as is_valued_text};
-ghost use Rattle.command_line.specs.Causes.{option_name as name_text, takes_files as takes_files_text};
+ghost use Rattle.command_line.specs.Causes.{is_collect_flag as is_collect_flag_text, is_flag as is_flag_text};
+ghost use Rattle.command_line.specs.Causes.{is_collect_valued as is_collect_valued_text, is_valued as is_valued_text};
+ghost use Rattle.command_line.specs.Causes.{exclude_each_other as exclude_text, option_name as name_text};
+ghost use Rattle.command_line.specs.Causes.{takes_files as takes_files_text};
+ghost use Rattle.command_line.specs.CauseTexts.{needed_by as needed_text};
 
 use std::fmt;
 
@@ -23,8 +26,24 @@ pub enum Misuse<'a> {
     NoFile,
     /// There are more FILEs than may be.
     TooManyFiles,
-    /// This is no size of a page.
-    BadPage(&'a str),
+    /// An option can't have this value.
+    BadValue {
+        /// The option.
+        option: &'a str,
+        /// The value.
+        value: &'a str,
+    },
+    /// The first moment is after the last one.
+    Backwards,
+    /// Two options are given that exclude each other.
+    Conflict {
+        /// One of them.
+        option: &'static str,
+        /// The other one.
+        other: &'static str,
+    },
+    /// `--round` is given without `--follow`.
+    RoundAlone,
     /// The FILE has a CPU that is too high.
     BadCpu(&'a str),
     /// More than one FILE is standard input.
@@ -69,9 +88,14 @@ impl<'a> fmt::Display for Misuse<'a> {
             Misuse::Extra(word) => write!(f, "unknown word {word}"),
             Misuse::NoFile => write!(f, "no FILE"),
             Misuse::TooManyFiles => write!(f, "more than 256 FILEs"),
-            Misuse::BadPage(word) => {
-                write!(f, "--page needs a number from 48 to 65552, not {word}")
+            Misuse::BadValue { option, value } => {
+                write!(f, "{option} needs {}, not {value}", needed_by(option))
             }
+            Misuse::Backwards => write!(f, "--since is greater than --until"),
+            Misuse::Conflict { option, other } => {
+                write!(f, "{option} and {other} exclude each other")
+            }
+            Misuse::RoundAlone => write!(f, "--round needs --follow"),
             Misuse::BadCpu(word) => write!(f, "the CPU of {word} is above 255"),
             Misuse::TwoInputs => write!(f, "more than one FILE is standard input"),
             Misuse::Other => write!(f, "these words can't be read"),
@@ -100,6 +124,33 @@ impl<'a> fmt::Display for Cause<'a> {
     }
 }
 
+/// Whether two options exclude each other.
+pub(crate) fn exclude_each_other(option: &str, other: &str) -> bool
+    ensures { result ≡ exclude_text option.now other.now }
+{
+    option == "--follow"
+        && (other == "--since"
+            || other == "--until"
+            || other == "--instance"
+            || other == "--keep"
+            || other == "--parcels")
+}
+
+/// What kind of value an option needs.
+fn needed_by(option: &str) -> &'static str
+    ensures { result.now ≡ needed_text option.now }
+{
+    match option {
+        "--page" => "a number from 48 to 65552",
+        "--round" => "a number from 1 to 60000",
+        "--cpu" => "numbers up to 255 as in 0,2-4",
+        "--since" | "--until" => "a number up to 18446744073709551615",
+        "--event" => "1 to 256 bytes",
+        "--pid" => "numbers up to 2147483647 as in 1,42",
+        _ => "a FILE",
+    }
+}
+
 /// Whether a command takes FILEs.
 pub(crate) fn takes_files(command: &str) -> bool
     ensures { result ≡ takes_files_text command.now }
@@ -120,8 +171,36 @@ pub(crate) fn is_flag(command: &str, option: &str) -> bool
 {
     (command == "replay" && option == "--log")
         || (takes_files(command) && option == "--json")
-        || (command == "collect"
-            && (option == "--names" || option == "--fields" || option == "--parcels"))
+        || (command == "collect" && is_collect_flag(option))
+}
+
+/// Whether `collect` alone has this option, which takes no value.
+fn is_collect_flag(option: &str) -> bool
+    ensures { result ≡ is_collect_flag_text option.now }
+{
+    option == "--names"
+        || option == "--fields"
+        || option == "--tasks"
+        || option == "--symbols"
+        || option == "--parcels"
+        || option == "--follow"
+}
+
+/// Whether `collect` alone has this option, which takes a value.
+fn is_collect_valued(option: &str) -> bool
+    ensures { result ≡ is_collect_valued_text option.now }
+{
+    option == "--page"
+        || option == "--formats"
+        || option == "--tasks-from"
+        || option == "--symbols-from"
+        || option == "--instance"
+        || option == "--cpu"
+        || option == "--since"
+        || option == "--until"
+        || option == "--event"
+        || option == "--pid"
+        || option == "--round"
 }
 
 /// Whether a command has this option, which takes a value.
@@ -129,7 +208,7 @@ pub(crate) fn is_valued(command: &str, option: &str) -> bool
     ensures { result ≡ is_valued_text command.now option.now }
 {
     (takes_files(command) && option == "--keep")
-        || (command == "collect" && (option == "--page" || option == "--formats"))
+        || (command == "collect" && is_collect_valued(option))
 }
 
 /// Whether a word begins with `-`, and isn't `-` alone.

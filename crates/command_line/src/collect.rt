@@ -1,11 +1,15 @@
 //! What the matches of `collect` ask for.
-ghost use Rattle.std.specs.Prelude.{◌≡◌, Some, None, Err, IfOk, codes, false, map, option_map, true};
+ghost use Rattle.std.specs.Prelude.{◌≡◌, ◌⊎◌, Some, None, Err, IfOk, codes, false, is_some, map, option_map};
+ghost use Rattle.std.specs.Prelude.{true};
 ghost use Rattle.clap.specs.Words.{first_of, found_of, one_of, rows_of};
-ghost use Rattle.command_line.specs.Calls.{AreUnread, AsksFor, asked_of, file_seen, files_matched, number_matched};
+ghost use Rattle.command_line.specs.Calls.{AreApart, AreUnread, AsksFor, asked_of, file_seen, files_matched};
+ghost use Rattle.command_line.specs.Calls.{excludes_follow as excludes_follow_of, goes_together as goes_together_of};
+ghost use Rattle.command_line.specs.Calls.{number_matched};
 ghost use Rattle.command_line.specs.FileWords.{count_inputs, file_list};
 
 use crate::call::{CallFault, CollectCall, CpuFile};
-use crate::words::{MAX_PAGE, MIN_PAGE, cpu_file, is_input, number_said};
+use crate::part::{matched_names, matched_part};
+use crate::words::{MAX_PAGE, MAX_ROUND, MIN_PAGE, MIN_ROUND, cpu_file, is_input, number_said};
 use clap::ArgMatches;
 use std::alloc::Global;
 use trace_model::MAX_CPUS;
@@ -81,28 +85,95 @@ pub(crate) fn matched_flag(found: &ArgMatches<'_>, name: &str) -> bool
     found.get_flag(name)
 }
 
-/// What the matches of `collect` ask for.
-pub(crate) fn collect_call<'a>(
-    alloc: Global,
-    found: &ArgMatches<'a>,
-) -> Result<CollectCall<'a>, CallFault>
+// Whether the text of an option is there.
+fn is_given(text: Option<&str>) -> bool
+    ensures { result ≡ is_some (option_map (λ text. text.now) text.entry) }
+{
+    match text {
+        Some(_) => true,
+        None => false,
+    }
+}
+
+// Whether something is asked for that isn't of files that are followed.
+fn excludes_follow(call: &CollectCall<'_>) -> bool
+    ensures { result ≡ excludes_follow_of (asked_of call.now) }
+{
+    call.since.is_some()
+        || call.until.is_some()
+        || is_given(call.instance)
+        || is_given(call.keep)
+        || call.parcels
+}
+
+// Whether all that is asked for goes together.
+fn goes_together(call: &CollectCall<'_>) -> bool
+    ensures { result ≡ goes_together_of (asked_of call.now) }
+{
+    if call.follow {
+        !excludes_follow(call)
+    } else {
+        call.round.is_none()
+    }
+}
+
+// What the matches say, whether it goes together or not.
+fn said_call<'a>(alloc: Global, found: &ArgMatches<'a>) -> Result<CollectCall<'a>, CallFault>
     ensures asked { IfOk result (λ call. AsksFor (rows_of (found_of found.now)) (asked_of call)) }
     ensures unread { result ≡ Err CallFault.Usage → AreUnread (rows_of (found_of found.now)) }
 {
     let Some(page) = matched_number(found, "page", MIN_PAGE, MAX_PAGE) else {
         return Err(CallFault::Usage);
     };
+    let Some(tasks) = matched_names(found, "tasks", "tasks-from") else {
+        return Err(CallFault::Usage);
+    };
+    let Some(symbols) = matched_names(found, "symbols", "symbols-from") else {
+        return Err(CallFault::Usage);
+    };
+    let Some(round) = matched_number(found, "round", MIN_ROUND, MAX_ROUND) else {
+        return Err(CallFault::Usage);
+    };
+    let part = matched_part(alloc, found)?;
     let files = matched_files(alloc, found)?;
-    let fields = matched_flag(found, "fields");
+    let fields = matched_flag(found, "fields") || symbols.is_some();
     let formats = matched_text(found, "formats");
     Ok(CollectCall {
         page,
-        names: matched_flag(found, "names") || fields || formats.is_some(),
+        names: matched_flag(found, "names") || fields || formats.is_some() || tasks.is_some(),
         fields,
+        tasks,
+        symbols,
         json: matched_flag(found, "json"),
         formats,
+        instance: matched_text(found, "instance"),
+        cpus: part.cpus,
+        since: part.since,
+        until: part.until,
+        event: part.event,
+        pids: part.pids,
         keep: matched_text(found, "keep"),
         parcels: matched_flag(found, "parcels"),
+        follow: matched_flag(found, "follow"),
+        round,
         files,
     })
+}
+
+/// What the matches of `collect` ask for.
+pub(crate) fn collect_call<'a>(
+    alloc: Global,
+    found: &ArgMatches<'a>,
+) -> Result<CollectCall<'a>, CallFault>
+    ensures asked { IfOk result (λ call. AsksFor (rows_of (found_of found.now)) (asked_of call)) }
+    ensures together { IfOk result (λ call. goes_together_of (asked_of call) ≡ true) }
+    ensures unread { result ≡ Err CallFault.Usage
+        → AreUnread (rows_of (found_of found.now)) ⊎ AreApart (rows_of (found_of found.now)) }
+{
+    let call = said_call(alloc, found)?;
+    if goes_together(&call) {
+        Ok(call)
+    } else {
+        Err(CallFault::Usage)
+    }
 }

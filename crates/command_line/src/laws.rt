@@ -9,8 +9,10 @@ use crate::usage::USAGE_LINE;
 /// The usage line is the one that is stated here.
 pub fn usage_line_is()
     ensures { USAGE_LINE.now ≡ codes "usage: tracering replay [--log] | run | dump | steps"
-        ++ codes " | collect [--page BYTES] [--names] [--fields] [--formats DIR] [--json] [--keep KEPT]"
-        ++ codes " [--parcels] FILE.."
+        ++ codes " | collect [--page BYTES] [--names] [--fields] [--formats DIR] [--tasks] [--tasks-from FILE]"
+        ++ codes " [--symbols] [--symbols-from FILE] [--instance NAME] [--cpu LIST] [--since MOMENT] [--until MOMENT]"
+        ++ codes " [--event GLOB] [--pid LIST] [--json] [--keep KEPT] [--parcels] [--follow] [--round MS]"
+        ++ codes " FILE.."
         ++ codes " | recover [--json] [--keep KEPT] FILE.." }
 {}
 

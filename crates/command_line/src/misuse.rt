@@ -1,27 +1,45 @@
 //! What is the matter with a command line that is refused.
-ghost use Rattle.std.specs.Prelude.{◌≡◌, ◌<◌, ◌≤◌, IfSome, List, None, map, length, option_map};
+ghost use Rattle.std.specs.Prelude.{◌≡◌, ◌<◌, ◌≤◌, IfSome, None, map, length, option_map, true};
 ghost use Rattle.clap.specs.Words.{Text};
-ghost use Rattle.command_line.specs.Causes.{IsCauseOf, IsTrueOf, count_option as count_of, first_option};
+ghost use Rattle.command_line.specs.Causes.{IsBackwards, IsCauseAt, IsCauseOf, IsTrueOf, can_have as can_have_text};
+ghost use Rattle.command_line.specs.Causes.{count_option as count_of, first_option, has_value, is_joined};
 ghost use Rattle.command_line.specs.Causes.{has_wrong_value as has_wrong_value_text, is_unknown as is_unknown_text};
 ghost use Rattle.command_line.specs.Causes.{without_value as without_value_of};
 ghost use Rattle.command_line.specs.FileWords.{file_word};
 
 use crate::cause::{
-    Cause, Misuse, begins_option, is_command, is_flag, is_valued, option_name, takes_files,
+    Cause, Misuse, begins_option, exclude_each_other, is_command, is_flag, is_valued, option_name,
+    takes_files,
 };
-use crate::words::{MAX_FILES, MAX_PAGE, MIN_PAGE, cpu_file, is_input, number_in};
+use crate::lists::{is_cpu_list, is_pid_list};
+use crate::values::{is_in_order, moment_in, path_in, pattern_in};
+use crate::words::{
+    MAX_FILES, MAX_PAGE, MAX_ROUND, MIN_PAGE, MIN_ROUND, cpu_file, is_input, number_in,
+};
 use std::convert::AsStr;
 
 /// All options of the commands.
-const OPTIONS: [&str; 8] = [
+const OPTIONS: [&str; 20] = [
     "--log",
     "--page",
     "--names",
     "--fields",
     "--formats",
+    "--tasks",
+    "--tasks-from",
+    "--symbols",
+    "--symbols-from",
+    "--instance",
+    "--cpu",
+    "--since",
+    "--until",
+    "--event",
+    "--pid",
     "--json",
     "--keep",
     "--parcels",
+    "--follow",
+    "--round",
 ];
 
 /// Whether a word is an option that the command hasn't.
@@ -122,46 +140,109 @@ fn without_value<'a, S: AsStr>(command: &str, words: &'a [S]) -> Option<&'a str>
     waiting
 }
 
-/// What is the matter with a size of a page.
-fn page_misuse(value: &str) -> Option<Misuse<'_>>
-    ensures { IfSome result (λ misuse. (command : Text) → (words : List Text) → IsTrueOf command words misuse) }
+/// Options whose values may be wrong.
+const TESTED: [&str; 9] = [
+    "--page",
+    "--round",
+    "--cpu",
+    "--since",
+    "--until",
+    "--event",
+    "--pid",
+    "--tasks-from",
+    "--symbols-from",
+];
+
+/// Whether an option can have a value.
+fn can_have(option: &str, value: &str) -> bool
+    ensures { result ≡ can_have_text option.now value.now }
 {
-    match number_in(MIN_PAGE, MAX_PAGE, value) {
-        Some(_) => None,
-        None => Some(Misuse::BadPage(value)),
+    match option {
+        "--page" => number_in(MIN_PAGE, MAX_PAGE, value).is_some(),
+        "--round" => number_in(MIN_ROUND, MAX_ROUND, value).is_some(),
+        "--cpu" => is_cpu_list(value),
+        "--since" | "--until" => moment_in(value).is_some(),
+        "--event" => pattern_in(value).is_some(),
+        "--pid" => is_pid_list(value),
+        "--tasks-from" | "--symbols-from" => path_in(value).is_some(),
+        _ => true,
     }
 }
 
-/// What has to follow a word.
-#[derive(Clone, Copy, Debug, PartialEq, Eq)]
-enum Awaited {
-    /// Anything.
-    Nothing,
-    /// The size of a page.
-    Page,
-    /// Another value.
-    Value,
-}
-
-/// What has to follow an option of the command.
-fn awaited_by(command: &str, option: &str) -> Awaited {
-    if !is_valued(command, option) {
-        Awaited::Nothing
-    } else if option == "--page" {
-        Awaited::Page
-    } else {
-        Awaited::Value
-    }
-}
-
-/// What is the matter with the size of a page that stands behind `=` of an option.
-fn joined_misuse(option: &str) -> Option<Misuse<'_>>
-    ensures { IfSome result (λ misuse. (command : Text) → (words : List Text) → IsTrueOf command words misuse) }
+/// What is behind `=` of a word, if the option of this name is before it.
+fn joined_value<'a>(option: &str, word: &'a str) -> Option<&'a str>
+    ensures { IfSome result (λ value. is_joined option.now value.now word.now ≡ true) }
 {
-    match option.split_once('=') {
-        Some(("--page", value)) => page_misuse(value),
+    match word.split_once('=') {
+        Some((name, value)) if name == option => Some(value),
         _ => None,
     }
+}
+
+/// The first value of an option, if it has one.
+fn value_of<'a, S: AsStr>(option: &str, words: &'a [S]) -> Option<&'a str>
+    ensures { IfSome result (λ value. has_value option.now value.now (map S.text words.now) ≡ true) }
+{
+    let mut is_next = false;
+    for word in words {
+        let word = word.as_str();
+        if is_next {
+            return Some(word);
+        }
+        if word == "--" {
+            return None;
+        }
+        if let Some(value) = joined_value(option, word) {
+            return Some(value);
+        }
+        is_next = word == option;
+    }
+    None
+}
+
+/// A value that its option can't have.
+fn bad_value<'a, S: AsStr>(words: &'a [S]) -> Option<Misuse<'a>>
+    ensures { IfSome result (λ misuse. (command : Text) → IsTrueOf command (map S.text words.now) misuse) }
+{
+    for option in TESTED {
+        if let Some(value) = value_of(option, words) {
+            if !can_have(option, value) {
+                return Some(Misuse::BadValue { option, value });
+            }
+        }
+    }
+    None
+}
+
+/// Whether the first moment is after the last one.
+fn is_backwards<S: AsStr>(words: &[S]) -> bool
+    ensures { result ≡ true → IsBackwards (map S.text words.now) }
+{
+    match (value_of("--since", words), value_of("--until", words)) {
+        (Some(since), Some(until)) => !is_in_order(moment_in(since), moment_in(until)),
+        _ => false,
+    }
+}
+
+/// What is the matter with `--follow` and `--round`: an option is given that the first excludes, or the second alone.
+fn follow_misuse<S: AsStr>(words: &[S]) -> Option<Misuse<'static>>
+    ensures { IfSome result (λ misuse. (command : Text) → IsTrueOf command (map S.text words.now) misuse) }
+{
+    let option = "--follow";
+    if count_option(option, words) == 0 {
+        if count_option("--round", words) > 0 {
+            return Some(Misuse::RoundAlone);
+        }
+        return None;
+    }
+    for other in OPTIONS {
+        if exclude_each_other(option, other) {
+            if count_option(other, words) > 0 {
+                return Some(Misuse::Conflict { option, other });
+            }
+        }
+    }
+    None
 }
 
 /// The path of a FILE of the command at this position, if its CPU isn't too high.
@@ -180,36 +261,23 @@ fn path_of<'a>(command: &str, position: u32, word: &'a str) -> Option<&'a str>
 
 /// What is the matter with words of which each option is known, given once, and followed by its value, if it takes one.
 fn file_misuse<'a, S: AsStr>(command: &str, words: &'a [S]) -> Misuse<'a>
-    ensures { (all : List Text) → IsTrueOf command.now all result }
+    ensures { IsTrueOf command.now (map S.text words.now) result }
 {
     let has_files = takes_files(command);
     let mut position: u32 = 0;
     let mut has_input = false;
-    let mut awaited = Awaited::Nothing;
+    let mut is_awaited = false;
     let mut is_ended = false;
     for word in words {
         let word = word.as_str();
         if !is_ended && begins_option(word) {
             is_ended = word == "--";
-            awaited = awaited_by(command, word);
-            if let Some(misuse) = joined_misuse(word) {
-                return misuse;
-            }
+            is_awaited = is_valued(command, word);
             continue;
         }
-        match awaited {
-            Awaited::Page => {
-                if let Some(misuse) = page_misuse(word) {
-                    return misuse;
-                }
-                awaited = Awaited::Nothing;
-                continue;
-            }
-            Awaited::Value => {
-                awaited = Awaited::Nothing;
-                continue;
-            }
-            Awaited::Nothing => {}
+        if is_awaited {
+            is_awaited = false;
+            continue;
         }
         if !has_files {
             return Misuse::Extra(word);
@@ -250,7 +318,36 @@ fn misuse_of<'a, S: AsStr>(command: &str, words: &'a [S]) -> Misuse<'a>
     if let Some(option) = repeated_option(words) {
         return Misuse::Twice(option);
     }
+    if let Some(misuse) = bad_value(words) {
+        return misuse;
+    }
+    if is_backwards(words) {
+        return Misuse::Backwards;
+    }
+    if let Some(misuse) = follow_misuse(words) {
+        return misuse;
+    }
     file_misuse(command, words)
+}
+
+/// Why these words are refused: the one behind the program's own name, and those behind it.
+fn cause_at<'a, S: AsStr>(word: &'a str, words: &'a [S]) -> Cause<'a>
+    ensures { IsCauseAt word.now (map S.text words.now) result }
+{
+    if is_command(word) {
+        let misuse = misuse_of(word, words);
+        return Cause::Misused {
+            command: word,
+            misuse,
+        };
+    }
+    if word == "--version" {
+        Cause::VersionAndMore
+    } else if begins_option(word) && word != "--" {
+        Cause::NoSuchOption(word)
+    } else {
+        Cause::UnknownCommand(word)
+    }
 }
 
 /// Why these words are refused, of which the first is the program's own name; there is none if it is alone. They are
@@ -261,21 +358,7 @@ pub fn cause_of<'a, S: AsStr>(words: &'a [S]) -> Option<Cause<'a>>
     ensures none { result ≡ None → length words.now ≤ 1 }
 {
     match words {
-        [_, command, rest @ ..] if is_command(command.as_str()) => {
-            let command = command.as_str();
-            let misuse = misuse_of(command, rest);
-            Some(Cause::Misused { command, misuse })
-        }
-        [_, word, ..] => {
-            let word = word.as_str();
-            if word == "--version" {
-                Some(Cause::VersionAndMore)
-            } else if begins_option(word) && word != "--" {
-                Some(Cause::NoSuchOption(word))
-            } else {
-                Some(Cause::UnknownCommand(word))
-            }
-        }
+        [_, word, rest @ ..] => Some(cause_at(word.as_str(), rest)),
         _ => None,
     }
 }

@@ -4,13 +4,17 @@ ghost use Rattle.std.specs.Prelude.{true, false};
 ghost use Rattle.clap.specs.declared.builder.command.Command.TheViews.{out-Command as fields_of};
 ghost use Rattle.clap.specs.Words.{HasMatchesOf, Text, app_of, new_app, subcommand_name_of, subcommand_rows_of};
 ghost use Rattle.clap.specs.Words.{with_rule, with_subcommand};
+ghost use Rattle.std.specs.Prelude.{pos};
+ghost use Rattle.trace_model.specs.declared.limits.TheConstants.{MAX_CPUS};
 ghost use Rattle.command_line.specs.Calls.{IsAsked, IsAskedToRecover, IsInRange, without_options};
+ghost use Rattle.command_line.specs.ListWords.{marks_from};
 ghost use Rattle.command_line.specs.declared.call.CollectCall.{CollectCall};
 ghost use Rattle.command_line.specs.CommandLine.{HasSource, IsAccepted, IsCallOf, IsParseOf, collect_command};
 ghost use Rattle.command_line.specs.CommandLine.{collect_commands, collect_options, command_line, first_command};
-ghost use Rattle.command_line.specs.CommandLine.{flag_rule, flag_text, has_help_word, image_commands, is_help};
-ghost use Rattle.command_line.specs.CommandLine.{is_version, name_of, option_rule, reading_options, recover_command};
-ghost use Rattle.command_line.specs.CommandLine.{script_commands, values_rule};
+ghost use Rattle.command_line.specs.CommandLine.{flag_rule, flag_text, follow_options, has_help_word, image_commands};
+ghost use Rattle.command_line.specs.CommandLine.{is_help, is_version, name_of, naming_options, option_rule};
+ghost use Rattle.command_line.specs.CommandLine.{part_options, reading_options, recover_command, script_commands};
+ghost use Rattle.command_line.specs.CommandLine.{span_options, values_rule};
 
 use crate::call::{Call, CallFault};
 use crate::collect::collect_call;
@@ -115,14 +119,54 @@ fn reading_program<'a>(alloc: Global) -> Result<Command<'a>, AllocError>
     with_option(alloc, fielded, "formats")
 }
 
+/// The command `collect` with what asks for names beside numbers too.
+fn naming_program<'a>(alloc: Global) -> Result<Command<'a>, AllocError>
+    ensures options { IfOk result (λ program. app_of program ≡ naming_options) }
+    ensures local { IfOk result (λ program. (fields_of program).has_globals ≡ false) }
+{
+    let tasked = with_flag(alloc, reading_program(alloc)?, "tasks")?;
+    let listed = with_option(alloc, tasked, "tasks-from")?;
+    let symbolic = with_flag(alloc, listed, "symbols")?;
+    with_option(alloc, symbolic, "symbols-from")
+}
+
+/// The command `collect` with what says from where and when the records are too.
+fn span_program<'a>(alloc: Global) -> Result<Command<'a>, AllocError>
+    ensures options { IfOk result (λ program. app_of program ≡ span_options) }
+    ensures local { IfOk result (λ program. (fields_of program).has_globals ≡ false) }
+{
+    let placed = with_option(alloc, naming_program(alloc)?, "instance")?;
+    let marked = with_option(alloc, placed, "cpu")?;
+    let begun = with_option(alloc, marked, "since")?;
+    with_option(alloc, begun, "until")
+}
+
+/// The command `collect` with what says which events and processes they are of too.
+fn part_program<'a>(alloc: Global) -> Result<Command<'a>, AllocError>
+    ensures options { IfOk result (λ program. app_of program ≡ part_options) }
+    ensures local { IfOk result (λ program. (fields_of program).has_globals ≡ false) }
+{
+    let matching = with_option(alloc, span_program(alloc)?, "event")?;
+    with_option(alloc, matching, "pid")
+}
+
 /// The command `collect` with its options and flags.
 fn collect_program<'a>(alloc: Global) -> Result<Command<'a>, AllocError>
     ensures options { IfOk result (λ program. app_of program ≡ collect_options) }
     ensures local { IfOk result (λ program. (fields_of program).has_globals ≡ false) }
 {
-    let formed = with_flag(alloc, reading_program(alloc)?, "json")?;
+    let formed = with_flag(alloc, part_program(alloc)?, "json")?;
     let kept = with_option(alloc, formed, "keep")?;
     with_flag(alloc, kept, "parcels")
+}
+
+/// The command `collect` with what says that its files are read while they are written too.
+fn follow_program<'a>(alloc: Global) -> Result<Command<'a>, AllocError>
+    ensures options { IfOk result (λ program. app_of program ≡ follow_options) }
+    ensures local { IfOk result (λ program. (fields_of program).has_globals ≡ false) }
+{
+    let followed = with_flag(alloc, collect_program(alloc)?, "follow")?;
+    with_option(alloc, followed, "round")
 }
 
 /// The command `collect` with its files too.
@@ -130,7 +174,7 @@ fn filed_program<'a>(alloc: Global) -> Result<Command<'a>, AllocError>
     ensures command { IfOk result (λ program. app_of program ≡ collect_command) }
     ensures local { IfOk result (λ program. (fields_of program).has_globals ≡ false) }
 {
-    with_values(alloc, collect_program(alloc)?, "file")
+    with_values(alloc, follow_program(alloc)?, "file")
 }
 
 /// The program with `collect` too.
@@ -288,8 +332,8 @@ pub fn call_of<'a, S: AsStr>(alloc: Global, words: &'a [S]) -> Result<Call<'a>, 
         → map S.text words.now ≡ first ∷ codes "dump" ∷ codes "--log" ∷ []
         → (result ≡ Err CallFault.Usage) ⊎ (result ≡ Err CallFault.NoMemory) }
 
-    // Or of `collect`, with files alone, a CPU and standard input, flags, a size of a page, formats, and a file for
-    // what is new.
+    // Or of `collect`, with files alone, a CPU and standard input, flags, a size of a page, formats, a file for what is
+    // new, rounds, files of names, and a part that is listed.
     ensures collect { (first : List ℕ)
         → map S.text words.now ≡ first ∷ codes "collect" ∷ codes "a" ∷ codes "b" ∷ []
         → IsAsked result (without_options ((0, codes "a") ∷ (1, codes "b") ∷ [])) }
@@ -320,6 +364,46 @@ pub fn call_of<'a, S: AsStr>(alloc: Global, words: &'a [S]) -> Result<Call<'a>, 
     ensures collect_parcels { (first : List ℕ)
         → map S.text words.now ≡ first ∷ codes "collect" ∷ codes "--parcels" ∷ codes "a" ∷ []
         → IsAsked result (record (without_options ((0, codes "a") ∷ [])) { parcels = true }) }
+    ensures collect_follow { (first : List ℕ)
+        → map S.text words.now
+        ≡ first ∷ codes "collect" ∷ codes "--follow" ∷ codes "--round" ∷ codes "250" ∷ codes "a" ∷ []
+        → IsAsked result (record (without_options ((0, codes "a") ∷ [])) { follow = true; round = Some 250 }) }
+    ensures collect_tasks { (first : List ℕ)
+        → map S.text words.now
+        ≡ first ∷ codes "collect" ∷ codes "--tasks" ∷ codes "--symbols-from" ∷ codes "k" ∷ codes "a" ∷ []
+        → IsAsked result (record (without_options ((0, codes "a") ∷ [])) {
+          names = true;
+          fields = true;
+          tasks = Some None;
+          symbols = Some (Some (codes "k"));
+        }) }
+    ensures collect_symbols { (first : List ℕ)
+        → map S.text words.now
+        ≡ first ∷ codes "collect" ∷ codes "--symbols" ∷ codes "--tasks-from" ∷ codes "t" ∷ codes "a" ∷ []
+        → IsAsked result (record (without_options ((0, codes "a") ∷ [])) {
+          names = true;
+          fields = true;
+          tasks = Some (Some (codes "t"));
+          symbols = Some None;
+        }) }
+    ensures collect_part { (first : List ℕ)
+        → map S.text words.now
+        ≡ first ∷ codes "collect" ∷ codes "--cpu" ∷ codes "0,2-4" ∷ codes "--event" ∷ codes "s*"
+        ∷ codes "--pid" ∷ codes "1,42" ∷ codes "a" ∷ []
+        → IsAsked result (record (without_options ((0, codes "a") ∷ [])) {
+          cpus = Some (marks_from (codes "0,2-4") 0 MAX_CPUS);
+          event = Some (codes "s*");
+          pids = Some (pos 1 ∷ pos 42 ∷ []);
+        }) }
+    ensures collect_span { (first : List ℕ)
+        → map S.text words.now
+        ≡ first ∷ codes "collect" ∷ codes "--instance" ∷ codes "i" ∷ codes "--since" ∷ codes "5"
+        ∷ codes "--until" ∷ codes "9" ∷ codes "a" ∷ []
+        → IsAsked result (record (without_options ((0, codes "a") ∷ [])) {
+          instance = Some (codes "i");
+          since = Some 5;
+          until = Some 9;
+        }) }
     ensures collect_dashes { (first : List ℕ)
         → map S.text words.now ≡ first ∷ codes "collect" ∷ codes "--" ∷ codes "--help" ∷ []
         → IsAsked result (without_options ((0, codes "--help") ∷ [])) }
@@ -333,6 +417,28 @@ pub fn call_of<'a, S: AsStr>(alloc: Global, words: &'a [S]) -> Result<Call<'a>, 
         → (result ≡ Err CallFault.Usage) ⊎ (result ≡ Err CallFault.NoMemory) }
     ensures collect_small { (first : List ℕ)
         → map S.text words.now ≡ first ∷ codes "collect" ∷ codes "--page" ∷ codes "47" ∷ codes "a" ∷ []
+        → (result ≡ Err CallFault.Usage) ⊎ (result ≡ Err CallFault.NoMemory) }
+    ensures collect_falling { (first : List ℕ)
+        → map S.text words.now ≡ first ∷ codes "collect" ∷ codes "--cpu" ∷ codes "4-2" ∷ codes "a" ∷ []
+        → (result ≡ Err CallFault.Usage) ⊎ (result ≡ Err CallFault.NoMemory) }
+    ensures collect_backwards { (first : List ℕ)
+        → map S.text words.now
+        ≡ first ∷ codes "collect" ∷ codes "--since" ∷ codes "9" ∷ codes "--until" ∷ codes "5" ∷ codes "a" ∷ []
+        → (result ≡ Err CallFault.Usage) ⊎ (result ≡ Err CallFault.NoMemory) }
+    ensures collect_empty_pid { (first : List ℕ)
+        → map S.text words.now ≡ first ∷ codes "collect" ∷ codes "--pid" ∷ codes "1,,2" ∷ codes "a" ∷ []
+        → (result ≡ Err CallFault.Usage) ⊎ (result ≡ Err CallFault.NoMemory) }
+
+    ensures collect_no_round { (first : List ℕ)
+        → map S.text words.now
+        ≡ first ∷ codes "collect" ∷ codes "--follow" ∷ codes "--round" ∷ codes "0" ∷ codes "a" ∷ []
+        → (result ≡ Err CallFault.Usage) ⊎ (result ≡ Err CallFault.NoMemory) }
+    ensures collect_follow_since { (first : List ℕ)
+        → map S.text words.now
+        ≡ first ∷ codes "collect" ∷ codes "--since" ∷ codes "5" ∷ codes "--follow" ∷ codes "a" ∷ []
+        → (result ≡ Err CallFault.Usage) ⊎ (result ≡ Err CallFault.NoMemory) }
+    ensures collect_round { (first : List ℕ)
+        → map S.text words.now ≡ first ∷ codes "collect" ∷ codes "--round" ∷ codes "250" ∷ codes "a" ∷ []
         → (result ≡ Err CallFault.Usage) ⊎ (result ≡ Err CallFault.NoMemory) }
 
     // Or of `recover`, with files alone, whose words are their paths as they are, with standard input, the flag and a

@@ -17,11 +17,20 @@ pub const MIN_PAGE: u32 = 48;
 /// The most bytes of a page.
 pub const MAX_PAGE: u32 = 65552;
 
+/// The milliseconds of a round if `--round` isn't given.
+pub const DEFAULT_ROUND: u32 = 500;
+
+/// The fewest milliseconds of a round.
+pub const MIN_ROUND: u32 = 1;
+
+/// The most milliseconds of a round.
+pub const MAX_ROUND: u32 = 60000;
+
 /// The most files of regions.
 pub const MAX_FILES: usize = 256;
 
 // Whether a text has digits alone, and one at least.
-fn is_number(text: &str) -> bool
+pub(crate) fn is_number(text: &str) -> bool
     ensures { result ≡ is_number_text text.now }
 {
     !text.is_empty() && text.as_bytes().iter().all(|byte| byte.is_ascii_digit())
@@ -44,7 +53,7 @@ pub(crate) fn number_in(low: u32, high: u32, text: &str) -> Option<u32>
 // What is before the first `=` and after it.
 fn split_at_equals(word: &str) -> Option<(&str, &str)>
     ensures { MatchOption result (first_place is_equals word.now ≡ None)
-        (λ parts. IsSplitAt word.now parts.0.now parts.1.now) }
+        (λ parts. IsSplitAt is_equals word.now parts.0.now parts.1.now) }
 {
     word.split_once('=')
 }

@@ -5,3 +5,4 @@ pub mod PieceLemmas
 pub mod LineParts
 pub mod FieldNames
 pub mod FieldLines
+pub mod NoneBetween

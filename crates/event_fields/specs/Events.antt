@@ -1,5 +1,5 @@
 -- The fields of events, by the numbers of these.
-use Rattle.std.specs.Prelude.{◌≡◌, ℕ, ◌^◌, ◌==◌, ◌<◌, List, map, Option, Some, None, Result, Ok, Err, if◌then◌else◌}
+use Rattle.std.specs.Prelude.{◌≡◌, ℕ, ◌^◌, ◌<◌, List, map, Option, Result, Ok, Err}
 use Rattle.std.specs.Option.{option_map}
 use Rattle.std.specs.BTreeMap.{get}
 use Rattle.std.specs.Ordering.{nat_cmp}
@@ -22,16 +22,6 @@ list_seen (Malformed at) = Err at
 -- What the format of an event says of its fields, if there is an event.
 abbrev pub fields_of_event : Option Event → Option Listed
 fields_of_event event = option_map (λ e. fields_of e.format) event
-
--- what is said of the number `n`, if this is the event of the number `id`
-abbrev pub list_under : (n id : ℕ) → Option Event → Option Listed
-list_under n id None = None
-list_under n id (Some event) = if id == n then Some (fields_of event.format) else None
-
--- what is said later counts
-abbrev pub later_of : Option Listed → Option Listed → Option Listed
-later_of (Some list) known = Some list
-later_of None known = known
 
 -- what is known of the event of this number
 abbrev pub known_by : EventFields → ℕ → Option Listed

@@ -17,16 +17,20 @@ malformed_at event at = record { system = event.system; name = event.name; at = 
 abbrev pub malformed_seen : MalformedEvent → Malformed
 malformed_seen event = record { system = event.system.items; name = event.name.items; at = event.at }
 
--- an event, if there is one, whose format is malformed by what it says of fields
-abbrev pub malformed_in : Option Event → Option Listed → List Malformed
-malformed_in None said = []
-malformed_in (Some event) None = []
-malformed_in (Some event) (Some (Ok fields)) = []
-malformed_in (Some event) (Some (Err at)) = malformed_at event at ∷ []
+-- an event, if its format is malformed by what it says of fields
+abbrev pub malformed_in : Event → Option Listed → List Malformed
+malformed_in event None = []
+malformed_in event (Some (Ok fields)) = []
+malformed_in event (Some (Err at)) = malformed_at event at ∷ []
+
+-- an event, if there is one and its format is malformed
+abbrev pub malformed_of : Option Event → List Malformed
+malformed_of None = []
+malformed_of (Some event) = malformed_in event (fields_of_event (Some event))
 
 -- the event of this number, if its format is malformed
 abbrev pub malformed_by : (ℕ → Option Event) → (id : ℕ) → List Malformed
-malformed_by event_by id = malformed_in (event_by id) (fields_of_event (event_by id))
+malformed_by event_by id = malformed_of (event_by id)
 
 -- the events of the numbers below this one whose formats are malformed
 unfoldable pub malformed_below : (ℕ → Option Event) → ℕ → List Malformed

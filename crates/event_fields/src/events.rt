@@ -10,9 +10,6 @@ use std::collections::BTreeMap;
 use trace_dat::kernel_texts::{EventName, EventNames};
 use trace_model::NoMemory;
 
-/// How many numbers events can have, from 0 on.
-const EVENTS: u32 = 65536;
-
 /// What the format of an event says of its fields.
 #[derive(Debug, Drop)]
 pub enum FieldList {
@@ -42,10 +39,10 @@ pub struct EventFields {
 }
 
 impl EventFields {
-    ghost use Rattle.std.specs.Prelude.{◌≡◌, ℕ, OnOk};
+    ghost use Rattle.std.specs.Prelude.{◌≡◌, ◌==◌, ℕ, Some, OnOk, if◌then◌else◌};
     ghost use Rattle.std.specs.Option.{option_map};
-    ghost use Rattle.trace_dat.specs.kernel_texts.Names.{event_seen, events_of};
-    ghost use Rattle.event_fields.specs.Events.{known_by, later_of, list_under, HasFields};
+    ghost use Rattle.trace_dat.specs.kernel_texts.Names.{events_of};
+    ghost use Rattle.event_fields.specs.Events.{known_by, HasFields};
 
     /// What the formats of all events that have a name say.
     pub fn new(alloc: Global, names: &EventNames) -> Result<EventFields, NoMemory>
@@ -55,20 +52,19 @@ impl EventFields {
             alloc,
             lists: BTreeMap::new(alloc),
         };
-        for id in 0..EVENTS {
-            fields.put(id as u16, names.event(id as u16))?;
+        let mut from = 0;
+        while let Some((id, event)) = names.next_event(from) {
+            fields.put(id, event)?;
+            from = u32::from(id) + 1;
         }
         Ok(fields)
     }
 
-    /// Puts what the format of the event of this number says, if there is an event.
-    fn put(&mut self, id: u16, event: Option<EventName<'_>>) -> Result<(), NoMemory>
+    /// Puts what the format of the event of this number says.
+    fn put(&mut self, id: u16, event: EventName<'_>) -> Result<(), NoMemory>
         ensures { OnOk result ((n : ℕ) → known_by self.new n
-            ≡ later_of (list_under n id (option_map event_seen event.entry)) (known_by self.old n)) }
+            ≡ (if id == n then Some (fields_of event.entry.format.now) else known_by self.old n)) }
     {
-        let Some(event) = event else {
-            return Ok(());
-        };
         let list = field_list(self.alloc, event.format)?;
         self.lists.insert(id, list)?;
         Ok(())

@@ -10,9 +10,6 @@ use std::alloc::{AllocError, Global};
 use trace_dat::kernel_texts::{EventName, EventNames};
 use trace_model::NoMemory;
 
-/// How many numbers events can have, from 0 on.
-const EVENTS: u32 = 65536;
-
 /// An event whose format is malformed.
 #[derive(Debug, Drop)]
 pub struct MalformedEvent {
@@ -37,19 +34,16 @@ impl MalformedEvent {
     }
 }
 
-/// Puts an event, if there is one, whose format is malformed.
+/// Puts an event, if its format is malformed by what is known of its fields.
 fn put_malformed(
     alloc: Global,
     events: &mut Vec<MalformedEvent>,
-    event: Option<EventName<'_>>,
+    event: EventName<'_>,
     list: Option<&FieldList>,
 ) -> Result<(), NoMemory>
     ensures { OnOk result (map malformed_seen events.new.items ≡ map malformed_seen events.old.items
-        ++ malformed_in (option_map event_seen event.entry) (option_map (λ list. list_seen list.now) list.entry)) }
+        ++ malformed_in (event_seen event.entry) (option_map (λ list. list_seen list.now) list.entry)) }
 {
-    let Some(event) = event else {
-        return Ok(());
-    };
     if let Some(FieldList::Malformed(at)) = list {
         events.push(MalformedEvent::of(alloc, event, *at)?)?;
     }
@@ -66,9 +60,10 @@ pub fn malformed_events(
     ensures { IfOk result (λ events. map malformed_seen events.items ≡ malformed_events (events_of names.now)) }
 {
     let mut events = Vec::new(alloc);
-    for id in 0..EVENTS {
-        let id = id as u16;
-        put_malformed(alloc, &mut events, names.event(id), fields.of_event(id))?;
+    let mut from = 0;
+    while let Some((id, event)) = names.next_event(from) {
+        put_malformed(alloc, &mut events, event, fields.of_event(id))?;
+        from = u32::from(id) + 1;
     }
     Ok(events)
 }

@@ -4,3 +4,4 @@ pub mod Printing
 pub mod Listed
 pub mod Pieces
 pub mod Faults
+pub mod Hidden

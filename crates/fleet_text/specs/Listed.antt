@@ -7,7 +7,7 @@ use Rattle.fleet_collector.specs.Lines.{line_seen}
 use Rattle.fleet_text.specs.declared.run.RunKind.TheVariants.{Missing, Unknown, Undelivered, Forgotten}
 use Rattle.fleet_text.specs.declared.listed.Listed.{Listed}
 use Rattle.fleet_text.specs.Runs.{Run, run_seen, AreRunsOfFleet}
-use Rattle.fleet_text.specs.Printing.{record_line, run_line}
+use Rattle.fleet_text.specs.Printing.{record_line, kind_name, run_line}
 
 -- what is shown of a fleet: its records, and the runs of its numbers of each kind
 pub record Shown : Type 0 where
@@ -38,7 +38,7 @@ pub record IsFleetShown (fleet : List (ℕ × Stream)) (shown : Shown) : Type 0 
 abbrev pub shown_text : Form → Shown → List ℕ
 shown_text form shown =
     flat_map (record_line form) shown.lines
-    ++ flat_map (run_line form Missing) shown.missing
-    ++ flat_map (run_line form Unknown) shown.unknown
-    ++ flat_map (run_line form Undelivered) shown.undelivered
-    ++ flat_map (run_line form Forgotten) shown.forgotten
+    ++ flat_map (run_line form (kind_name Missing)) shown.missing
+    ++ flat_map (run_line form (kind_name Unknown)) shown.unknown
+    ++ flat_map (run_line form (kind_name Undelivered)) shown.undelivered
+    ++ flat_map (run_line form (kind_name Forgotten)) shown.forgotten

@@ -43,10 +43,11 @@ kind_name Unknown = codes "unknown"
 kind_name Undelivered = codes "undelivered"
 kind_name Forgotten = codes "forgotten"
 
-abbrev pub run_line : Form → RunKind → Run → List ℕ
-run_line Text kind run =
-    kind_name kind ++ space ∷ cpu_text run.stream run.cpu ++ space ∷ decimal run.first
+-- by what its numbers are called
+abbrev pub run_line : Form → (name : List ℕ) → Run → List ℕ
+run_line Text name run =
+    name ++ space ∷ cpu_text run.stream run.cpu ++ space ∷ decimal run.first
     ++ codes "-" ++ decimal run.last ++ line_feed ∷ []
-run_line Json kind run =
-    codes "{" ++ json_cpu run.stream run.cpu ++ codes ",\"" ++ kind_name kind ++ codes "\":[" ++ decimal run.first
+run_line Json name run =
+    codes "{" ++ json_cpu run.stream run.cpu ++ codes ",\"" ++ name ++ codes "\":[" ++ decimal run.first
     ++ codes "," ++ decimal run.last ++ codes "]}" ++ line_feed ∷ []

@@ -86,10 +86,10 @@ fn kind_name(kind: RunKind) -> &'static [u8]
 }
 
 /// Puts the line of a run as text.
-fn put_text_run<W: Sink>(out: &mut Out<'_, W>, kind: RunKind, run: &FleetRun)
-    ensures { Puts (run_line Form.Text kind (run_seen run.now)) out.old out.new }
+fn put_text_run<W: Sink>(out: &mut Out<'_, W>, name: &[u8], run: &FleetRun)
+    ensures { Puts (run_line Form.Text name.now (run_seen run.now)) out.old out.new }
 {
-    out.put(kind_name(kind));
+    out.put(name);
     out.put(b" ");
     put_cpu(out, run.stream, run.cpu);
     out.put_numbered(b" ", run.first.0);
@@ -98,25 +98,25 @@ fn put_text_run<W: Sink>(out: &mut Out<'_, W>, kind: RunKind, run: &FleetRun)
 }
 
 /// Puts the line of a run as JSON.
-fn put_json_run<W: Sink>(out: &mut Out<'_, W>, kind: RunKind, run: &FleetRun)
-    ensures { Puts (run_line Form.Json kind (run_seen run.now)) out.old out.new }
+fn put_json_run<W: Sink>(out: &mut Out<'_, W>, name: &[u8], run: &FleetRun)
+    ensures { Puts (run_line Form.Json name.now (run_seen run.now)) out.old out.new }
 {
     out.put(b"{");
     put_json_cpu(out, run.stream, run.cpu);
     out.put(b",\"");
-    out.put(kind_name(kind));
+    out.put(name);
     out.put_numbered(b"\":[", run.first.0);
     out.put_numbered(b",", run.last.0);
     out.put(b"]}\n");
 }
 
 /// Puts the line of a run.
-fn put_run<W: Sink>(out: &mut Out<'_, W>, form: Form, kind: RunKind, run: &FleetRun)
-    ensures { Puts (run_line form kind (run_seen run.now)) out.old out.new }
+fn put_run<W: Sink>(out: &mut Out<'_, W>, form: Form, name: &[u8], run: &FleetRun)
+    ensures { Puts (run_line form name.now (run_seen run.now)) out.old out.new }
 {
     match form {
-        Form::Text => put_text_run(out, kind, run),
-        Form::Json => put_json_run(out, kind, run),
+        Form::Text => put_text_run(out, name, run),
+        Form::Json => put_json_run(out, name, run),
     }
 }
 
@@ -129,11 +129,23 @@ pub(crate) fn put_lines<W: Sink>(out: &mut Out<'_, W>, form: Form, lines: &[Flee
     }
 }
 
-/// Puts the lines of runs of one kind.
-pub(crate) fn put_runs<W: Sink>(out: &mut Out<'_, W>, form: Form, kind: RunKind, runs: &[FleetRun])
-    ensures { Puts (flat_map (run_line form kind) (map run_seen runs.now)) out.old out.new }
+/// Puts the lines of runs whose numbers are called so.
+pub(crate) fn put_runs<W: Sink>(out: &mut Out<'_, W>, form: Form, name: &[u8], runs: &[FleetRun])
+    ensures { Puts (flat_map (run_line form name.now) (map run_seen runs.now)) out.old out.new }
 {
     for run in runs {
-        put_run(out, form, kind, run);
+        put_run(out, form, name, run);
     }
+}
+
+/// Puts the lines of runs of one kind.
+pub(crate) fn put_runs_of<W: Sink>(
+    out: &mut Out<'_, W>,
+    form: Form,
+    kind: RunKind,
+    runs: &[FleetRun],
+)
+    ensures { Puts (flat_map (run_line form (kind_name kind)) (map run_seen runs.now)) out.old out.new }
+{
+    put_runs(out, form, kind_name(kind), runs);
 }

@@ -1,6 +1,6 @@
 //! What is printed of a fleet.
 use crate::cpus::all_cpus;
-use crate::lines::{put_lines, put_runs};
+use crate::lines::{put_lines, put_runs_of};
 use crate::run::{FleetRun, RunKind};
 use crate::runs::runs_of;
 use capture_text::Form;
@@ -45,9 +45,9 @@ impl<'a> Listed<'a> {
         ensures { Puts (shown_text form (shown_of self.now)) out.old out.new }
     {
         put_lines(out, form, &self.lines);
-        put_runs(out, form, RunKind::Missing, &self.missing);
-        put_runs(out, form, RunKind::Unknown, &self.unknown);
-        put_runs(out, form, RunKind::Undelivered, &self.undelivered);
-        put_runs(out, form, RunKind::Forgotten, &self.forgotten);
+        put_runs_of(out, form, RunKind::Missing, &self.missing);
+        put_runs_of(out, form, RunKind::Unknown, &self.unknown);
+        put_runs_of(out, form, RunKind::Undelivered, &self.undelivered);
+        put_runs_of(out, form, RunKind::Forgotten, &self.forgotten);
     }
 }

@@ -1,3 +1,4 @@
+pub mod Collects
 pub mod Feeds
 pub mod Formats
 pub mod Keeps

@@ -5,6 +5,7 @@ ghost use Rattle.parcel_streams.specs.source.Reading.{BeginsStream};
 ghost use Rattle.parcel_streams.specs.source.Readers.{peeked_unread};
 
 use crate::captures::collect_captures;
+use crate::follow::follow_captures;
 use crate::inputs::{Reader, Trial, open_inputs};
 use crate::keep::{KEEP_IS_READ, keep_is_read};
 use crate::streams::collect_pieces;
@@ -12,6 +13,8 @@ use crate::telling::{refuse, tell_trial};
 use capture::files::Input;
 use command_line::CollectCall;
 use std::io::IsTerminal;
+use std::sync::Wait;
+use std::thread::Threads;
 
 /// What the command line asks for that can't be done.
 const BOTH: &str = "tracering: --keep and --parcels exclude each other";
@@ -20,7 +23,8 @@ const MIXED: &str = "tracering: some files are streams of parcels and others are
 
 const NOT_FOR_CAPTURES: &str = "tracering: --keep and --parcels are for streams of parcels";
 
-const NOT_FOR_STREAMS: &str = "tracering: --page, --names, --fields and --formats are for captures";
+const NOT_FOR_STREAMS: &str =
+    "tracering: for streams of parcels there are --json, --keep and --parcels alone";
 
 /// Whether each input begins as a stream of parcels does, or has no byte: it is a stream without a piece then.
 fn are_streams(inputs: &[Input<Reader<'_>>]) -> bool
@@ -58,10 +62,29 @@ fn wrong_options(rt: &HostRuntime, asked: &CollectCall<'_>) -> Option<&'static s
     None
 }
 
+/// Whether an option is given that is for captures alone. `--fields` and others ask for names too.
+fn is_for_captures(asked: &CollectCall<'_>) -> bool {
+    asked.page.is_some()
+        || asked.names
+        || asked.instance.is_some()
+        || asked.cpus.is_some()
+        || asked.since.is_some()
+        || asked.until.is_some()
+        || asked.event.is_some()
+        || asked.pids.is_some()
+}
+
 /// Lists the files, and gives the exit status.
-fn list<'b>(rt: &HostRuntime, asked: &CollectCall<'b>) -> Result<u8, Trial<'b>>
+fn list<'b, T: Threads + Wait + Copy + Send + 'static>(
+    rt: &HostRuntime,
+    threads: &T,
+    asked: &CollectCall<'b>,
+) -> Result<u8, Trial<'b>>
     requires { IsInRange asked.now }
 {
+    if asked.follow {
+        return follow_captures(rt, threads, asked);
+    }
     if let Some(sentence) = wrong_options(rt, asked) {
         return Ok(refuse(rt, sentence));
     }
@@ -72,7 +95,7 @@ fn list<'b>(rt: &HostRuntime, asked: &CollectCall<'b>) -> Result<u8, Trial<'b>>
     let is_for_streams = asked.keep.is_some() || asked.parcels;
     let is_capture = are_captures(&inputs);
     if are_streams(&inputs) && (is_for_streams || !is_capture) {
-        if asked.page.is_some() || asked.names {
+        if is_for_captures(asked) {
             return Ok(refuse(rt, NOT_FOR_STREAMS));
         }
         return collect_pieces(rt, asked, inputs, is_unseen);
@@ -86,9 +109,13 @@ fn list<'b>(rt: &HostRuntime, asked: &CollectCall<'b>) -> Result<u8, Trial<'b>>
     collect_captures(rt, asked, inputs, is_unseen)
 }
 
-/// Carries out `collect`, and gives the exit status.
-pub fn collect(rt: &HostRuntime, asked: &CollectCall<'_>) -> u8
+/// Carries out `collect`, and gives the exit status. Threads are started for `--follow` alone.
+pub fn collect<T: Threads + Wait + Copy + Send + 'static>(
+    rt: &HostRuntime,
+    threads: &T,
+    asked: &CollectCall<'_>,
+) -> u8
     requires { IsInRange asked.now }
 {
-    tell_trial(rt, list(rt, asked))
+    tell_trial(rt, list(rt, threads, asked))
 }

@@ -14,7 +14,7 @@ pub struct FormatText {
 }
 
 /// The names of what is in a folder, in their order. A name that isn't UTF-8 is passed over.
-fn names_in<R: Files + AllocGlobal + Clone + Drop>(
+pub(crate) fn names_in<R: Files + AllocGlobal + Clone + Drop>(
     rt: &R,
     folder: &str,
 ) -> io::Result<Vec<String>> {

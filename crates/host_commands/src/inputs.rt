@@ -14,6 +14,9 @@ use std::fs::File;
 use std::io::{ErrorKind, Stdin, Stdout};
 use std::{fs, io};
 
+/// The word for standard input in the place of a path.
+pub(crate) const STANDARD_INPUT: &str = "-";
+
 /// What an input is read from, of which the first bytes were looked at.
 pub(crate) type Reader<'a> = Peeked<Opened<'a>>;
 
@@ -26,6 +29,8 @@ pub(crate) enum Trial<'a> {
     File(FileMessage<'a>),
     /// Memory was refused.
     NoMemory,
+    /// A thread couldn't be started.
+    NoThread,
 }
 
 /// What an error makes of a file: trouble, unless memory was refused.
@@ -36,6 +41,14 @@ pub(crate) fn trial_of(error: io::Error, trouble: Trouble, name: &str) -> Trial<
     }
 }
 
+/// What the bytes of a file come from.
+pub(crate) fn open_feed(rt: &HostRuntime, path: &str) -> io::Result<Feed<File, Stdin>> {
+    if path == STANDARD_INPUT {
+        return Ok(Feed::Standard(rt.stdin()));
+    }
+    Ok(Feed::File(fs::open(rt, path)?))
+}
+
 /// The input of a file, which is watched if that is wanted.
 pub(crate) fn open_input<'a>(
     rt: &'a HostRuntime,
@@ -44,11 +57,7 @@ pub(crate) fn open_input<'a>(
 ) -> io::Result<Opened<'a>>
     ensures { IfOk result (λ reader. has_failed reader ≡ false) }
 {
-    let feed = if path == "-" {
-        Feed::Standard(rt.stdin())
-    } else {
-        Feed::File(fs::open(rt, path)?)
-    };
+    let feed = open_feed(rt, path)?;
     let progress = Progress::begin(rt, "read", is_watched);
     Ok(Std::new(Watched::new(feed, progress)))
 }

@@ -3,7 +3,7 @@ ghost use Rattle.std.specs.Prelude.{◌≡◌, false, IfOk};
 ghost use Rattle.command_io.specs.Ends.{has_failed};
 ghost use Rattle.host_commands.specs.Keeps.{has_failed_in};
 
-use crate::inputs::{Trial, trial_of};
+use crate::inputs::{STANDARD_INPUT, Trial, trial_of};
 use crate::message::Trouble;
 use crate::named::Named;
 use crate::same::is_same_file;
@@ -15,7 +15,7 @@ use std::{fs, io};
 pub(crate) const KEEP_IS_READ: &str = "tracering: the file of --keep is read";
 
 /// The path that leads to the file which standard input is, if it is one.
-const STANDARD_INPUT: &str = "/dev/stdin";
+const INPUT_PATH: &str = "/dev/stdin";
 
 /// What new pieces are written to: a file, or nothing, which takes all and never fails.
 #[derive(Drop)]
@@ -62,7 +62,11 @@ fn is_kept_in(rt: &HostRuntime, input: &str, kept: &str) -> bool {
     if input == kept {
         return true;
     }
-    let path = if input == "-" { STANDARD_INPUT } else { input };
+    let path = if input == STANDARD_INPUT {
+        INPUT_PATH
+    } else {
+        input
+    };
     is_same_file(rt, path, kept)
 }
 

@@ -5,6 +5,7 @@
 mod captures;
 mod choose;
 mod feed;
+mod follow;
 mod form;
 mod formats;
 mod inputs;

@@ -3,6 +3,7 @@ use capture_text::shown_byte;
 use event_fields::MalformedEvent;
 use std::fmt;
 use std::fmt::Write;
+use trace_model::CpuId;
 
 /// What is the matter with a file.
 #[derive(Clone, Copy, Debug, PartialEq, Eq)]
@@ -105,5 +106,28 @@ impl<'a> fmt::Display for InstancesMessage<'a> {
             write!(f, " {name}")?;
         }
         Ok(())
+    }
+}
+
+/// Why files aren't followed: the line for it, without a line feed. It takes no memory.
+#[derive(Clone, Copy, Debug, PartialEq, Eq)]
+pub enum NotFollowed<'a> {
+    /// More than one file is of this CPU.
+    Twice(CpuId),
+    /// Below this folder are CPUs with numbers that are too high.
+    TooManyCpus(&'a str),
+}
+
+impl<'a> fmt::Display for NotFollowed<'a> {
+    fn fmt<W: fmt::Write>(&self, f: &mut fmt::Formatter<W>) -> fmt::Result {
+        match self {
+            NotFollowed::Twice(cpu) => {
+                let cpu = cpu.0;
+                write!(f, "tracering: more than one FILE is of CPU {cpu}")
+            }
+            NotFollowed::TooManyCpus(folder) => {
+                write!(f, "tracering: a CPU of {folder} is above 255")
+            }
+        }
     }
 }

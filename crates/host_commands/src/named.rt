@@ -1,4 +1,5 @@
 //! Inputs by their names.
+use crate::follow::FollowedFile;
 use command_line::CpuFile;
 
 /// An input that has a name.
@@ -16,5 +17,11 @@ impl<'b> Named for CpuFile<'b> {
 impl<'b> Named for &'b str {
     fn name(&self) -> &str {
         *self
+    }
+}
+
+impl Named for FollowedFile {
+    fn name(&self) -> &str {
+        self.path.as_str()
     }
 }

@@ -9,6 +9,7 @@ use crate::message::Trouble;
 use crate::telling::{refuse, tell_outcome, tell_trial};
 use collect_command::Outcome;
 use collect_command::recovery::recover_to;
+use command_io::EndFault;
 use command_line::RecoverCall;
 use std::io::IsTerminal;
 
@@ -33,25 +34,27 @@ fn open_regions<'a, 'b>(
     Ok(readers)
 }
 
-/// Lists regions, keeps what is new in the file that is named, if one is, and gives how that ends.
+/// Lists regions, keeps what is new in the file that is named, if one is, and gives how that ends, and what is the
+/// matter with standard output.
 fn list<'b>(
     rt: &HostRuntime,
     asked: &RecoverCall<'b>,
     readers: Vec<Opened<'_>>,
     is_watched: bool,
-) -> Result<Outcome, Trial<'b>>
+) -> Result<(Outcome, Option<EndFault>), Trial<'b>>
     requires { All (λ reader. has_failed reader ≡ false) readers.items }
 {
     let mut readers = readers;
     let mut output = open_output(rt, is_watched);
     let mut keep = open_keep(rt, asked.keep)?;
-    Ok(recover_to(
+    let outcome = recover_to(
         rt.alloc(),
         form_of(asked.json),
         readers.as_mut_slice(),
         &mut keep,
         &mut output,
-    ))
+    );
+    Ok((outcome, EndFault::of_output(&output)))
 }
 
 /// Lists the files, and gives the exit status.
@@ -63,8 +66,8 @@ fn list_files<'b>(rt: &HostRuntime, asked: &RecoverCall<'b>) -> Result<u8, Trial
     let readers = open_regions(rt, &asked.files, is_watched)?;
     // What a terminal shows of the output says how far it is.
     let is_unseen = is_watched && !rt.stdout().is_terminal();
-    let outcome = list(rt, asked, readers, is_unseen)?;
-    Ok(tell_outcome(rt, &asked.files, asked.keep, outcome))
+    let (outcome, fault) = list(rt, asked, readers, is_unseen)?;
+    Ok(tell_outcome(rt, &asked.files, asked.keep, outcome, fault))
 }
 
 /// Carries out `recover`, and gives the exit status.

@@ -11,6 +11,7 @@ use crate::telling::{tell_ending, tell_outcome};
 use capture::files::Input;
 use collect_command::streams::{collect_streams, print_pieces};
 use collect_command::{Ending, Outcome};
+use command_io::EndFault;
 use command_line::CollectCall;
 use parcel_streams::source::PieceReader;
 
@@ -37,46 +38,49 @@ fn readers_of<'a>(
     Ok(readers)
 }
 
-/// Lists streams, keeps what is new in the file that is named, if one is, and gives how that ends.
+/// Lists streams, keeps what is new in the file that is named, if one is, and gives how that ends, and what is the
+/// matter with standard output.
 fn list<'b>(
     rt: &HostRuntime,
     asked: &CollectCall<'b>,
     readers: Vec<PieceReader<Reader<'_>>>,
     is_watched: bool,
-) -> Result<Outcome, Trial<'b>>
+) -> Result<(Outcome, Option<EndFault>), Trial<'b>>
     requires sound { All (λ reader. has_failed (peeked_reader (source_of reader)) ≡ false) readers.items }
     requires fresh { All (λ reader. IsFresh reader) readers.items }
 {
     let mut readers = readers;
     let mut output = open_output(rt, is_watched);
     let mut keep = open_keep(rt, asked.keep)?;
-    Ok(collect_streams(
+    let outcome = collect_streams(
         rt.alloc(),
         form_of(asked.json),
         readers.as_mut_slice(),
         &mut keep,
         &mut output,
-    ))
+    );
+    Ok((outcome, EndFault::of_output(&output)))
 }
 
-/// Prints the pieces of streams, and gives how that ends.
+/// Prints the pieces of streams, and gives how that ends, and what is the matter with standard output.
 fn print(
     rt: &HostRuntime,
     asked: &CollectCall<'_>,
     readers: Vec<PieceReader<Reader<'_>>>,
     is_watched: bool,
-) -> Ending
+) -> (Ending, Option<EndFault>)
     requires sound { All (λ reader. has_failed (peeked_reader (source_of reader)) ≡ false) readers.items }
     requires fresh { All (λ reader. IsFresh reader) readers.items }
 {
     let mut readers = readers;
     let mut output = open_output(rt, is_watched);
-    print_pieces(
+    let ending = print_pieces(
         rt.alloc(),
         form_of(asked.json),
         readers.as_mut_slice(),
         &mut output,
-    )
+    );
+    (ending, EndFault::of_output(&output))
 }
 
 /// Lists streams or their pieces, and gives the exit status.
@@ -90,9 +94,9 @@ pub(crate) fn collect_pieces<'b>(
 {
     let readers = readers_of(rt, inputs)?;
     if asked.parcels {
-        let ending = print(rt, asked, readers, is_watched);
-        return Ok(tell_ending(rt, &asked.files, ending));
+        let (ending, fault) = print(rt, asked, readers, is_watched);
+        return Ok(tell_ending(rt, &asked.files, ending, fault));
     }
-    let outcome = list(rt, asked, readers, is_watched)?;
-    Ok(tell_outcome(rt, &asked.files, asked.keep, outcome))
+    let (outcome, fault) = list(rt, asked, readers, is_watched)?;
+    Ok(tell_outcome(rt, &asked.files, asked.keep, outcome, fault))
 }

@@ -4,7 +4,9 @@ use crate::message::{FileMessage, Trouble};
 use crate::named::Named;
 use capture::files::FileFault;
 use collect_command::{Ending, Outcome};
-use command_io::{END_FAILED, INPUT_TOO_LONG, Std, USAGE, WRITE_FAILED, print_memory_line};
+use command_io::{
+    END_FAILED, EndFault, INPUT_TOO_LONG, Std, THREAD_LINE, USAGE, print_memory_line, write_text,
+};
 use trace_dat::Cause;
 
 /// Says a line.
@@ -19,7 +21,7 @@ pub(crate) fn refuse(rt: &HostRuntime, sentence: &str) -> u8 {
 }
 
 /// Says what is the matter with a file.
-fn tell_file(rt: &HostRuntime, message: FileMessage<'_>) {
+pub(crate) fn tell_file(rt: &HostRuntime, message: FileMessage<'_>) {
     let _ = eprintln!(rt; "{message}");
 }
 
@@ -32,6 +34,13 @@ fn tell_input<N: Named>(rt: &HostRuntime, inputs: &[N], trouble: Trouble, index:
     tell_file(rt, FileMessage { trouble, name });
 }
 
+/// Says what is the matter with standard output, unless nobody reads it any more.
+fn tell_output(rt: &HostRuntime, fault: Option<EndFault>) {
+    if let Some(line) = fault.and_then(|fault| fault.message()) {
+        tell_line(rt, line);
+    }
+}
+
 /// What is the matter with a malformed file of trace-cmd.
 fn trouble_of(fault: FileFault) -> Trouble {
     match fault {
@@ -40,35 +49,60 @@ fn trouble_of(fault: FileFault) -> Trouble {
     }
 }
 
-/// Says what the ending of a run over these inputs leaves to be said, and gives the exit status.
-pub(crate) fn tell_ending<N: Named>(rt: &HostRuntime, inputs: &[N], ending: Ending) -> u8 {
+/// Says what the ending of a run over these inputs leaves to be said, and gives the exit status. `fault` is that of
+/// standard output.
+pub(crate) fn tell_ending<N: Named>(
+    rt: &HostRuntime,
+    inputs: &[N],
+    ending: Ending,
+    fault: Option<EndFault>,
+) -> u8 {
     match ending {
         Ending::NotRead(input) => tell_input(rt, inputs, Trouble::Unread, input),
         Ending::Malformed(input) => tell_input(rt, inputs, Trouble::Malformed, input),
         Ending::MalformedFile { input, fault } => tell_input(rt, inputs, trouble_of(fault), input),
         Ending::TooLong(_) => tell_line(rt, INPUT_TOO_LONG),
-        Ending::NotWritten => tell_line(rt, WRITE_FAILED),
-        Ending::Done | Ending::Damaged | Ending::Numbers | Ending::NoMemory => {}
+        Ending::NotWritten => tell_output(rt, fault),
+        Ending::Done | Ending::Damaged | Ending::Hidden | Ending::Numbers | Ending::NoMemory => {}
     }
     ending.status()
 }
 
-/// Says what is left to be said of a run that may keep new pieces of these inputs, and gives the exit status.
+/// Says what is left to be said of a run that may keep new pieces of these inputs, and gives the exit status. `fault`
+/// is that of standard output.
 pub(crate) fn tell_outcome<N: Named>(
     rt: &HostRuntime,
     inputs: &[N],
     keep: Option<&str>,
     outcome: Outcome,
+    fault: Option<EndFault>,
 ) -> u8 {
     if let (Some(name), false) = (keep, outcome.is_kept) {
         let trouble = Trouble::Unwritten;
         tell_file(rt, FileMessage { trouble, name });
     }
-    tell_ending(rt, inputs, outcome.ending);
+    tell_ending(rt, inputs, outcome.ending, fault);
     outcome.status()
 }
 
-/// Gives the exit status of a run. If files couldn't be opened or memory was refused, says so first.
+/// Says that memory was refused, and gives the exit status.
+fn tell_no_memory(rt: &HostRuntime) -> u8 {
+    let mut output = Std::new(rt.stdout());
+    let status = print_memory_line(&mut output);
+    tell_output(rt, EndFault::of_output(&output));
+    status
+}
+
+/// Says that a thread couldn't be started, and gives the exit status.
+fn tell_no_thread(rt: &HostRuntime) -> u8 {
+    let mut output = Std::new(rt.stdout());
+    let status = write_text(&mut output, THREAD_LINE, END_FAILED, END_FAILED);
+    tell_output(rt, EndFault::of_output(&output));
+    status
+}
+
+/// Gives the exit status of a run. If files couldn't be opened, or memory or a thread was refused,
+/// says so first.
 pub(crate) fn tell_trial(rt: &HostRuntime, run: Result<u8, Trial<'_>>) -> u8 {
     match run {
         Ok(status) => status,
@@ -76,6 +110,7 @@ pub(crate) fn tell_trial(rt: &HostRuntime, run: Result<u8, Trial<'_>>) -> u8 {
             tell_file(rt, message);
             END_FAILED
         }
-        Err(Trial::NoMemory) => print_memory_line(&mut Std::new(rt.stdout())),
+        Err(Trial::NoMemory) => tell_no_memory(rt),
+        Err(Trial::NoThread) => tell_no_thread(rt),
     }
 }

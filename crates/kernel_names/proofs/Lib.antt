@@ -5,3 +5,5 @@ pub mod SymbolLines
 pub mod PartLemmas
 pub mod EntryLemmas
 pub mod TableLemmas
+mod TableLists
+mod CallStarts

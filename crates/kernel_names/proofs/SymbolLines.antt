@@ -35,29 +35,44 @@ abbrev pub Adds : List ℕ → (old new : SymbolNames) → Type 0
 Adds line old new =
     (address : ℕ) → known_name new address ≡ option_or (known_name old address) (name_if_at address (symbol_in line))
 
--- what is known, or else said by the lines of a text, is what all lines say
-abbrev pub IsLeft : (text left : List ℕ) → SymbolNames → Type 0
-IsLeft text left symbols = (address : ℕ)
-    → option_or (known_name symbols address) (name_by address (parts_of 10 left)) ≡ name_by address (parts_of 10 text)
+-- the name at an address, by further lines
+by_more : (address : ℕ) (lines more : List (List ℕ))
+    → name_by address (lines ++ more) ≡ option_or (name_by address lines) (name_by address more)
+by_more address [] more = refl
+by_more address (line ∷ lines) more =
+    ap (option_or (name_if_at address (symbol_in line))) (by_more address lines more)
+    ∙ sym (regroup (name_if_at address (symbol_in line)) (name_by address lines) (name_by address more))
 
-pub passes : (text left line : List ℕ) (rest : Option (Bor (List ℕ))) (r : Bor (List ℕ)) (old new : SymbolNames)
-    → rest ≡ Some r → IsCut left line rest → IsLeft text left old → Adds line old new → IsLeft text r.now new
-passes text left line rest r old new some cut so_far adds address =
+-- what is known, or else said by the lines of a text that are left, is what all lines say
+abbrev pub IsLeft : (text left : List ℕ) → (old now : SymbolNames) → Type 0
+IsLeft text left old now = (known : List (List ℕ)) → HasSymbols old known → (address : ℕ)
+    → option_or (known_name now address) (name_by address (parts_of 10 left))
+    ≡ name_by address (known ++ parts_of 10 text)
+
+pub none_passed : (text : List ℕ) (symbols : SymbolNames) → IsLeft text text symbols symbols
+none_passed text symbols known has address =
+    ap (λ o. option_or o (name_by address (parts_of 10 text))) (has address)
+    ∙ sym (by_more address known (parts_of 10 text))
+
+pub passes : (text left line : List ℕ) (rest : Option (Bor (List ℕ))) (r : Bor (List ℕ)) (old now new : SymbolNames)
+    → rest ≡ Some r → IsCut left line rest → IsLeft text left old now → Adds line now new
+    → IsLeft text r.now old new
+passes text left line rest r old now new some cut so_far adds known has address =
     let parts : parts_of 10 left ≡ line ∷ parts_of 10 r.now = subst (IsCut left line) some cut in
     ap (λ o. option_or o (name_by address (parts_of 10 r.now))) (adds address)
-    ∙ regroup (known_name old address) (name_if_at address (symbol_in line)) (name_by address (parts_of 10 r.now))
-    ∙ sym (ap (λ ls. option_or (known_name old address) (name_by address ls)) parts)
-    ∙ so_far address
+    ∙ regroup (known_name now address) (name_if_at address (symbol_in line)) (name_by address (parts_of 10 r.now))
+    ∙ sym (ap (λ ls. option_or (known_name now address) (name_by address ls)) parts)
+    ∙ so_far known has address
 
-pub ends : (text left line : List ℕ) (rest : Option (Bor (List ℕ))) (old new : SymbolNames)
-    → rest ≡ None → IsCut left line rest → IsLeft text left old → Adds line old new
-    → HasSymbols new (parts_of 10 text)
-ends text left line rest old new none cut so_far adds address =
+pub ends : (text left line : List ℕ) (rest : Option (Bor (List ℕ))) (old now new : SymbolNames)
+    → rest ≡ None → IsCut left line rest → IsLeft text left old now → Adds line now new
+    → (known : List (List ℕ)) → HasSymbols old known → HasSymbols new (known ++ parts_of 10 text)
+ends text left line rest old now new none cut so_far adds known has address =
     let parts : parts_of 10 left ≡ line ∷ [] = subst (IsCut left line) none cut in
     adds address
-    ∙ ap (λ o. option_or (known_name old address) o) (sym (before_none (name_if_at address (symbol_in line))))
-    ∙ sym (ap (λ ls. option_or (known_name old address) (name_by address ls)) parts)
-    ∙ so_far address
+    ∙ ap (λ o. option_or (known_name now address) o) (sym (before_none (name_if_at address (symbol_in line))))
+    ∙ sym (ap (λ ls. option_or (known_name now address) (name_by address ls)) parts)
+    ∙ so_far known has address
 
 -- ---- one function more
 pub none_if : {X : Type 0} (o : Option X) → is_some o ≡ false → o ≡ None

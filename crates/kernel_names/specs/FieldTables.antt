@@ -30,10 +30,13 @@ table_with call entries = record { kind = call.kind; delimiter = call.delimiter;
 abbrev pub table_in : Call → Option Table
 table_in call = option_map (table_with call) (entries_after [] (parts_of 125 call.entries))
 
--- The table of the field of this name, by a format: that of the only call of the field.
+-- the table of the field of this name, by a print format: that of the only call of the field
+abbrev pub table_in_text : (name text : List ℕ) → Option Table
+table_in_text name text = option_and_then table_in (sole (calls_of name text))
+
+-- The table of the field of this name, by a format.
 abbrev pub table_of : (name format : List ℕ) → Option Table
-table_of name format =
-    option_and_then (λ text. option_and_then table_in (sole (calls_of name text))) (print_in (parts_of 10 format))
+table_of name format = option_and_then (table_in_text name) (print_in (parts_of 10 format))
 
 -- ---- the names of a number
 

@@ -3,6 +3,7 @@ pub mod Constants
 pub mod Digits
 pub mod Entries
 pub mod FieldTables
+pub mod EventTables
 pub mod Pieces
 pub mod Symbols
 pub mod SymbolNames

@@ -1,10 +1,11 @@
 //! The calls of a print format by which the kernel prints a field's number as names.
-ghost use Rattle.std.specs.Prelude.{◌≡◌, ◌<◌, ◌≤◌, ⊤, [], ◌∷◌, length, take, MatchOption};
+ghost use Rattle.std.specs.Prelude.{◌≡◌, ◌<◌, ◌≤◌, ⊤, ℕ, List, [], ◌∷◌, false, length, take, None, MatchOption};
 ghost use Rattle.std.specs.Option.{option_map};
 ghost use Rattle.event_fields.specs.Texts.{parts_of};
 ghost use Rattle.kernel_names.specs.Calls.{call_seen, cut_near, bare_name, cast_name, named_in, is_closed_name};
 ghost use Rattle.kernel_names.specs.Calls.{is_field, delimited, flags_in, symbols_in, call_at, calls_of, sole};
 ghost use Rattle.kernel_names.specs.Calls.{print_in};
+ghost use Rattle.kernel_names.specs.FieldTables.{table_in_text, table_of};
 
 use crate::constants::is_narrow_cast;
 use crate::pieces::{are_closing, unopened, unseparated};
@@ -187,7 +188,7 @@ pub(crate) fn sole_call<'a>(text: &'a [u8], name: &[u8]) -> Option<Call<'a>>
 }
 
 /// What the print format of an event is: what is behind `print fmt: ` in the first line that begins with it.
-pub(crate) fn print_text(format: &[u8]) -> Option<&[u8]>
+fn print_text(format: &[u8]) -> Option<&[u8]>
     ensures { option_map (λ found. found.now) result ≡ print_in (parts_of 10 format.now) }
 {
     let mut left = format;
@@ -197,5 +198,36 @@ pub(crate) fn print_text(format: &[u8]) -> Option<&[u8]>
             return Some(text);
         }
         left = rest?;
+    }
+}
+
+/// Whether a call that prints a field as names may begin here: none does, if the answer is no.
+fn may_begin_call(text: &[u8]) -> bool
+    ensures { result ≡ false → (name : List ℕ) → call_at name text.now ≡ None }
+{
+    text.starts_with(b"__print_")
+}
+
+/// A print format from the first such call on; empty, if there is none.
+fn from_call(text: &[u8]) -> &[u8]
+    ensures { (name : List ℕ) → calls_of name result.now ≡ calls_of name text.now }
+{
+    let mut left = text;
+    while let [_, rest @ ..] = left {
+        if may_begin_call(left) {
+            return left;
+        }
+        left = rest;
+    }
+    left
+}
+
+/// The print format of an event from the first call on that may print a field as names; empty, if there is none.
+pub(crate) fn call_text(format: &[u8]) -> &[u8]
+    ensures { (name : List ℕ) → table_in_text name result.now ≡ table_of name format.now }
+{
+    match print_text(format) {
+        Some(text) => from_call(text),
+        None => &[],
     }
 }

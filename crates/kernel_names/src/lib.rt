@@ -6,6 +6,7 @@ mod calls;
 mod constants;
 mod digits;
 mod entries;
+mod event_tables;
 mod pieces;
 mod symbol_names;
 mod symbols;
@@ -14,6 +15,7 @@ mod tasks;
 
 pub use calls::TableKind;
 pub use entries::TableEntry;
+pub use event_tables::EventTables;
 pub use symbol_names::{KnownSymbol, SymbolNames};
-pub use tables::{FieldTable, NumberNames, field_table};
+pub use tables::{FieldTable, NumberNames};
 pub use tasks::TaskNames;

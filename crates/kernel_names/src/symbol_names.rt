@@ -60,28 +60,37 @@ pub struct SymbolNames {
 }
 
 impl SymbolNames {
-    ghost use Rattle.std.specs.Prelude.{◌≡◌, ℕ, List, Some, IfOk, OnOk, MatchOption};
-    ghost use Rattle.std.specs.Option.{option_or};
+    ghost use Rattle.std.specs.Prelude.{◌≡◌, ℕ, ◌++◌, List, [], Some, OnOk, MatchOption};
+    ghost use Rattle.std.specs.Option.{option_map, option_or};
     ghost use Rattle.event_fields.specs.Texts.{parts_of};
     ghost use Rattle.kernel_names.specs.Symbols.{lent_seen, name_at, name_if_at, symbol_in};
-    ghost use Rattle.kernel_names.specs.SymbolNames.{known_name, HasNoneUpTo, HasSymbols, IsSymbolAt};
+    ghost use Rattle.kernel_names.specs.SymbolNames.{known_name, name_up_to, symbol_seen};
+    ghost use Rattle.kernel_names.specs.SymbolNames.{HasNoneUpTo, HasSymbols, IsSymbolAt};
 
-    /// Reads the functions of a text's lines. A line counts if it has an address in hexadecimal that isn't 0, a space,
-    /// one of the letters `t`, `T`, `w` and `W`, a space and a name, which ends at the first blank or control
-    /// character; others are passed over.
-    pub fn read(alloc: Global, text: &[u8]) -> Result<SymbolNames, NoMemory>
-        ensures { IfOk result (λ names. HasSymbols names (parts_of 10 text.now)) }
+    /// No function.
+    pub fn new(alloc: Global) -> SymbolNames
+        ensures { HasSymbols result [] }
     {
-        let mut symbols = SymbolNames {
+        SymbolNames {
             names: Vec::new(alloc),
             places: BTreeMap::new(alloc),
-        };
+        }
+    }
+
+    /// Adds the functions of a text's lines, but none at the address of an earlier one. A line counts if it has an
+    /// address in hexadecimal that isn't 0, a space, one of the letters `t`, `T`, `w` and `W`, a space and a name,
+    /// which ends at the first blank or control character; others are passed over. On an error some of them may be
+    /// added.
+    pub fn add(&mut self, text: &[u8]) -> Result<(), NoMemory>
+        ensures { (known : List (List ℕ)) → HasSymbols self.old known
+            → OnOk result (HasSymbols self.new (known ++ parts_of 10 text.now)) }
+    {
         let mut left = text;
         loop {
             let (line, rest) = part_cut(left, b'\n');
-            symbols.put_line(line)?;
+            self.put_line(line)?;
             let Some(rest) = rest else {
-                return Ok(symbols);
+                return Ok(());
             };
             left = rest;
         }
@@ -115,7 +124,8 @@ impl SymbolNames {
 
     /// The function whose address is the greatest that isn't above this one; None if all are above it.
     pub fn symbol_at(&self, address: u64) -> Option<KnownSymbol<'_>>
-        ensures { (lines : List (List ℕ)) → HasSymbols self.now lines → MatchOption result
+        ensures name { option_map symbol_seen result ≡ name_up_to (known_name self.now) address }
+        ensures symbol { (lines : List (List ℕ)) → HasSymbols self.now lines → MatchOption result
             (HasNoneUpTo lines address) (λ found. IsSymbolAt lines address found.name.now found.offset) }
     {
         let (start, at) = last_up_to(&self.places, address)?;

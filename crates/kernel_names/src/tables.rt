@@ -3,10 +3,10 @@ ghost use Rattle.std.specs.Prelude.{◌≡◌, ◌<◌, ⊤, [], ◌∷◌, leng
 ghost use Rattle.std.specs.Option.{option_map};
 ghost use Rattle.kernel_names.specs.Calls.{call_seen};
 ghost use Rattle.kernel_names.specs.Entries.{entries_seen, entry_seen};
-ghost use Rattle.kernel_names.specs.FieldTables.{flag_names, flag_rest, symbol_names, table_of, table_seen, table_with};
-ghost use Rattle.kernel_names.specs.FieldTables.{without};
+ghost use Rattle.kernel_names.specs.FieldTables.{flag_names, flag_rest, symbol_names, table_in_text, table_seen};
+ghost use Rattle.kernel_names.specs.FieldTables.{table_with, without};
 
-use crate::calls::{Call, TableKind, print_text, sole_call};
+use crate::calls::{Call, TableKind, sole_call};
 use crate::entries::{TableEntry, read_entries};
 use std::alloc::{AllocError, Global};
 use trace_model::NoMemory;
@@ -41,18 +41,14 @@ fn table_with(
     }))
 }
 
-/// The table of the field of this name, by the format of its event: that of the only call in it which prints the field
-/// as names, if its keys are constants.
-pub fn field_table(
+/// The table of the field of this name, by a print format, or by the calls in it.
+pub(crate) fn named_table(
     alloc: Global,
-    format: &[u8],
+    text: &[u8],
     name: &[u8],
 ) -> Result<Option<FieldTable>, NoMemory>
-    ensures { IfOk result (λ table. option_map table_seen table ≡ table_of name.now format.now) }
+    ensures { IfOk result (λ table. option_map table_seen table ≡ table_in_text name.now text.now) }
 {
-    let Some(text) = print_text(format) else {
-        return Ok(None);
-    };
     let Some(call) = sole_call(text, name) else {
         return Ok(None);
     };

@@ -19,3 +19,5 @@ mod ends;
 mod seats;
 #[cfg(test)]
 mod stack;
+#[cfg(test)]
+mod walks;

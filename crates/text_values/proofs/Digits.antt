@@ -1,6 +1,6 @@
 -- Hexadecimal digits: those of the kit's table are those of the definition; and a number's, from the last one on.
 use Rattle.std.proofs.Common.{Bool, ◌≡◌, ℕ, zero, suc, ◌+◌, ◌-◌, ◌*◌, ◌/◌, ◌%◌, ◌^◌, ◌<◌, ◌≤◌, ◌==◌, true, false, List}
-use Rattle.std.proofs.Common.{[], ◌∷◌, length, get_or, set, drop, refl, sym, ap, ◌∙◌, arith, rules}
+use Rattle.std.proofs.Common.{[], ◌∷◌, length, get_or, set, drop, refl, sym, ap, subst, ◌∙◌, arith, rules}
 use Rattle.std.proofs.Math.ListN.{drop_of_length-le}
 use Rattle.std.proofs.Math.Nat.{pow-suc}
 use Rattle.std.proofs.lemmas.List.{drop-set}
@@ -9,7 +9,7 @@ use Rattle.std.specs.Fmt.{digits, digits_onto}
 use Rattle.std.specs.List.{list_all, enumerate_from}
 use Rattle.std.proofs.lemmas.Bool.{and_parts, eqb-true}
 use Rattle.hex.specs.Hex.{encode_lower, encode_with, lower_digits}
-use Rattle.text_values.specs.Digits.{pairs_of}
+use Rattle.text_values.specs.Digits.{pair_of, pairs_of}
 
 abbrev is_digit_of : ℕ × ℕ → Bool
 is_digit_of entry = entry.1 == digit_char entry.0
@@ -101,6 +101,53 @@ one_more at n d place all some inside more is so_far =
     ∙ ap (λ (k : ℕ). digits_onto k 16 false n rest) fuel
     ∙ so_far
 
+-- more than two digits
+pub room_before_two : (at n : ℕ) → n < 16 ^ (at + 1) → 256 ≤ n → 1 < at
+room_before_two zero n fits more = absurd (omega (arith, fits, more))
+room_before_two (suc zero) n fits more = absurd (omega (arith, fits, more))
+room_before_two (suc (suc at)) n fits more = omega arith
+
+pub room_after_two : (at n : ℕ) → n < 16 ^ (at + 1) → 256 ≤ n → n / 256 < 16 ^ (at - 2 + 1)
+room_after_two at n fits more =
+    let first = room_after at n fits (omega (arith, more)) in
+    let second = room_after (at - 1) (n / 16) first (omega (arith, more)) in
+    let here : at - 1 - 1 + 1 ≡ at - 2 + 1 = omega arith in
+    let left : n / 16 / 16 ≡ n / 256 = omega arith in
+    subst (λ (k : ℕ). n / 256 < 16 ^ k) here (subst (λ (m : ℕ). m < 16 ^ (at - 1 - 1 + 1)) left second)
+
+-- the digits of a byte, in the code's words
+pub high_digit : (n : ℕ) (pair : List ℕ) → pair ≡ pair_of (n % 256) → get_or pair 0 0 ≡ digit_char (n / 16 % 16)
+high_digit n pair is =
+    let here : n % 256 / 16 ≡ n / 16 % 16 = omega arith in rw is (ap digit_char here)
+
+pub low_digit : (n : ℕ) (pair : List ℕ) → pair ≡ pair_of (n % 256) → get_or pair 1 0 ≡ digit_char (n % 16)
+low_digit n pair is =
+    let here : n % 256 % 16 ≡ n % 16 = omega arith in rw is (ap digit_char here)
+
+-- the last two digits are put before those that are there
+pub two_more : (at n : ℕ) (pair place all : List ℕ) → 1 < at → at < length place → 256 ≤ n
+    → pair ≡ pair_of (n % 256)
+    → digits_onto (at + 49) 16 false n (drop (at + 1) place) ≡ all
+    → digits_onto (at - 2 + 49) 16 false (n / 256)
+    (drop (at - 2 + 1) (set (set place at (get_or pair 1 0)) (at - 1) (get_or pair 0 0)))
+    ≡ all
+two_more at n pair place all some inside more is so_far =
+    let low = get_or pair 1 0 in
+    let one = set place at low in
+    let long : length one ≡ length place = search rules in
+    let first = one_more at n low place all (omega (arith, some)) inside (omega (arith, more)) (low_digit n pair is) so_far in
+    let second =
+    one_more (at - 1) (n / 16) (get_or pair 0 0) one all (omega (arith, some)) (omega (arith, inside, long))
+    (omega (arith, more)) (high_digit n pair is) first in
+    let here : at - 1 - 1 ≡ at - 2 = omega arith in
+    let left : n / 16 / 16 ≡ n / 256 = omega arith in
+    subst
+    (λ (k : ℕ). digits_onto (k + 49) 16 false (n / 256) (drop (k + 1) (set one (at - 1) (get_or pair 0 0))) ≡ all)
+    here
+    (subst (λ (m : ℕ).
+    digits_onto (at - 1 - 1 + 49) 16 false m (drop (at - 1 - 1 + 1) (set one (at - 1) (get_or pair 0 0))) ≡ all)
+    left second)
+
 -- the first digit is put before the others
 pub all_there : (at n d : ℕ) (place all : List ℕ) → at < length place → n < 16 → d ≡ digit_char n
     → digits_onto (at + 49) 16 false n (drop (at + 1) place) ≡ all → drop at (set place at d) ≡ all
@@ -112,3 +159,20 @@ all_there at n d place all inside one is so_far =
     ∙ sym (first_digit (at + 48) n rest one)
     ∙ ap (λ (k : ℕ). digits_onto k 16 false n rest) fuel
     ∙ so_far
+
+-- the first two
+pub both_there : (at n : ℕ) (pair place all : List ℕ) → at < length place → n < 16 ^ (at + 1) → 16 ≤ n → n < 256
+    → pair ≡ pair_of n
+    → digits_onto (at + 49) 16 false n (drop (at + 1) place) ≡ all
+    → drop (at - 1) (set (set place at (get_or pair 1 0)) (at - 1) (get_or pair 0 0)) ≡ all
+both_there at n pair place all inside fits more few is so_far =
+    let low = get_or pair 1 0 in
+    let one = set place at low in
+    let long : length one ≡ length place = search rules in
+    let whole : n % 256 ≡ n = omega (arith, few) in
+    let of_byte = is ∙ ap pair_of (sym whole) in
+    let some = room_before at n fits more in
+    let first = one_more at n low place all some inside more (low_digit n pair of_byte) so_far in
+    let last : n / 16 % 16 ≡ n / 16 = omega (arith, few) in
+    all_there (at - 1) (n / 16) (get_or pair 0 0) one all (omega (arith, inside, long)) (omega (arith, few))
+    (high_digit n pair of_byte ∙ ap digit_char last) first

@@ -104,13 +104,21 @@ pub(crate) fn write_hexadecimal(number: u64, place: &mut [u8; HEX_DIGITS]) -> us
 {
     let mut left = number;
     let mut at = HEX_DIGITS - 1;
-    while left >= 16 {
-        place[at] = digit((left % 16) as u8);
-        at -= 1;
-        left /= 16;
+    while left >= 256 {
+        let [high, low] = pair((left % 256) as u8);
+        place[at] = low;
+        place[at - 1] = high;
+        at -= 2;
+        left /= 256;
     }
-    place[at] = digit(left as u8);
-    at
+    if left < 16 {
+        place[at] = digit(left as u8);
+        return at;
+    }
+    let [high, low] = pair(left as u8);
+    place[at] = low;
+    place[at - 1] = high;
+    at - 1
 }
 
 /// The digits of a byte, without the table.

@@ -6,6 +6,9 @@ pub mod Trees
 pub mod Turns
 pub mod ByNumber
 pub mod Merging
+pub mod Heads
+pub mod SourceWalks
+pub mod EachCpu
 pub mod Ranked
 pub mod ByTime
 mod Counts

@@ -5,3 +5,6 @@ pub mod Stretches
 pub mod Ranks
 pub mod Sources
 pub mod Merging
+pub mod Heads
+pub mod SourceWalks
+pub mod EachCpu

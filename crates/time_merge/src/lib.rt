@@ -9,14 +9,20 @@
 #![tactic(auto)]
 
 mod by_time;
+pub mod laws;
+mod line_source;
 mod lines;
+mod merge;
 mod merged;
+mod source_walk;
 mod sources;
 mod stretches;
 mod tournament;
 mod walk;
 
 pub use by_time::listing;
+pub use line_source::{LineSource, Stopped};
 pub use lines::Line;
 pub use merged::{LinesByTime, lines_by_time};
+pub use source_walk::{Walked, walk_sources};
 pub use walk::{TakesLines, walk_lines};

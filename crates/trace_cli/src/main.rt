@@ -20,7 +20,7 @@ fn main(rt: HostRuntime) -> ExitCode {
     let words = given_words(&rt);
     let call = given_call(rt.alloc(), &words);
     if let Ok(Call::Collect(asked)) = &call {
-        return ExitCode::from(collect(&rt, asked));
+        return ExitCode::from(collect(&rt, &rt, asked));
     }
     if let Ok(Call::Recover(asked)) = &call {
         return ExitCode::from(recover(&rt, asked));

@@ -15,7 +15,8 @@ use Rattle.trace_dat.specs.Fields.{Reading, ◌>>=◌, behind, part_at, number_a
 use Rattle.trace_dat.specs.Fields.{all_at}
 use Rattle.trace_dat.specs.Contents.{EventFormat}
 use Rattle.trace_dat.specs.Formats.{ring_system, format_at, formats_at, system_at, systems_at}
-use Rattle.trace_dat.specs.Versions.{ended, page_title, record_title, titled_at, all_formats_at, tables_at}
+use Rattle.trace_dat.specs.Versions.{ended, page_title, record_title, titled_at, all_formats_at}
+use Rattle.trace_dat.specs.TracedKernel.{lists_at}
 use Rattle.trace_dat.specs.Spelling.{Fits, IsText, FitsBlock, FormatsFit, SystemFits, SystemsFit, SixTextsFit, block}
 use Rattle.trace_dat.specs.Spelling.{formats_bytes, System, system_bytes, systems_bytes, SixTexts, six_bytes}
 use Rattle.trace_dat.specs.Spelling.{named_formats, systems_formats, six_formats}
@@ -199,10 +200,10 @@ titled_reads title body part rest fits p =
     step (expected_at title Misplaced part) s.0 _ _ (expected_reads title Misplaced part s.0 s.1)
     (step (block_at w64 s.0) (record { at = b.0; bytes = body }, rest) _ _ b.1 refl)
 
-tables_read : (x y z : List ℕ) (part rest : FilePart) → FitsBlock w32 x → FitsBlock w32 y → FitsBlock w64 z
-    → Begins part (block w32 x ++ (block w32 y ++ block w64 z)) rest → tables_at part ≡ Ok rest
-unfolding tables_at
-tables_read x y z part rest fits_x fits_y fits_z p =
+lists_read : (x y z : List ℕ) (part rest : FilePart) → FitsBlock w32 x → FitsBlock w32 y → FitsBlock w64 z
+    → Begins part (block w32 x ++ (block w32 y ++ block w64 z)) rest → lists_at part ≡ Ok ((x, z), rest)
+unfolding lists_at
+lists_read x y z part rest fits_x fits_y fits_z p =
     let s = Begins-split part (block w32 x) (block w32 y ++ block w64 z) rest p in
     let t = Begins-split s.0 (block w32 y) (block w64 z) rest s.2 in
     let a = block_reads w32 wide32 x part s.0 fits_x s.1 in
@@ -213,18 +214,19 @@ tables_read x y z part rest fits_x fits_y fits_z p =
     (step (block_at w64 t.0) (record { at = c.0; bytes = z }, rest) _ _ c.1 refl))
 
 pub front_reads : (texts : SixTexts) (part rest : FilePart) → SixTextsFit texts → Begins part (six_bytes texts) rest
-    → (tables : FilePart) × (all_formats_at part ≡ Ok (six_formats texts, tables)) × (tables_at tables ≡ Ok rest)
+    → (name_lists : FilePart) × (all_formats_at part ≡ Ok (six_formats texts, name_lists))
+    × (lists_at name_lists ≡ Ok ((texts.symbols, texts.tasks), rest))
 unfolding all_formats_at
 front_reads texts part rest fits p =
-    let tables = block w32 texts.symbols ++ (block w32 texts.prints ++ block w64 texts.tasks) in
-    let systems = systems_bytes texts.systems ++ tables in
+    let name_lists = block w32 texts.symbols ++ (block w32 texts.prints ++ block w64 texts.tasks) in
+    let systems = systems_bytes texts.systems ++ name_lists in
     let ring = formats_bytes texts.ring ++ systems in
     let record_part = record_title ++ block w64 texts.record_layout in
     let page_part = page_title ++ block w64 texts.page_layout in
     let a = Begins-split part page_part (record_part ++ ring) rest p in
     let b = Begins-split a.0 record_part ring rest a.2 in
     let c = Begins-split b.0 (formats_bytes texts.ring) systems rest b.2 in
-    let d = Begins-split c.0 (systems_bytes texts.systems) tables rest c.2 in (
+    let d = Begins-split c.0 (systems_bytes texts.systems) name_lists rest c.2 in (
       d.0,
       step (titled_at page_title part) a.0 _ _ (titled_reads page_title texts.page_layout part a.0 fits.page_layout a.1)
           (step (titled_at record_title a.0) b.0 _ _
@@ -233,5 +235,5 @@ front_reads texts part rest fits p =
           (formats_read ring_system texts.ring b.0 c.0 fits.ring c.1)
           (step (systems_at c.0) (systems_formats texts.systems, d.0) _ _
           (systems_read texts.systems c.0 d.0 fits.systems d.1) refl))),
-      tables_read texts.symbols texts.prints texts.tasks d.0 rest fits.symbols fits.prints fits.tasks d.2,
+      lists_read texts.symbols texts.prints texts.tasks d.0 rest fits.symbols fits.prints fits.tasks d.2,
     )

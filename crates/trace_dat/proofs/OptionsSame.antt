@@ -11,6 +11,9 @@ use Rattle.trace_dat.specs.Contents.{EventFormat, TraceBuffer}
 use Rattle.trace_dat.specs.Entries.{FileOption}
 use Rattle.trace_dat.specs.Buffers.{pages_at, numbered_pages_at, buffer_at, instance_at, instance_of, stated_buffer_at}
 use Rattle.trace_dat.specs.Buffers.{buffer_of, counters_of}
+use Rattle.trace_dat.specs.declared.traced_kernel.NameList.{NameList}
+use Rattle.trace_dat.specs.declared.entries.TheConstants.{MACHINE}
+use Rattle.trace_dat.specs.TracedKernel.{section_of, list_at, list_of, before_zero, machine_of, later_of, machine_among}
 use Rattle.trace_dat.specs.Sections.{ring_formats_at, event_formats_at, formats_of}
 use Rattle.trace_dat.proofs.Loops.{same_value}
 use Rattle.trace_dat.proofs.Spelled.{bind_ok, guard_ok}
@@ -138,6 +141,16 @@ counters_same (x ∷ xs) (y ∷ ys) same =
     ∙ ap (λ bs. cond (y.id == COUNTERS) (bs ∷ []) []) same.1 in
     ap (λ cs. cs ++ flat_map counters_of xs) first ∙ ap (λ cs. counters_of y ++ cs) (counters_same xs ys same.2)
 
+pub machine_same : (xs ys : List FileOption) → AreSame xs ys → machine_among xs ≡ machine_among ys
+machine_same [] [] same = refl
+machine_same [] (y ∷ ys) same = absurd same
+machine_same (x ∷ xs) [] same = absurd same
+machine_same (x ∷ xs) (y ∷ ys) same =
+    let first : machine_of x ≡ machine_of y =
+    ap (λ i. cond (i == MACHINE) (Some (before_zero x.body.bytes)) None) same.0
+    ∙ ap (λ bs. cond (y.id == MACHINE) (Some (before_zero bs)) None) same.1 in
+    ap (λ m. later_of m (machine_among xs)) first ∙ ap (λ m. later_of (machine_of y) m) (machine_same xs ys same.2)
+
 -- ---- version 7
 
 ring_same : (file : List ℕ) (p q : FilePart) (found : List EventFormat) → p.bytes ≡ q.bytes
@@ -256,6 +269,25 @@ formats_same file xs ys found same e = each_same (formats_of file) (formats_of_s
 pub buffers_same : (file : List ℕ) (xs ys : List FileOption) (found : List TraceBuffer) → AreSame xs ys
     → each_of (buffer_of file) xs ≡ Ok found → each_of (buffer_of file) ys ≡ Ok found
 buffers_same file xs ys found same e = each_same (buffer_of file) (buffer_of_same file) xs ys found same e
+
+list_at_same : (list : NameList) (file : List ℕ) (p q : FilePart) (found : List (List ℕ)) → p.bytes ≡ q.bytes
+    → list_at list file p ≡ Ok found → list_at list file q ≡ Ok found
+unfolding list_at
+list_at_same list file p q found same e =
+    let a = bind_ok (pointed_at file p) _ found e in
+    let pointer = pointer_same file p q a.0.0 a.0.1 same a.1 in
+    step (pointed_at file q) (a.0.0, pointer.0) _ _ pointer.2 a.2
+
+list_of_same : (list : NameList) (file : List ℕ) → GivesSame (list_of list file)
+unfolding list_of
+list_of_same list file x y found id body e =
+    if_same x.id y.id (section_of list) (list_at list file x.body) (list_at list file y.body) (Ok []) (Ok []) found
+    id (λ h. list_at_same list file x.body y.body found body h) (λ h. h) e
+
+pub lists_same : (list : NameList) (file : List ℕ) (xs ys : List FileOption) (found : List (List ℕ)) → AreSame xs ys
+    → each_of (list_of list file) xs ≡ Ok found → each_of (list_of list file) ys ≡ Ok found
+lists_same list file xs ys found same e =
+    each_same (list_of list file) (list_of_same list file) xs ys found same e
 
 pub AreSame-append : (xs ys zs ts : List FileOption) → AreSame xs ys → AreSame zs ts → AreSame (xs ++ zs) (ys ++ ts)
 AreSame-append [] [] zs ts same more = more

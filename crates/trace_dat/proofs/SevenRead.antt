@@ -13,6 +13,8 @@ use Rattle.trace_dat.specs.Fields.{number_at, block_at, text_at, expected_at, po
 use Rattle.trace_dat.specs.Contents.{Contents}
 use Rattle.trace_dat.specs.Entries.{FileOption, options_at}
 use Rattle.trace_dat.specs.Buffers.{buffer_of, counters_of}
+use Rattle.trace_dat.specs.declared.traced_kernel.NameList.TheVariants.{Symbols, Tasks}
+use Rattle.trace_dat.specs.TracedKernel.{list_of, machine_among}
 use Rattle.trace_dat.specs.Sections.{section_body_at, section_at, Place, linked_at, link_from, link_at}
 use Rattle.trace_dat.specs.Sections.{options_of_chain, formats_of}
 use Rattle.trace_dat.specs.Versions.{ended, magic, machine, plain_word, version_at, version_seven, reading_of}
@@ -21,6 +23,7 @@ use Rattle.trace_dat.proofs.Spelled.{wide16, wide32, wide64}
 use Rattle.trace_dat.proofs.FieldsRead.{step, Begins, Begins-split, behind_is, number_reads, block_reads, text_reads}
 use Rattle.trace_dat.proofs.FieldsRead.{word_begins, expected_reads}
 use Rattle.trace_dat.proofs.OptionsSame.{AreSame, AreSame-append, formats_same, buffers_same, counters_same}
+use Rattle.trace_dat.proofs.OptionsSame.{machine_same, lists_same}
 use Rattle.trace_dat.proofs.SixRead.{options_read, pointer_reads, same_contents}
 
 -- the part of a file from an offset on
@@ -150,8 +153,10 @@ seven_reads file contents seven at =
     let chain =
     chain_reads file seven.links (length file + 2) 0 b.at seven.pointer (omega arith) (omega arith) seven.chain in
     let counters = seven.counters ∙ counters_same options chain.0 chain.1 in
+    let said = seven.machine ∙ machine_same options chain.0 chain.1 in
     let same =
-    same_contents contents contents.formats contents.buffers (flat_map counters_of chain.0) refl refl counters in
+    same_contents contents contents.formats contents.buffers (flat_map counters_of chain.0) contents.symbols
+    contents.tasks (machine_among chain.0) refl refl counters refl refl said in
     let place : Place = record { least = 0; pointer = b } in
     step (expected_at plain_word Compressed part) a _ _
     (expected_reads plain_word Compressed part a (record { whole = refl; after = refl }))
@@ -162,7 +167,11 @@ seven_reads file contents seven at =
     (formats_same file options chain.0 contents.formats chain.1 seven.formats)
     (step (each_of (buffer_of file) chain.0) contents.buffers _ _
     (buffers_same file options chain.0 contents.buffers chain.1 seven.buffers)
-    (ap (λ x. Ok x) same)))))
+    (step (each_of (list_of Symbols file) chain.0) contents.symbols _ _
+    (lists_same Symbols file options chain.0 contents.symbols chain.1 seven.symbols)
+    (step (each_of (list_of Tasks file) chain.0) contents.tasks _ _
+    (lists_same Tasks file options chain.0 contents.tasks chain.1 seven.tasks)
+    (ap (λ x. Ok x) same)))))))
 
 version_seven_reads : (part rest : FilePart) (more : List ℕ) → part.bytes ≡ ended (codes "7") ++ more
     → Begins part (ended (codes "7")) rest → version_at part ≡ Ok (Seven, rest)

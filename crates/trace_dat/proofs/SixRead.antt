@@ -15,7 +15,8 @@ use Rattle.trace_dat.specs.Fields.{number_at, block_at, expected_at, pointed_at,
 use Rattle.trace_dat.specs.Contents.{EventFormat, Recorded, TraceBuffer, Contents}
 use Rattle.trace_dat.specs.Entries.{FileOption, body_at, option_at, options_among, options_at}
 use Rattle.trace_dat.specs.Buffers.{ranges_word, pages_at, buffer_at, instance_of, counters_of}
-use Rattle.trace_dat.specs.Versions.{ended, magic, machine, options_word, all_formats_at, tables_at, stated_options_at}
+use Rattle.trace_dat.specs.Versions.{ended, magic, machine, options_word, all_formats_at, stated_options_at}
+use Rattle.trace_dat.specs.TracedKernel.{lists_at, machine_among}
 use Rattle.trace_dat.specs.Versions.{version_six, version_at, reading_of}
 use Rattle.trace_dat.specs.Spelling.{Fits, OptionFits, RangeFits, block, six_bytes, six_formats, option_bytes}
 use Rattle.trace_dat.specs.Spelling.{options_bytes, stated_bytes, Range, range_bytes, IsInside, numbered_pages}
@@ -23,7 +24,7 @@ use Rattle.trace_dat.specs.Spelling.{SixParts, IsSix}
 use Rattle.trace_dat.proofs.Spelled.{wide16, wide32, wide64}
 use Rattle.trace_dat.proofs.FieldsRead.{step, Begins, Begins-split, Begins-nothing, behind_is, number_reads}
 use Rattle.trace_dat.proofs.FieldsRead.{block_reads, word_begins, expected_reads, all_read, front_reads}
-use Rattle.trace_dat.proofs.OptionsSame.{AreSame, instances_same, counters_same}
+use Rattle.trace_dat.proofs.OptionsSame.{AreSame, instances_same, counters_same, machine_same}
 
 -- ---- options
 
@@ -175,15 +176,21 @@ buffer_reads file page_size ranges part rest fits inside p =
 
 -- ---- the whole
 
--- contents are what their three lists are
+-- contents are what their parts are
 pub same_contents : (contents : Contents) (formats : List EventFormat) (buffers : List TraceBuffer)
-    (counters : List (List ℕ)) → contents.formats ≡ formats → contents.buffers ≡ buffers → contents.counters ≡ counters
-    → record { formats = formats; buffers = buffers; counters = counters } ≡ contents
-same_contents contents formats buffers counters f b c =
-    let one = ap (λ x. record { formats = x; buffers = buffers; counters = counters }) (sym f) in
-    let two = ap (λ x. record { formats = contents.formats; buffers = x; counters = counters }) (sym b) in
-    let three = ap (λ x. record { formats = contents.formats; buffers = contents.buffers; counters = x }) (sym c) in
-    one ∙ two ∙ three
+    (counters symbols tasks : List (List ℕ)) (said : Option (List ℕ)) → contents.formats ≡ formats
+    → contents.buffers ≡ buffers → contents.counters ≡ counters → contents.symbols ≡ symbols → contents.tasks ≡ tasks
+    → contents.machine ≡ said
+    → record {
+      formats = formats;
+      buffers = buffers;
+      counters = counters;
+      symbols = symbols;
+      tasks = tasks;
+      machine = said;
+    } ≡ contents
+same_contents contents formats buffers counters symbols tasks said f b c s t m =
+    rw (sym f, sym b, sym c, sym s, sym t, sym m) refl
 
 -- the bytes of version 6 from after the size of the pages on
 abbrev body_bytes : SixParts → List ℕ
@@ -197,6 +204,7 @@ six_reads : (file : List ℕ) (contents : Contents) (six : IsSix file contents) 
 unfolding version_six
 six_reads file contents six part rest p =
     let size = six.parts.page_size in
+    let texts = six.parts.texts in
     let ranges = six.parts.ranges in
     let options = six.parts.options in
     let pages = ranges_word ++ flat_map range_bytes ranges in
@@ -213,10 +221,12 @@ six_reads file contents six part rest p =
     instances_same file size (length ranges) (unwrap_or options []) found.0 six.instances found.1 six.named in
     let counters = six.counters ∙ counters_same (unwrap_or options []) found.0 found.1 in
     let held = flat_map counters_of found.0 in
+    let said = six.machine ∙ machine_same (unwrap_or options []) found.0 found.1 in
     let same =
-    same_contents contents (six_formats six.parts.texts) (main ∷ six.instances) held six.formats six.buffers counters in
+    same_contents contents (six_formats six.parts.texts) (main ∷ six.instances) held (texts.symbols ∷ [])
+    (texts.tasks ∷ []) (machine_among found.0) six.formats six.buffers counters six.symbols six.tasks said in
     step (all_formats_at part) (six_formats six.parts.texts, front.0) _ _ front.1
-    (step (tables_at front.0) a.0 _ _ front.2
+    (step (lists_at front.0) ((texts.symbols, texts.tasks), a.0) _ _ front.2
     (step (number_at w32 a.0) (length ranges, b.0) _ _
     (number_reads w32 wide32 (length ranges) a.0 b.0 six.fits.cpus b.1)
     (step (stated_options_at b.0) (found.0, c.0) _ _ found.2

@@ -20,7 +20,8 @@ use Rattle.trace_dat.specs.Fields.{Reading, ◌>>=◌, front, behind, part_at, n
 use Rattle.trace_dat.specs.Fields.{expected_at, all_at}
 use Rattle.trace_dat.specs.Contents.{EventFormat}
 use Rattle.trace_dat.specs.Formats.{ring_system, format_at, formats_at, system_at, systems_at}
-use Rattle.trace_dat.specs.Versions.{ended, page_title, record_title, titled_at, all_formats_at, tables_at}
+use Rattle.trace_dat.specs.Versions.{ended, page_title, record_title, titled_at, all_formats_at}
+use Rattle.trace_dat.specs.TracedKernel.{lists_at}
 use Rattle.trace_dat.specs.Spelling.{IsBytes, Fits, IsText, FitsBlock, FormatsFit, SystemFits, SystemsFit, SixTextsFit}
 use Rattle.trace_dat.specs.Spelling.{block, formats_bytes, System, system_bytes, systems_bytes, SixTexts, six_bytes}
 use Rattle.trace_dat.specs.Spelling.{named_formats, systems_formats, six_formats}
@@ -359,16 +360,15 @@ titled_takes title part rest fits e =
       k.2,
     )
 
-tables_take : (part rest : FilePart) → IsBytes part.bytes → tables_at part ≡ Ok rest
+lists_take : (part rest : FilePart) (found : List ℕ × List ℕ) → IsBytes part.bytes → lists_at part ≡ Ok (found, rest)
     → (x : List ℕ) × (y : List ℕ) × (z : List ℕ) × Takes part (block w32 x ++ (block w32 y ++ block w64 z)) rest
-    × FitsBlock w32 x × FitsBlock w32 y × FitsBlock w64 z
-unfolding tables_at
-tables_take part rest fits e =
-    let a =
-    bind_ok (block_at w32 part)
-    (λ symbols. block_at w32 symbols.1 >>= λ texts. (block_at w64 texts.1 >>= λ tasks. Ok tasks.1)) rest e in
-    let b = bind_ok (block_at w32 a.0.1) (λ texts. block_at w64 texts.1 >>= λ tasks. Ok tasks.1) rest a.2 in
-    let d = bind_ok (block_at w64 b.0.1) (λ tasks. Ok tasks.1) rest b.2 in
+    × FitsBlock w32 x × FitsBlock w32 y × FitsBlock w64 z × (found ≡ (x, z))
+unfolding lists_at
+lists_take part rest found fits e =
+    let a = bind_ok (block_at w32 part) _ (found, rest) e in
+    let b = bind_ok (block_at w32 a.0.1) _ (found, rest) a.2 in
+    let d = bind_ok (block_at w64 b.0.1) (λ tasks. Ok ((a.0.0.bytes, tasks.0.bytes), tasks.1)) (found, rest) b.2 in
+    let same = same_value ((a.0.0.bytes, d.0.0.bytes), d.0.1) (found, rest) d.2 in
     let p = block_takes w32 wide32 part a.0.0 a.0.1 fits a.1 in
     let q = block_takes w32 wide32 a.0.1 b.0.0 b.0.1 p.0.fits b.1 in
     let r = block_takes w64 wide64 b.0.1 d.0.0 d.0.1 q.0.fits d.1 in
@@ -377,44 +377,47 @@ tables_take part rest fits e =
       b.0.0.bytes,
       d.0.0.bytes,
       subst (λ x. Takes part (block w32 a.0.0.bytes ++ (block w32 b.0.0.bytes ++ block w64 d.0.0.bytes)) x)
-          (same_value d.0.1 rest d.2)
+          (ap (λ p. p.1) same)
           (Takes-then part (block w32 a.0.0.bytes) a.0.1 (block w32 b.0.0.bytes ++ block w64 d.0.0.bytes)
           d.0.1 p.0 two),
       p.2,
       q.2,
       r.2,
+      sym (ap (λ p. p.0) same),
     )
 
--- the formats and what is round them, up to the tables
-abbrev pub SpellsFront : FilePart → List EventFormat → FilePart → Type 0
-SpellsFront part found rest =
+-- the formats and what is round them, up to the lists of names
+abbrev pub SpellsFront : FilePart → List EventFormat → List ℕ × List ℕ → FilePart → Type 0
+SpellsFront part found kept rest =
     (texts : SixTexts) × Takes part (six_bytes texts) rest × (found ≡ six_formats texts) × SixTextsFit texts
+    × (kept ≡ (texts.symbols, texts.tasks))
 
-pub front_takes : (part tables rest : FilePart) (found : List EventFormat) → IsBytes part.bytes
-    → all_formats_at part ≡ Ok (found, tables) → tables_at tables ≡ Ok rest → SpellsFront part found rest
+pub front_takes : (part name_lists rest : FilePart) (found : List EventFormat) (kept : List ℕ × List ℕ)
+    → IsBytes part.bytes → all_formats_at part ≡ Ok (found, name_lists) → lists_at name_lists ≡ Ok (kept, rest)
+    → SpellsFront part found kept rest
 unfolding all_formats_at
-front_takes part tables rest found fits e behind_it =
+front_takes part name_lists rest found kept fits e behind_it =
     let a =
     bind_ok (titled_at page_title part)
     (λ page. titled_at record_title page >>= λ word.
     (formats_at ring_system word >>= λ ring.
-    (systems_at ring.1 >>= λ systems. Ok (ring.0 ++ systems.0, systems.1)))) (found, tables) e in
+    (systems_at ring.1 >>= λ systems. Ok (ring.0 ++ systems.0, systems.1)))) (found, name_lists) e in
     let b =
     bind_ok (titled_at record_title a.0)
     (λ word. formats_at ring_system word >>= λ ring.
-    (systems_at ring.1 >>= λ systems. Ok (ring.0 ++ systems.0, systems.1))) (found, tables) a.2 in
+    (systems_at ring.1 >>= λ systems. Ok (ring.0 ++ systems.0, systems.1))) (found, name_lists) a.2 in
     let d =
     bind_ok (formats_at ring_system b.0)
-    (λ ring. systems_at ring.1 >>= λ systems. Ok (ring.0 ++ systems.0, systems.1)) (found, tables) b.2 in
-    let f = bind_ok (systems_at d.0.1) (λ systems. Ok (d.0.0 ++ systems.0, systems.1)) (found, tables) d.2 in
-    let same = same_value (d.0.0 ++ f.0.0, f.0.1) (found, tables) f.2 in
+    (λ ring. systems_at ring.1 >>= λ systems. Ok (ring.0 ++ systems.0, systems.1)) (found, name_lists) b.2 in
+    let f = bind_ok (systems_at d.0.1) (λ systems. Ok (d.0.0 ++ systems.0, systems.1)) (found, name_lists) d.2 in
+    let same = same_value (d.0.0 ++ f.0.0, f.0.1) (found, name_lists) f.2 in
     let page = titled_takes page_title part a.0 fits a.1 in
     let word = titled_takes record_title a.0 b.0 page.1.fits b.1 in
     let ring = formats_take ring_system b.0 d.0.0 d.0.1 word.1.fits d.1 in
     let named = systems_take d.0.1 f.0.0 f.0.1 ring.1.fits f.1 in
-    let systems_to : Takes d.0.1 (systems_bytes named.0) tables =
+    let systems_to : Takes d.0.1 (systems_bytes named.0) name_lists =
     subst (λ x. Takes d.0.1 (systems_bytes named.0) x) (ap (λ p. p.1) same) named.1 in
-    let last = tables_take tables rest systems_to.fits behind_it in
+    let last = lists_take name_lists rest kept systems_to.fits behind_it in
     let texts : SixTexts =
     record {
       page_layout = page.0;
@@ -426,7 +429,7 @@ front_takes part tables rest found fits e behind_it =
       tasks = last.2;
     } in
     let tail = block w32 last.0 ++ (block w32 last.1 ++ block w64 last.2) in
-    let four = Takes-then d.0.1 (systems_bytes named.0) tables tail rest systems_to last.3 in
+    let four = Takes-then d.0.1 (systems_bytes named.0) name_lists tail rest systems_to last.3 in
     let three = Takes-then b.0 (formats_bytes ring.0) d.0.1 (systems_bytes named.0 ++ tail) rest ring.1 four in
     let two =
     Takes-then a.0 (record_title ++ block w64 word.0) b.0 (formats_bytes ring.0 ++ (systems_bytes named.0 ++ tail))
@@ -448,4 +451,4 @@ front_takes part tables rest found fits e behind_it =
       prints = last.5;
       tasks = last.6;
     } in
-    (texts, one, lists, bounds)
+    (texts, one, lists, bounds, last.7)

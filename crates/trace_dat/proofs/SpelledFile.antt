@@ -17,7 +17,8 @@ use Rattle.trace_dat.specs.Fields.{range_at, all_at, each_of}
 use Rattle.trace_dat.specs.Contents.{Recorded, TraceBuffer, Contents}
 use Rattle.trace_dat.specs.Entries.{FileOption, body_at, option_at, option_then, options_among, options_at}
 use Rattle.trace_dat.specs.Buffers.{ranges_word, pages_at, buffer_at, instance_of, counters_of}
-use Rattle.trace_dat.specs.Versions.{ended, options_word, all_formats_at, tables_at, stated_options_at, version_six}
+use Rattle.trace_dat.specs.Versions.{ended, options_word, all_formats_at, stated_options_at, version_six}
+use Rattle.trace_dat.specs.TracedKernel.{lists_at, machine_among}
 use Rattle.trace_dat.specs.Versions.{version_at}
 use Rattle.trace_dat.specs.Spelling.{IsBytes, Fits, OptionFits, RangeFits, SixTextsFit, block, SixTexts, six_bytes}
 use Rattle.trace_dat.specs.Spelling.{six_formats, option_bytes, options_bytes, stated_bytes, Range, range_bytes}
@@ -292,39 +293,50 @@ pub record SpellsSix (file : List ℕ) (page_size : ℕ) (part : FilePart) (cont
   pub buffers : contents.buffers
       ≡ record { name = []; page_size = page_size; cpus = numbered_pages file 0 ranges } ∷ instances
   pub counters : contents.counters ≡ flat_map counters_of (unwrap_or options [])
+  pub symbols : contents.symbols ≡ texts.symbols ∷ []
+  pub tasks : contents.tasks ≡ texts.tasks ∷ []
+  pub machine : contents.machine ≡ machine_among (unwrap_or options [])
 
 pub six_takes : (file : List ℕ) (page_size : ℕ) (part : FilePart) (contents : Contents) → IsBytes part.bytes
     → version_six file page_size part ≡ Ok contents → SpellsSix file page_size part contents
 unfolding version_six
 six_takes file page_size part contents fits e =
     let a = bind_ok (all_formats_at part) _ contents e in
-    let b = bind_ok (tables_at a.0.1) _ contents a.2 in
-    let d = bind_ok (number_at w32 b.0) _ contents b.2 in
+    let b = bind_ok (lists_at a.0.1) _ contents a.2 in
+    let d = bind_ok (number_at w32 b.0.1) _ contents b.2 in
     let f = bind_ok (stated_options_at d.0.1) _ contents d.2 in
     let m = bind_ok (buffer_at file page_size d.0.0 [] f.0.1) _ contents f.2 in
     let i = bind_ok (each_of (instance_of file page_size d.0.0) f.0.0) _ contents m.2 in
-    let front = front_takes part a.0.1 b.0 a.0.0 fits a.1 b.1 in
-    let n = number_takes w32 wide32 b.0 d.0.0 d.0.1 front.1.fits d.1 in
+    let front = front_takes part a.0.1 b.0.1 a.0.0 b.0.0 fits a.1 b.1 in
+    let n = number_takes w32 wide32 b.0.1 d.0.0 d.0.1 front.1.fits d.1 in
     let o = stated_options_take d.0.1 f.0.0 f.0.1 n.fits f.1 in
     let p = buffer_takes file page_size d.0.0 f.0.1 m.0 o.1.fits m.1 in
-    let same : record { formats = a.0.0; buffers = m.0 ++ i.0; counters = flat_map counters_of f.0.0 } ≡ contents =
-    same_value (record { formats = a.0.0; buffers = m.0 ++ i.0; counters = flat_map counters_of f.0.0 }) contents i.2 in
+    let held : Contents =
+    record {
+      formats = a.0.0;
+      buffers = m.0 ++ i.0;
+      counters = flat_map counters_of f.0.0;
+      symbols = b.0.0.0 ∷ [];
+      tasks = b.0.0.1 ∷ [];
+      machine = machine_among f.0.0;
+    } in
+    let same = same_value held contents i.2 in
     let count : length p.0 ≡ d.0.0 = p.2 in
     let tail = ranges_word ++ flat_map range_bytes p.0 in
     let three = Takes-then d.0.1 (stated_bytes o.0) f.0.1 tail p.1 o.1 p.3 in
-    let two = Takes-then b.0 (to_le_bytes w32 d.0.0) d.0.1 (stated_bytes o.0 ++ tail) p.1 n three in
-    let counted : Takes b.0 (to_le_bytes w32 (length p.0) ++ (stated_bytes o.0 ++ tail)) p.1 =
-    subst (λ k. Takes b.0 (to_le_bytes w32 k ++ (stated_bytes o.0 ++ tail)) p.1) (sym count) two in
+    let two = Takes-then b.0.1 (to_le_bytes w32 d.0.0) d.0.1 (stated_bytes o.0 ++ tail) p.1 n three in
+    let counted : Takes b.0.1 (to_le_bytes w32 (length p.0) ++ (stated_bytes o.0 ++ tail)) p.1 =
+    subst (λ k. Takes b.0.1 (to_le_bytes w32 k ++ (stated_bytes o.0 ++ tail)) p.1) (sym count) two in
     record {
       texts = front.0;
       options = o.0;
       ranges = p.0;
       rest = p.1;
       takes =
-          Takes-then part (six_bytes front.0) b.0 (to_le_bytes w32 (length p.0) ++ (stated_bytes o.0 ++ tail)) p.1
+          Takes-then part (six_bytes front.0) b.0.1 (to_le_bytes w32 (length p.0) ++ (stated_bytes o.0 ++ tail)) p.1
           front.1 counted;
       texts_fit = front.3;
-      cpus_fit = subst (λ k. Fits w32 k) (sym count) (number_fits w32 wide32 b.0 d.0.0 d.0.1 front.1.fits d.1);
+      cpus_fit = subst (λ k. Fits w32 k) (sym count) (number_fits w32 wide32 b.0.1 d.0.0 d.0.1 front.1.fits d.1);
       options_fit = o.3;
       ranges_fit = p.6;
       inside = p.4;
@@ -334,6 +346,9 @@ six_takes file page_size part contents fits e =
           (subst (λ os. each_of (instance_of file page_size d.0.0) os ≡ Ok i.0) o.2 i.1);
       buffers = sym (ap (λ c. c.buffers) same) ∙ ap (λ bs. bs ++ i.0) p.5;
       counters = sym (ap (λ c. c.counters) same) ∙ ap (λ os. flat_map counters_of os) o.2;
+      symbols = sym (ap (λ c. c.symbols) same) ∙ ap (λ t. t.0 ∷ []) front.4;
+      tasks = sym (ap (λ c. c.tasks) same) ∙ ap (λ t. t.1 ∷ []) front.4;
+      machine = sym (ap (λ c. c.machine) same) ∙ ap (λ os. machine_among os) o.2;
     }
 
 -- the version that is read is spelled

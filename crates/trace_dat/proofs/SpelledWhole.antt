@@ -12,6 +12,8 @@ use Rattle.trace_dat.specs.Contents.{Contents}
 use Rattle.trace_dat.specs.Entries.{FileOption}
 use Rattle.trace_dat.specs.Buffers.{ranges_word, buffer_of, counters_of}
 use Rattle.trace_dat.specs.Sections.{Place, link_at, chain_from, options_of_chain, formats_of}
+use Rattle.trace_dat.specs.declared.traced_kernel.NameList.TheVariants.{Symbols, Tasks}
+use Rattle.trace_dat.specs.TracedKernel.{list_of, machine_among}
 use Rattle.trace_dat.specs.Versions.{ended, magic, machine, plain_word, version_at, version_seven, contents_of}
 use Rattle.trace_dat.specs.Versions.{reading_of}
 use Rattle.trace_dat.specs.Spelling.{IsBytes, Fits, IsText, six_bytes, stated_bytes, range_bytes, Linked, IsChain}
@@ -76,6 +78,9 @@ record SpellsSeven (file : List ℕ) (part : FilePart) (contents : Contents) : T
   formats : each_of (formats_of file) (flat_map (λ link. link.options) links) ≡ Ok contents.formats
   buffers : each_of (buffer_of file) (flat_map (λ link. link.options) links) ≡ Ok contents.buffers
   counters : contents.counters ≡ flat_map counters_of (flat_map (λ link. link.options) links)
+  symbols : each_of (list_of Symbols file) (flat_map (λ link. link.options) links) ≡ Ok contents.symbols
+  tasks : each_of (list_of Tasks file) (flat_map (λ link. link.options) links) ≡ Ok contents.tasks
+  machine : contents.machine ≡ machine_among (flat_map (λ link. link.options) links)
 
 seven_takes : (file : List ℕ) (part : FilePart) (contents : Contents) → IsBytes file → IsBytes part.bytes
     → version_seven file part ≡ Ok contents → SpellsSeven file part contents
@@ -86,10 +91,21 @@ seven_takes file part contents fits bytes e =
     let d = bind_ok (options_of_chain file (length file + 2) (record { least = 0; pointer = b.0.1 })) _ contents b.2 in
     let f = bind_ok (each_of (formats_of file) d.0) _ contents d.2 in
     let g = bind_ok (each_of (buffer_of file) d.0) _ contents f.2 in
+    let h = bind_ok (each_of (list_of Symbols file) d.0) _ contents g.2 in
+    let k = bind_ok (each_of (list_of Tasks file) d.0) _ contents h.2 in
     let plain = expected_takes plain_word Compressed part a.0 bytes a.1 in
     let release = text_takes a.0 b.0.0 b.0.1 plain.fits b.1 in
     let chain = chain_takes file (length file + 2) (record { least = 0; pointer = b.0.1 }) d.0 fits release.fits d.1 in
-    let same = same_value (record { formats = f.0; buffers = g.0; counters = flat_map counters_of d.0 }) contents g.2 in
+    let held : Contents =
+    record {
+      formats = f.0;
+      buffers = g.0;
+      counters = flat_map counters_of d.0;
+      symbols = h.0;
+      tasks = k.0;
+      machine = machine_among d.0;
+    } in
+    let same = same_value held contents k.2 in
     record {
       release = b.0.0;
       pointer = b.0.1.bytes;
@@ -102,6 +118,11 @@ seven_takes file part contents fits bytes e =
       buffers = subst (λ os. each_of (buffer_of file) os ≡ Ok contents.buffers) chain.2
           (g.1 ∙ ap (λ c. Ok c.buffers) same);
       counters = sym (ap (λ c. c.counters) same) ∙ ap (λ os. flat_map counters_of os) chain.2;
+      symbols = subst (λ os. each_of (list_of Symbols file) os ≡ Ok contents.symbols) chain.2
+          (h.1 ∙ ap (λ c. Ok c.symbols) same);
+      tasks = subst (λ os. each_of (list_of Tasks file) os ≡ Ok contents.tasks) chain.2
+          (k.1 ∙ ap (λ c. Ok c.tasks) same);
+      machine = sym (ap (λ c. c.machine) same) ∙ ap (λ os. machine_among os) chain.2;
     }
 
 -- by its version, the file is spelled as version 6 or as version 7 is
@@ -125,6 +146,9 @@ spelled_by file Seven a b d f page_size contents fits m v h n bound e =
       formats = seven.formats;
       buffers = seven.buffers;
       counters = seven.counters;
+      symbols = seven.symbols;
+      tasks = seven.tasks;
+      machine = seven.machine;
     })
 spelled_by file Six a b d f page_size contents fits m v h n bound e =
     let six = six_takes file page_size f contents n.fits e in
@@ -157,6 +181,9 @@ spelled_by file Six a b d f page_size contents fits m v h n bound e =
       named = six.named;
       buffers = six.buffers;
       counters = six.counters;
+      symbols = six.symbols;
+      tasks = six.tasks;
+      machine = six.machine;
     })
 
 -- a file that is read is spelled so

@@ -1,5 +1,6 @@
 -- What a file of trace-cmd holds, as contracts see it.
-use Rattle.std.specs.Prelude.{ℕ, List, map}
+use Rattle.std.specs.Prelude.{ℕ, List, map, Option}
+use Rattle.std.specs.Option.{option_map}
 use Rattle.trace_dat.specs.declared.contents.Format.{Format}
 use Rattle.trace_dat.specs.declared.contents.CpuPages.{CpuPages}
 use Rattle.trace_dat.specs.declared.contents.Buffer.{Buffer}
@@ -26,6 +27,9 @@ pub record Contents : Type 0 where
   pub formats : List EventFormat
   pub buffers : List TraceBuffer
   pub counters : List (List ℕ)
+  pub symbols : List (List ℕ)
+  pub tasks : List (List ℕ)
+  pub machine : Option (List ℕ)
 
 -- a format without its place in memory
 abbrev pub format_seen : Format → EventFormat
@@ -46,4 +50,7 @@ contents_seen dat = record {
   formats = map format_seen dat.formats.items;
   buffers = map buffer_seen dat.buffers.items;
   counters = map (λ text. text.now) dat.counters.items;
+  symbols = map (λ text. text.now) dat.symbols.items;
+  tasks = map (λ text. text.now) dat.tasks.items;
+  machine = option_map (λ text. text.now) dat.machine;
 }

@@ -5,6 +5,7 @@ pub mod Formats
 pub mod Entries
 pub mod Buffers
 pub mod Sections
+pub mod TracedKernel
 pub mod Versions
 pub mod Spelling
 pub mod Laws

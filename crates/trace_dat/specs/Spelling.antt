@@ -11,6 +11,8 @@ use Rattle.trace_dat.specs.Formats.{ring_system}
 use Rattle.trace_dat.specs.Entries.{FileOption}
 use Rattle.trace_dat.specs.Buffers.{ranges_word, instance_of, buffer_of, counters_of}
 use Rattle.trace_dat.specs.Sections.{formats_of}
+use Rattle.trace_dat.specs.declared.traced_kernel.NameList.TheVariants.{Symbols, Tasks}
+use Rattle.trace_dat.specs.TracedKernel.{list_of, machine_among}
 use Rattle.trace_dat.specs.Versions.{ended, page_title, record_title, options_word, plain_word, magic, machine}
 
 -- each of these numbers is a byte
@@ -168,8 +170,9 @@ pub record SixPartsFit (parts : SixParts) : Type 0 where
   pub options : AllByRecursion OptionFits (unwrap_or parts.options [])
   pub ranges : AllByRecursion RangeFits parts.ranges
 
--- The file is made of these parts, and holds this: the formats, the pages of the CPUs as the main buffer, and the
--- counters. The other buffers are those that its options name.
+-- The file is made of these parts, and holds this: the formats, the pages of the CPUs as the main buffer, the counters,
+-- the kernel's symbols, the names of processes, and what the machine is. The other buffers are those that its options
+-- name.
 pub record IsSix (file : List ℕ) (contents : Contents) : Type 0 where
   pub parts : SixParts
   pub rest : List ℕ
@@ -183,6 +186,9 @@ pub record IsSix (file : List ℕ) (contents : Contents) : Type 0 where
   pub buffers : contents.buffers
       ≡ record { name = []; page_size = parts.page_size; cpus = numbered_pages file 0 parts.ranges } ∷ instances
   pub counters : contents.counters ≡ flat_map counters_of (unwrap_or parts.options [])
+  pub symbols : contents.symbols ≡ parts.texts.symbols ∷ []
+  pub tasks : contents.tasks ≡ parts.texts.tasks ∷ []
+  pub machine : contents.machine ≡ machine_among (unwrap_or parts.options [])
 
 -- ---- version 7
 
@@ -226,8 +232,9 @@ IsChain file least bytes (link ∷ links) =
     × Fits w64 link.offset
 
 -- The file begins as version 7 does, without compression, and its options are those of a chain of sections. By them it
--- holds this: the formats, the buffers and the counters. The size of the pages fits its width, and the text before the
--- pointer, the release of the compression's library, has no zero byte.
+-- holds this: the formats, the buffers, the counters, the kernel's symbols, the names of processes, and what the
+-- machine is. The size of the pages fits its width, and the text before the pointer, the release of the compression's
+-- library, has no zero byte.
 pub record IsSeven (file : List ℕ) (contents : Contents) : Type 0 where
   pub page_size : ℕ
   pub release : List ℕ
@@ -243,3 +250,6 @@ pub record IsSeven (file : List ℕ) (contents : Contents) : Type 0 where
   pub formats : each_of (formats_of file) (flat_map (λ link. link.options) links) ≡ Ok contents.formats
   pub buffers : each_of (buffer_of file) (flat_map (λ link. link.options) links) ≡ Ok contents.buffers
   pub counters : contents.counters ≡ flat_map counters_of (flat_map (λ link. link.options) links)
+  pub symbols : each_of (list_of Symbols file) (flat_map (λ link. link.options) links) ≡ Ok contents.symbols
+  pub tasks : each_of (list_of Tasks file) (flat_map (λ link. link.options) links) ≡ Ok contents.tasks
+  pub machine : contents.machine ≡ machine_among (flat_map (λ link. link.options) links)

@@ -14,6 +14,8 @@ use Rattle.trace_dat.specs.Formats.{ring_system, formats_at, systems_at}
 use Rattle.trace_dat.specs.Entries.{FileOption, options_at}
 use Rattle.trace_dat.specs.Buffers.{buffer_at, instance_of, buffer_of, counters_of}
 use Rattle.trace_dat.specs.Sections.{chained_options_at, formats_of}
+use Rattle.trace_dat.specs.declared.traced_kernel.NameList.TheVariants.{Symbols, Tasks}
+use Rattle.trace_dat.specs.TracedKernel.{lists_at, list_of, machine_among}
 
 -- a word and the zero byte that ends it
 abbrev pub ended : List ℕ → List ℕ
@@ -44,14 +46,6 @@ all_formats_at part = do
   systems ← systems_at ring.1
   Ok (ring.0 ++ systems.0, systems.1)
 
--- the kernel's symbols, its texts for printing, and the names of tasks, none of which is read
-unfoldable pub tables_at : FilePart → Reading FilePart
-tables_at part = do
-  symbols ← block_at w32 part
-  texts ← block_at w32 symbols.1
-  tasks ← block_at w64 texts.1
-  Ok tasks.1
-
 -- the word before the options
 abbrev pub options_word : List ℕ
 options_word = ended (codes "options  ")
@@ -65,12 +59,19 @@ stated_options_at part =
 unfoldable pub version_six : List ℕ → ℕ → FilePart → Reading Contents
 version_six file page_size part = do
   formats ← all_formats_at part
-  tables ← tables_at formats.1
-  count ← number_at w32 tables
+  name_lists ← lists_at formats.1
+  count ← number_at w32 name_lists.1
   options ← stated_options_at count.1
   main ← buffer_at file page_size count.0 [] options.1
   instances ← each_of (instance_of file page_size count.0) options.0
-  Ok (record { formats = formats.0; buffers = main ++ instances; counters = flat_map counters_of options.0 })
+  Ok (record {
+    formats = formats.0;
+    buffers = main ++ instances;
+    counters = flat_map counters_of options.0;
+    symbols = name_lists.0.0 ∷ [];
+    tasks = name_lists.0.1 ∷ [];
+    machine = machine_among options.0;
+  })
 
 -- ---- version 7
 
@@ -87,7 +88,16 @@ version_seven file part = do
   options ← chained_options_at file release.1
   formats ← each_of (formats_of file) options
   buffers ← each_of (buffer_of file) options
-  Ok (record { formats = formats; buffers = buffers; counters = flat_map counters_of options })
+  symbols ← each_of (list_of Symbols file) options
+  tasks ← each_of (list_of Tasks file) options
+  Ok (record {
+    formats = formats;
+    buffers = buffers;
+    counters = flat_map counters_of options;
+    symbols = symbols;
+    tasks = tasks;
+    machine = machine_among options;
+  })
 
 -- ---- both
 

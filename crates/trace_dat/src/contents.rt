@@ -38,4 +38,12 @@ pub struct TraceDat<'a> {
     pub buffers: Vec<Buffer<'a>>,
     /// The counters of rings, a text for each CPU, in the order of the file.
     pub counters: Vec<&'a [u8]>,
+    /// The kernel's symbols, as it lists them in `/proc/kallsyms`: one text in version 6, and in version 7 one for each
+    /// option that points to such a section, in the order of the file. A text may be empty.
+    pub symbols: Vec<&'a [u8]>,
+    /// The names of processes, as the kernel lists them in `saved_cmdlines`, in texts as those of the symbols.
+    pub tasks: Vec<&'a [u8]>,
+    /// What the traced machine is, if an option says it: the names of its system, its host, its kernel's release and
+    /// its processor, with spaces between them. Of several such options the last counts.
+    pub machine: Option<&'a [u8]>,
 }

@@ -14,10 +14,16 @@ pub const DONE: u16 = 0;
 pub const COUNTERS: u16 = 2;
 /// The option that describes a trace buffer.
 pub const BUFFER: u16 = 3;
+/// The option that says what the traced machine is.
+pub const MACHINE: u16 = 5;
 /// The option that points to the formats of the ring's own events, and the section that holds them.
 pub const RING_FORMATS: u16 = 17;
 /// The option that points to the formats of the systems' events, and the section that holds them.
 pub const FORMATS: u16 = 18;
+/// The option that points to the kernel's symbols, and the section that holds them.
+pub const SYMBOLS: u16 = 19;
+/// The option that points to the names of processes, and the section that holds them.
+pub const TASKS: u16 = 21;
 /// The section that holds options.
 pub const OPTIONS: u16 = 0;
 

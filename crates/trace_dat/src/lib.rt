@@ -11,6 +11,7 @@ pub mod laws;
 mod part;
 mod read;
 mod sections;
+mod traced_kernel;
 
 pub use contents::{Buffer, CpuPages, Format, TraceDat};
 pub use fault::{Cause, Fault, ReadError};

@@ -26,6 +26,7 @@ impl<'a> Part<'a> {
     ghost use Rattle.trace_dat.specs.Parts.{seen};
     ghost use Rattle.trace_dat.specs.Fields.{Gives, behind, front, part_at, number_at, block_at, text_at, expected_at};
     ghost use Rattle.trace_dat.specs.Fields.{pointed_at, range_at};
+    ghost use Rattle.trace_dat.specs.TracedKernel.{before_zero};
 
     /// The fault of this cause at the front.
     pub(crate) fn fault(self, cause: Cause) -> ReadError
@@ -143,6 +144,16 @@ impl<'a> Part<'a> {
         match zero_at(self.bytes) {
             Some(len) => Ok((&self.bytes[..len], self.behind(len + 1))),
             None => Err(self.fault(Cause::Cut)),
+        }
+    }
+
+    /// The bytes up to the first zero byte, or all of them if none is zero.
+    pub(crate) fn before_zero(self) -> &'a [u8]
+        ensures { result.now ≡ before_zero self.entry.bytes.now }
+    {
+        match zero_at(self.bytes) {
+            Some(len) => &self.bytes[..len],
+            None => self.bytes,
         }
     }
 

@@ -1,10 +1,10 @@
 //! A whole file, in either version.
-ghost use Rattle.std.specs.Prelude.{◌≡◌, map};
+ghost use Rattle.std.specs.Prelude.{◌≡◌, [], ◌∷◌, map, IfOk};
 ghost use Rattle.trace_dat.specs.Parts.{seen};
 ghost use Rattle.trace_dat.specs.Fields.{Gives};
 ghost use Rattle.trace_dat.specs.Contents.{format_seen, contents_seen};
 ghost use Rattle.trace_dat.specs.Entries.{option_seen};
-ghost use Rattle.trace_dat.specs.Versions.{titled_at, all_formats_at, tables_at, stated_options_at, version_six};
+ghost use Rattle.trace_dat.specs.Versions.{titled_at, all_formats_at, stated_options_at, version_six};
 ghost use Rattle.trace_dat.specs.Versions.{version_seven, version_at, places_differing, resembles, reading_of};
 
 use crate::buffers::{Shape, counters, put_buffer, put_buffers, put_instances};
@@ -14,7 +14,8 @@ use crate::fault::{Cause, ReadError};
 use crate::formats::{RING_SYSTEM, put_formats, put_systems};
 use crate::part::Part;
 use crate::sections::{chained_options, formats};
-use std::alloc::Global;
+use crate::traced_kernel::{NameList, list_texts, machine, name_lists};
+use std::alloc::{AllocError, Global};
 
 /// The versions of the file.
 #[derive(Clone, Copy, Debug, PartialEq, Eq)]
@@ -61,17 +62,6 @@ fn all_formats<'a>(alloc: Global, part: Part<'a>) -> Result<(Vec<Format<'a>>, Pa
     Ok((formats, systems))
 }
 
-/// What is after the kernel's symbols, its texts for printing, and the names of tasks.
-#[tactic(auto, unfolding(crate::specs::Versions::tables_at))]
-fn behind_tables<'a>(part: Part<'a>) -> Result<Part<'a>, ReadError>
-    ensures { Gives seen result (tables_at (seen part.entry)) }
-{
-    let (_symbols, behind) = part.block32()?;
-    let (_texts, behind) = behind.block32()?;
-    let (_tasks, behind) = behind.block64()?;
-    Ok(behind)
-}
-
 /// The options, if their word is at the front, and what is after them.
 #[tactic(auto, unfolding(crate::specs::Versions::stated_options_at))]
 fn stated_options<'a>(
@@ -88,6 +78,15 @@ fn stated_options<'a>(
     Ok((options, behind))
 }
 
+/// A list of this text alone.
+fn only<'a>(alloc: Global, text: &'a [u8]) -> Result<Vec<&'a [u8]>, AllocError>
+    ensures { IfOk result (λ texts. map (λ text. text.now) texts.items ≡ text.now ∷ []) }
+{
+    let mut texts = Vec::new(alloc);
+    texts.push(text)?;
+    Ok(texts)
+}
+
 /// What a file of version 6 holds, from after the size of its pages on.
 #[tactic(auto, unfolding(crate::specs::Versions::version_six))]
 fn read_six<'a>(
@@ -99,7 +98,7 @@ fn read_six<'a>(
     ensures { Gives contents_seen result (version_six file.now page_size (seen part.entry)) }
 {
     let (formats, behind) = all_formats(alloc, part)?;
-    let behind = behind_tables(behind)?;
+    let ((symbols, tasks), behind) = name_lists(behind)?;
     let (cpus, behind) = behind.number32()?;
     let (options, behind) = stated_options(alloc, behind)?;
     let shape = Shape { page_size, cpus };
@@ -111,6 +110,9 @@ fn read_six<'a>(
         formats,
         buffers,
         counters,
+        symbols: only(alloc, symbols)?,
+        tasks: only(alloc, tasks)?,
+        machine: machine(&options),
     })
 }
 
@@ -125,11 +127,16 @@ fn read_seven<'a>(alloc: Global, file: &'a [u8], part: Part<'a>) -> Result<Trace
     let formats = formats(alloc, file, &options)?;
     let mut buffers = Vec::new(alloc);
     put_buffers(&mut buffers, alloc, file, &options)?;
+    let symbols = list_texts(alloc, file, NameList::Symbols, &options)?;
+    let tasks = list_texts(alloc, file, NameList::Tasks, &options)?;
     let counters = counters(alloc, &options)?;
     Ok(TraceDat {
         formats,
         buffers,
         counters,
+        symbols,
+        tasks,
+        machine: machine(&options),
     })
 }
 

@@ -27,7 +27,7 @@ fn section_body<'a>(part: Part<'a>) -> Result<Part<'a>, ReadError>
 
 /// The body of the section at the front of a part, which should have this identifier.
 #[tactic(auto, unfolding(crate::specs::Sections::section_at))]
-fn section<'a>(part: Part<'a>, id: u16) -> Result<Part<'a>, ReadError>
+pub(crate) fn section<'a>(part: Part<'a>, id: u16) -> Result<Part<'a>, ReadError>
     ensures { Gives seen result (section_at id (seen part.entry)) }
 {
     let named = part.expected(&id.to_le_bytes(), Cause::Misplaced)?;

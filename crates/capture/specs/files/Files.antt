@@ -1,7 +1,9 @@
 -- What a file has of the kernel's trace: raw pages of a CPU, or what trace-cmd puts into a file.
-use Rattle.std.specs.Prelude.{◌≡◌, ℕ, ◌+◌, ◌||◌, ◌==◌, Bool, true, false, List, [], ◌∷◌, ◌++◌, length, Result, Ok, Err}
-use Rattle.std.specs.Prelude.{nat_lt, bytes_eq, if◌then◌else◌}
-use Rattle.std.specs.List.{filter}
+use Rattle.std.specs.Prelude.{◌≡◌, ℕ, ◌+◌, ◌||◌, ◌&&◌, ◌==◌, Bool, true, false, List, [], ◌∷◌, ◌++◌, length, Result, Ok}
+use Rattle.std.specs.Prelude.{Err, nat_lt, bytes_eq, if◌then◌else◌, Option, Some, None}
+use Rattle.std.specs.List.{filter, flat_map}
+use Rattle.std.specs.Option.{option_or}
+use Rattle.event_fields.specs.Texts.{parts_of as parts_between}
 use Rattle.trace_model.specs.declared.limits.TheConstants.{MAX_CPUS}
 use Rattle.trace_dat.specs.Contents.{EventFormat, Recorded, TraceBuffer, Contents}
 use Rattle.trace_dat.specs.Fields.{Reading}
@@ -9,6 +11,8 @@ use Rattle.trace_dat.specs.Versions.{resembles, reading_of}
 use Rattle.trace_dat.specs.kernel_texts.Counters.{texts_of}
 use Rattle.capture.specs.declared.files.fault.FileFault.{FileFault}
 use Rattle.capture.specs.declared.files.fault.FileFault.TheVariants.{Format, BadCpu, BadPage, Overlap}
+use Rattle.capture.specs.declared.files.fault.FileFault.TheVariants.{SmallerPages, OtherHost}
+use Rattle.capture.specs.Smaller.{smaller_pages}
 
 -- a file: its bytes, and the CPU whose pages they are if they are raw
 pub record File : Type 0 where
@@ -91,13 +95,25 @@ within len parts = if nat_lt len (bytes_in parts) then Err Overlap else Ok parts
 abbrev pub parts_in : (name : List ℕ) → (len : ℕ) → Contents → Checked (List ModelPart)
 parts_in name len contents = each_of (parts_of_buffer name) contents.buffers >>= within len
 
+-- ---- a raw file
+
+-- unless the pages are smaller than was said
+abbrev pub unless_smaller : Option ℕ → List ModelPart → Checked (List ModelPart)
+unless_smaller (Some size) parts = Err (SmallerPages size)
+unless_smaller None parts = Ok parts
+
+-- a raw file has one part, in pages of the size that is said
+abbrev pub raw_parts : (page : ℕ) → File → Checked (List ModelPart)
+raw_parts page file =
+    unless_smaller (smaller_pages page file.bytes) (record { cpu = file.cpu; size = page; bytes = file.bytes } ∷ [])
+
 -- ---- a file
 
--- The parts of a file, or its first fault: a raw file has one part, in pages of the size that is said.
+-- the parts of a file, or its first fault
 abbrev pub parts_of : (page : ℕ) → (name : List ℕ) → File → Checked (List ModelPart)
 parts_of page name file =
     if is_dat name file.bytes then (formatted (reading_of file.bytes) >>= parts_in name (length file.bytes))
-    else Ok (record { cpu = file.cpu; size = page; bytes = file.bytes } ∷ [])
+    else raw_parts page file
 
 -- of what a file holds, if it reads
 abbrev pub held : {A : Type 0} → (Contents → A) → A → Reading Contents → A
@@ -131,6 +147,17 @@ has_named name (buffer ∷ buffers) = is_named name buffer || has_named name buf
 abbrev pub has_listed : (name : List ℕ) → File → Bool
 has_listed name file = held_by (λ contents. has_named name contents.buffers) false file
 
+-- the kernel's lists of processes, and of its symbols, that a file has
+abbrev pub tasks_of : File → List (List ℕ)
+tasks_of file = held_by (λ contents. contents.tasks) [] file
+
+abbrev pub symbols_of : File → List (List ℕ)
+symbols_of file = held_by (λ contents. contents.symbols) [] file
+
+-- what a file says that the traced machine is, if it does
+abbrev pub machine_of : File → Option (List ℕ)
+machine_of file = held_by (λ contents. contents.machine) None file
+
 -- the texts of the kernel's counters that a file has of the buffer that is listed
 abbrev pub counters_of : (name : List ℕ) → File → List (List ℕ)
 counters_of name file = held_by (λ contents. texts_of name contents.counters) [] file
@@ -144,6 +171,46 @@ ArePartsOf page name (file ∷ files) parts =
     (own : List ModelPart) × (others : List ModelPart) × (parts ≡ own ++ others) × (parts_of page name file ≡ Ok own)
     × ArePartsOf page name files others
 
+-- the lines of texts, one after the other
+abbrev pub lines_of : (texts : List (List ℕ)) → List (List ℕ)
+lines_of texts = flat_map (parts_between 10) texts
+
+-- the lines of the lists of all files
+abbrev pub all_lines : (File → List (List ℕ)) → List File → List (List ℕ)
+all_lines lists [] = []
+all_lines lists (file ∷ files) = lines_of (lists file) ++ all_lines lists files
+
+-- lines, if they are wanted
+abbrev pub if_wanted : Bool → List (List ℕ) → List (List ℕ)
+if_wanted is_wanted lines = if is_wanted then lines else []
+
+-- what the traced machine is, by the first file that says it, if this is what was said before
+abbrev pub machine_from : Option (List ℕ) → List File → Option (List ℕ)
+machine_from known [] = known
+machine_from known (file ∷ files) = machine_from (option_or known (machine_of file)) files
+
+abbrev pub machine_in : List File → Option (List ℕ)
+machine_in files = machine_from None files
+
+-- what is said of a machine is no other than what was said before
+abbrev pub is_same_machine : (known said : Option (List ℕ)) → Bool
+is_same_machine None said = true
+is_same_machine (Some known) None = true
+is_same_machine (Some known) (Some said) = bytes_eq known said
+
+-- all files that say what the traced machine is say the same, which is this if it was said before
+abbrev pub are_of_one : Option (List ℕ) → List File → Bool
+are_of_one known [] = true
+are_of_one known (file ∷ files) =
+    is_same_machine known (machine_of file) && are_of_one (option_or known (machine_of file)) files
+
+-- the parts of a file that was read after these, or its first fault: last of all it may be of another machine
+abbrev pub on_machine : (known said : Option (List ℕ)) → List ModelPart → Checked (List ModelPart)
+on_machine known said parts = if is_same_machine known said then Ok parts else Err OtherHost
+
+abbrev pub parts_after : (page : ℕ) → (name : List ℕ) → List File → File → Checked (List ModelPart)
+parts_after page name files file = parts_of page name file >>= on_machine (machine_in files) (machine_of file)
+
 -- the formats of all files
 abbrev pub all_formats : List File → List EventFormat
 all_formats [] = []
@@ -153,10 +220,6 @@ all_formats (file ∷ files) = formats_of file ++ all_formats files
 abbrev pub all_others : (name : List ℕ) → List File → List (List ℕ)
 all_others name [] = []
 all_others name (file ∷ files) = others_of name file ++ all_others name files
-
--- how many instances of all files aren't listed
-abbrev pub all_instances : (name : List ℕ) → List File → ℕ
-all_instances name files = length (all_others name files)
 
 -- one of the files is one of trace-cmd and has the buffer that is listed
 abbrev pub is_in_any : (name : List ℕ) → List File → Bool

@@ -1,19 +1,20 @@
 -- One file more.
 use Rattle.std.specs.Prelude.{◌≡◌, ℕ, Bool, true, false, List, [], ◌∷◌, ◌++◌, Option, Err, ⊤}
 use Rattle.std.specs.Io.KnownBytes.{Consumes, IsAtEnd}
+use Rattle.trace_dat.specs.declared.kernel_texts.counters.Counters.{Counters}
 use Rattle.capture.specs.declared.files.captured.Captured.{Captured}
 use Rattle.capture.specs.declared.files.dat.Losses.{Losses}
 use Rattle.capture.specs.declared.files.dat.Losses.TheVariants.{Kept, Settled}
 use Rattle.capture.specs.declared.files.fault.InputFault.{InputFault}
 use Rattle.capture.specs.declared.files.fault.InputFault.TheVariants as faults
-use Rattle.capture.specs.files.Files.{File, parts_of, counters_of}
-use Rattle.capture.specs.files.Losses.{overrun_of}
+use Rattle.capture.specs.files.Files.{File, is_dat, parts_after, counters_of}
+use Rattle.capture.specs.files.Losses.{cpu_counters_of}
 use Rattle.capture.specs.files.Captures.{AreFilesRead, AreFilesPast, unsaid}
 
 -- what the counters of a file say, if they are used
-abbrev pub said_by : Losses → (name : List ℕ) → File → ℕ → Option ℕ
+abbrev pub said_by : Losses → (name : List ℕ) → File → ℕ → Option Counters
 said_by Kept name file = unsaid
-said_by Settled name file = λ cpu. overrun_of cpu (counters_of name file)
+said_by Settled name file = λ cpu. cpu_counters_of cpu (counters_of name file)
 
 -- the first file of all, if its counters are used
 abbrev pub IsAlone : Losses → List File → Type 0
@@ -36,7 +37,7 @@ pub record AddsRestOf (losses : Losses) (page : ℕ) (name : List ℕ) (cpu : �
 -- why a file wasn't read after these files, though its bytes were
 abbrev pub IsFileFault : Losses → (page : ℕ) → (name : List ℕ) → List File → File → InputFault → Type 0
 IsFileFault losses page name files file faults.Read = ⊥
-IsFileFault losses page name files file (faults.File fault) = parts_of page name file ≡ Err fault
+IsFileFault losses page name files file (faults.File fault) = parts_after page name files file ≡ Err fault
 IsFileFault losses page name files file faults.Numbers = AreFilesPast (said_by losses name file) page name
     (files ++ file ∷ [])
 IsFileFault losses page name files file faults.NoMemory = ⊤
@@ -47,8 +48,9 @@ abbrev pub IsRestFault : Losses → (page : ℕ) → (name : List ℕ) → (cpu 
     → List File → InputFault → Type 0
 IsRestFault losses page name cpu first unread left failed files faults.Read = failed ≡ true
 IsRestFault losses page name cpu first unread left failed files (faults.File fault) =
-    (failed ≡ false) × IsAtEnd left × ((more : List ℕ) × Consumes unread left more
-    × (parts_of page name (record { cpu = cpu; bytes = first ++ more }) ≡ Err fault))
+    (failed ≡ false) × ((more : List ℕ) × Consumes unread left more
+    × (parts_after page name files (record { cpu = cpu; bytes = first ++ more }) ≡ Err fault)
+    × (is_dat name (first ++ more) ≡ true → IsAtEnd left))
 IsRestFault losses page name cpu first unread left failed files faults.Numbers =
     (failed ≡ false) × ((more : List ℕ) × Consumes unread left more
     × AreFilesPast (said_by losses name (record { cpu = cpu; bytes = first ++ more })) page name

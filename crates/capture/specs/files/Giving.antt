@@ -7,6 +7,7 @@ use Rattle.capture.specs.declared.read.ReadFault.TheVariants as reads
 use Rattle.capture.specs.declared.files.cpu_part.CpuPart.{CpuPart}
 use Rattle.capture.specs.declared.files.fault.InputFault.{InputFault}
 use Rattle.capture.specs.declared.files.fault.InputFault.TheVariants as faults
+use Rattle.capture.specs.declared.files.fault.FileFault.TheVariants.{SmallerPages}
 use Rattle.capture.specs.files.Files.{Checked, ◌>>=◌, ModelPart}
 
 -- a part without its place in memory
@@ -45,3 +46,4 @@ IsReadOrMemory faults.NoMemory = ⊤
 abbrev pub read_fault : ReadFault → InputFault
 read_fault reads.Read = faults.Read
 read_fault (reads.Capture fault) = input_fault fault
+read_fault (reads.SmallerPages size) = faults.File (SmallerPages size)

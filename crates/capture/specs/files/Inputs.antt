@@ -4,7 +4,7 @@ use Rattle.std.specs.Io.KnownBytes.{Consumes, IsAtEnd}
 use Rattle.capture.specs.declared.files.captured.Input.{Input}
 use Rattle.capture.specs.declared.files.fault.InputFault.{InputFault}
 use Rattle.capture.specs.declared.files.fault.InputFault.TheVariants as faults
-use Rattle.capture.specs.files.Files.{File, parts_of}
+use Rattle.capture.specs.files.Files.{File, is_dat, parts_after}
 use Rattle.capture.specs.files.Captures.{ArePast}
 
 -- In what follows `remaining` says which bytes a reader has yet to give, and `failed` whether a read has failed.
@@ -25,14 +25,15 @@ AreRead remaining failed [] (new ∷ news) files = ⊥
 AreRead remaining failed (old ∷ olds) [] files = ⊥
 AreRead remaining failed (old ∷ olds) (new ∷ news) [] = ⊥
 
--- why an input wasn't read, after these files: for a fault all of it was read, and for numbers a beginning
+-- Why an input wasn't read, after these files: for a fault of a file of trace-cmd all of it was read, and for smaller
+-- pages or numbers a beginning.
 abbrev pub IsWhy : {R : Type 0} → (R → Option (List ℕ)) → (R → Bool) → (page : ℕ) → (name : List ℕ) → List File
     → (old new : Input R)
     → InputFault → Type 0
 IsWhy remaining failed page name files old new faults.Read = failed new.reader ≡ true
 IsWhy remaining failed page name files old new (faults.File fault) =
-    (failed new.reader ≡ false) × IsAtEnd (remaining new.reader)
-    × ((file : File) × IsReadOf remaining old new file × (parts_of page name file ≡ Err fault))
+    (failed new.reader ≡ false) × ((file : File) × IsReadOf remaining old new file
+    × (parts_after page name files file ≡ Err fault) × (is_dat name file.bytes ≡ true → IsAtEnd (remaining new.reader)))
 IsWhy remaining failed page name files old new faults.Numbers =
     (failed new.reader ≡ false) × ((file : File) × IsReadOf remaining old new file
     × ArePast page name (files ++ file ∷ []))

@@ -8,22 +8,31 @@ use Rattle.trace_dat.specs.kernel_texts.Counters.{counters_in}
 use Rattle.trace_dat.specs.declared.kernel_texts.counters.Counters.{Counters}
 use Rattle.capture.specs.files.Files.{File, counters_of}
 
--- how many records were overwritten, if these are the counters of this CPU
-abbrev pub overrun_at : (cpu : ℕ) → Option Counters → Option ℕ → Option ℕ
-overrun_at cpu None otherwise = otherwise
-overrun_at cpu (Some counters) otherwise = if counters.cpu == cpu then Some counters.overrun else otherwise
+-- the counters, if they are of this CPU
+abbrev pub cpu_counters_at : (cpu : ℕ) → Option Counters → Option Counters → Option Counters
+cpu_counters_at cpu None otherwise = otherwise
+cpu_counters_at cpu (Some counters) otherwise = if counters.cpu == cpu then Some counters else otherwise
 
--- how many records of a CPU were overwritten, by the first text that has its counters
-abbrev pub overrun_of : (cpu : ℕ) → List (List ℕ) → Option ℕ
-overrun_of cpu [] = None
-overrun_of cpu (text ∷ texts) = overrun_at cpu (counters_in text) (overrun_of cpu texts)
+-- the counters of a CPU, by the first text that has them
+abbrev pub cpu_counters_of : (cpu : ℕ) → List (List ℕ) → Option Counters
+cpu_counters_of cpu [] = None
+cpu_counters_of cpu (text ∷ texts) = cpu_counters_at cpu (counters_in text) (cpu_counters_of cpu texts)
 
--- how many records of a CPU were overwritten, by the counters that a file has of the buffer that is listed, if it is
--- the only file; those of several files say nothing of all
+-- the counters that a file has of a CPU in the buffer that is listed, if it is the only file; those of several files
+-- say nothing of all
+abbrev pub cpu_counters_in : (name : List ℕ) → List File → (cpu : ℕ) → Option Counters
+cpu_counters_in name [] cpu = None
+cpu_counters_in name (file ∷ []) cpu = cpu_counters_of cpu (counters_of name file)
+cpu_counters_in name (file ∷ other ∷ files) cpu = None
+
+-- how many records were overwritten, by the counters of their CPU
+abbrev pub overrun_by : Option Counters → Option ℕ
+overrun_by None = None
+overrun_by (Some counters) = Some counters.overrun
+
+-- how many records of a CPU were overwritten, by the counters of the only file
 abbrev pub overrun_in : (name : List ℕ) → List File → (cpu : ℕ) → Option ℕ
-overrun_in name [] cpu = None
-overrun_in name (file ∷ []) cpu = overrun_of cpu (counters_of name file)
-overrun_in name (file ∷ other ∷ files) cpu = None
+overrun_in name files cpu = overrun_by (cpu_counters_in name files cpu)
 
 -- how many records are lost by what pages count
 abbrev pub counted_in : Missed → ℕ

@@ -2,9 +2,10 @@
 ghost use Rattle.std.specs.Prelude.{◌≡◌, ℕ, ◌+◌, ◌^◌, ◌<◌, ◌≤◌, List, [], ◌∷◌, ◌++◌, length, Err, OnOk};
 
 use crate::{Capture, CaptureFault, Part};
+use kernel_names::{SymbolNames, TaskNames};
 use page_image::Missed;
 use std::alloc::Global;
-use trace_dat::kernel_texts::EventNames;
+use trace_dat::kernel_texts::{Counters, EventNames};
 use trace_model::CpuId;
 
 /// A file that is to be read.
@@ -25,6 +26,8 @@ pub struct CpuCapture {
     pub parts: Vec<Part>,
     /// How many bytes its parts have.
     pub bytes: u64,
+    /// What the kernel counted of its ring since the trace began, if one file alone is read, and has that.
+    pub counters: Option<Counters>,
 }
 
 impl CpuCapture {
@@ -43,6 +46,7 @@ impl CpuCapture {
             capture: Capture::new(alloc, cpu),
             parts: Vec::new(alloc),
             bytes: 0,
+            counters: None,
         }
     }
 
@@ -87,6 +91,15 @@ impl CpuCapture {
     }
 }
 
+/// Which of the kernel's lists of names are wanted.
+#[derive(Clone, Copy, Debug, PartialEq, Eq)]
+pub struct Wanted {
+    /// That of processes.
+    pub tasks: bool,
+    /// That of its symbols.
+    pub symbols: bool,
+}
+
 /// What is read of files.
 #[derive(Debug, Drop)]
 pub struct Captured {
@@ -94,10 +107,17 @@ pub struct Captured {
     pub cpus: Vec<CpuCapture>,
     /// The events whose formats the files have.
     pub names: EventNames,
-    /// How many instances the files have that aren't listed: trace buffers with another name. Their pages aren't read.
-    pub instances: u64,
-    /// The names of these instances, one for each, in the order of the files.
+    /// The names of the instances that the files have and that aren't listed, one for each, in the order of the files:
+    /// trace buffers with another name. Their pages aren't read.
     pub others: Vec<Vec<u8>>,
     /// Whether a file of trace-cmd has the trace buffer that is listed.
     pub found: bool,
+    /// Which lists of names are wanted. The others are empty here.
+    pub wanted: Wanted,
+    /// The names of processes, by the lists of the files, one after the other.
+    pub tasks: TaskNames,
+    /// The functions of the kernel, by the lists of its symbols that the files have, one after the other.
+    pub symbols: SymbolNames,
+    /// What the traced machine is, if a file says it. All files that do say the same.
+    pub machine: Option<Vec<u8>>,
 }

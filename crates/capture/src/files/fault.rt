@@ -8,10 +8,10 @@ use std::alloc::{AllocError, AllocFailed};
 use trace_dat::Fault;
 use trace_model::NoMemory;
 
-/// What is wrong with a file of trace-cmd.
+/// What is wrong with a file.
 #[derive(Clone, Copy, Debug, PartialEq, Eq)]
 pub enum FileFault {
-    /// It hasn't the format.
+    /// It is one of trace-cmd, and hasn't the format.
     Format(Fault),
     /// The main buffer has pages of a CPU with this number, which is too high.
     BadCpu(u32),
@@ -19,6 +19,10 @@ pub enum FileFault {
     BadPage(u32),
     /// The pages of the main buffer have more bytes than the file.
     Overlap,
+    /// It is raw, and what was read as one page has several, of this many bytes each.
+    SmallerPages(u32),
+    /// It is one of trace-cmd, and of another machine than an earlier one: what they say of their machines differs.
+    OtherHost,
 }
 
 /// Why a file isn't read.
@@ -26,7 +30,7 @@ pub enum FileFault {
 pub enum InputFault {
     /// A read failed.
     Read,
-    /// It is a file of trace-cmd with a fault.
+    /// It has a fault.
     File(FileFault),
     /// The numbers of a CPU's records, pages or bytes would be above 2^64 - 1.
     Numbers,
@@ -76,6 +80,7 @@ impl From<ReadFault> for InputFault {
         match fault {
             ReadFault::Read => InputFault::Read,
             ReadFault::Capture(fault) => InputFault::from(fault),
+            ReadFault::SmallerPages(bytes) => InputFault::File(FileFault::SmallerPages(bytes)),
         }
     }
 }

@@ -8,13 +8,14 @@ ghost use Rattle.capture.specs.files.Captures.{AreFilesRead, AreCaptured, unsaid
 ghost use Rattle.capture.specs.files.FilesRead.{IsAlone, AddsRestOf, IsRestFault};
 ghost use Rattle.capture.specs.files.Inputs.{AreRead, IsUnread};
 
-use crate::files::captured::{Captured, Input};
+use crate::files::captured::{Captured, Input, Wanted};
 use crate::files::cpus::new_cpus;
 use crate::files::dat::{Losses, add_dat};
 use crate::files::fault::{InputFault, Unread};
 use crate::files::first::read_rest;
 use crate::files::raw::add_raw;
 use command_io::{Source, fill_piece};
+use kernel_names::{SymbolNames, TaskNames};
 use std::alloc::{AllocError, Global};
 use trace_dat::kernel_texts::EventNames;
 use trace_dat::resembles_trace_dat;
@@ -37,6 +38,7 @@ fn read_dat<R: Source>(
         → AreFilesRead unsaid page name.now files captured.old → OnOk result
         (AddsRestOf losses page name.now cpu first.now (R.remaining reader.old) (R.remaining reader.new) files
         captured.new) }
+    ensures wanted { captured.new.wanted ≡ captured.old.wanted }
     ensures end { OnOk result (IsAtEnd (R.remaining reader.new)) }
     ensures sound { OnOk result (R.failed reader.new ≡ false) }
     ensures fault { (page cpu : ℕ) (files : List File) → IsAlone losses files
@@ -68,6 +70,7 @@ fn read_raw<R: Source>(
         → AreFilesRead unsaid (length piece.old) name files captured.old
         → OnOk result (AddsRestOf losses (length piece.old) name cpu.0 (take filled piece.old) (R.remaining reader.old)
         (R.remaining reader.new) files captured.new) }
+    ensures wanted { captured.new.wanted ≡ captured.old.wanted }
     ensures end { OnOk result (IsAtEnd (R.remaining reader.new)) }
     ensures sound { OnOk result (R.failed reader.new ≡ false) }
     ensures fault { (losses : Losses) (name : List ℕ) (files : List File) → is_dat name (take filled piece.old) ≡ false
@@ -110,6 +113,7 @@ fn read_input<R: Source>(
     ensures read { (files : List File) → IsAlone losses files → AreFilesRead unsaid page name.now files captured.old
         → OnOk result (AddsRestOf losses page name.now input.old.cpu.0 [] (R.remaining input.old.reader)
         (R.remaining input.new.reader) files captured.new) }
+    ensures wanted { captured.new.wanted ≡ captured.old.wanted }
     ensures end { OnOk result (IsAtEnd (R.remaining input.new.reader)) }
     ensures sound { OnOk result (R.failed input.new.reader ≡ false) }
     ensures fault { (files : List File) → IsAlone losses files → AreFilesRead unsaid page name.now files captured.old
@@ -135,27 +139,33 @@ fn read_input<R: Source>(
 }
 
 /// Nothing is read.
-fn new_captured(alloc: Global) -> Result<Captured, AllocError>
-    ensures { IfOk result (λ captured. (page : ℕ) (name : List ℕ)
+fn new_captured(alloc: Global, wanted: Wanted) -> Result<Captured, AllocError>
+    ensures wanted { IfOk result (λ captured. captured.wanted ≡ wanted) }
+    ensures none { IfOk result (λ captured. (page : ℕ) (name : List ℕ)
         → AreFilesRead unsaid page name [] captured) }
 {
     Ok(Captured {
         cpus: new_cpus(alloc)?,
         names: EventNames::new(alloc),
-        instances: 0,
         others: Vec::new(alloc),
         found: false,
+        wanted,
+        tasks: TaskNames::new(alloc),
+        symbols: SymbolNames::new(alloc),
+        machine: None,
     })
 }
 
 /// Reads all files, one after the other, each to its end. `page` is the size of a raw page, in bytes. Of a file of
 /// trace-cmd the trace buffer of this name is read, of an instance, or, if `name` is empty, the main one; nothing of it
-/// if there is none. With the name of an instance each file has to be one of trace-cmd. After a fault nothing more is
-/// read. A file of trace-cmd is held in memory while it is read, and not longer.
+/// if there is none. With the name of an instance each file has to be one of trace-cmd. Of the kernel's lists of names
+/// those are read that are wanted. Files that say of their machines what differs are refused. After a fault nothing
+/// more is read. A file of trace-cmd is held in memory while it is read, and not longer.
 pub fn read_inputs<R: Source>(
     alloc: Global,
     page: usize,
     name: &[u8],
+    wanted: Wanted,
     inputs: &mut [Input<R>],
 ) -> Result<Captured, Unread>
     requires page { 48 ≤ page }
@@ -164,10 +174,11 @@ pub fn read_inputs<R: Source>(
     requires sound { All (λ input. R.failed input.reader ≡ false) inputs.old }
     ensures read { IfOk result (λ captured. (files : List File)
         × AreRead R.remaining R.failed inputs.old inputs.new files × AreCaptured page name.now files captured) }
+    ensures wanted { IfOk result (λ captured. captured.wanted ≡ wanted) }
     ensures unread { IfErr result (λ unread.
         IsUnread R.remaining R.failed page name.now inputs.old inputs.new unread.input unread.fault) }
 {
-    let Ok(mut captured) = new_captured(alloc) else {
+    let Ok(mut captured) = new_captured(alloc, wanted) else {
         return Err(Unread {
             input: 0,
             fault: InputFault::NoMemory,

@@ -5,7 +5,7 @@ ghost use Rattle.std.specs.Io.KnownBytes.{IsAtEnd};
 ghost use Rattle.trace_model.specs.declared.limits.TheConstants.{MAX_CPUS};
 ghost use Rattle.trace_model.specs.Image.{unknown};
 ghost use Rattle.capture.specs.files.Files.{ModelPart};
-ghost use Rattle.capture.specs.files.Captures.{IsCpuRead, AddsRaw, IsRawPast};
+ghost use Rattle.capture.specs.files.Captures.{IsCpuRead, AddsRaw, IsRawPast, IsRawSmaller};
 
 use crate::files::captured::CpuCapture;
 use crate::{CaptureFault, Extent, Part, ReadFault, read_on};
@@ -49,6 +49,8 @@ pub(crate) fn add_raw<R: Source>(
         → result ≡ Err (ReadFault.Capture CaptureFault.Numbers)
         → IsRawPast cpu (length piece.old) (take filled piece.old) (R.remaining reader.old) (R.remaining reader.new)
         parts }
+    ensures smaller { (bytes : ℕ) → result ≡ Err (ReadFault.SmallerPages bytes) → IsRawSmaller (length piece.old)
+        (take filled piece.old) (R.remaining reader.old) (R.remaining reader.new) bytes }
 {
     let size = piece.len();
     let extent = read_on(alloc, &mut found.capture, piece, filled, reader)?;

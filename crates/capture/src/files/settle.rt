@@ -8,9 +8,10 @@ ghost use Rattle.capture.specs.Pages.{Page};
 ghost use Rattle.capture.specs.Captures.{IsCapture};
 ghost use Rattle.trace_dat.specs.kernel_texts.Counters.{counters_in};
 ghost use Rattle.capture.specs.files.Files.{parts_of_cpu};
-ghost use Rattle.capture.specs.files.Losses.{overrun_at, overrun_of, missed_in, loss_of};
-ghost use Rattle.capture.specs.files.Captures.{IsCpuRead, AreCpusRead, AreCpusCaptured, IsCpuPast, IsCpuCaptured};
-ghost use Rattle.capture.specs.files.Captures.{IsOwnPast};
+ghost use Rattle.capture.specs.files.Losses.{cpu_counters_at, cpu_counters_of, overrun_by, missed_in, loss_of};
+ghost use Rattle.capture.specs.files.Captures.{IsCpuRead, AreCpusRead, AreCpusCaptured, IsCpuPast, IsCpuSettled};
+ghost use Rattle.capture.specs.files.Captures.{IsCpuCaptured, IsOwnPast};
+ghost use Rattle.trace_dat.specs.declared.kernel_texts.counters.Counters.{Counters as ModelCounters};
 ghost use Rattle.capture.specs.files.Giving.{part_seen};
 
 use crate::files::captured::CpuCapture;
@@ -19,36 +20,46 @@ use crate::{Capture, CaptureFault};
 use page_image::Missed;
 use page_numbers::Parcel;
 use std::alloc::Global;
-use trace_dat::kernel_texts::ring_counters;
+use trace_dat::kernel_texts::{Counters, ring_counters};
 use trace_model::{CpuId, MAX_CPUS};
 
 /// How many CPUs there can be.
 const CPUS: usize = MAX_CPUS as usize;
 
 /// Notes the counters that a text has, in place of others of their CPU.
-fn note_counters(overruns: &mut [Option<u64>], text: &[u8])
-    ensures { (cpu : ℕ) (before : Option ℕ) → slice_get overruns.old cpu ≡ Some before
-        → slice_get overruns.new cpu ≡ Some (overrun_at cpu (counters_in text.now) before) }
+fn note_counters(counted: &mut [Option<Counters>], text: &[u8])
+    ensures { (cpu : ℕ) (before : Option ModelCounters) → slice_get counted.old cpu ≡ Some before
+        → slice_get counted.new cpu ≡ Some (cpu_counters_at cpu (counters_in text.now) before) }
 {
     if let Some(counters) = ring_counters(text) {
-        if counters.cpu < overruns.len() as u64 {
-            overruns[counters.cpu as usize] = Some(counters.overrun);
+        if counters.cpu < counted.len() as u64 {
+            counted[counters.cpu as usize] = Some(counters);
         }
     }
 }
 
-/// How many records of each CPU were overwritten, by the first text that has its counters.
-fn overruns_in(texts: &[&[u8]]) -> [Option<u64>; CPUS]
+/// The counters of each CPU, by the first text that has them.
+fn counters_of_cpus(texts: &[&[u8]]) -> [Option<Counters>; CPUS]
     ensures { (cpu : ℕ) → cpu < MAX_CPUS
-        → slice_get result cpu ≡ Some (overrun_of cpu (map (λ text. text.now) texts.now)) }
+        → slice_get result cpu ≡ Some (cpu_counters_of cpu (map (λ text. text.now) texts.now)) }
 {
-    let mut overruns = [None; CPUS];
+    let mut counted = [None; CPUS];
     let mut at = texts.len();
     while at > 0 {
         at -= 1;
-        note_counters(&mut overruns, texts[at]);
+        note_counters(&mut counted, texts[at]);
     }
-    overruns
+    counted
+}
+
+/// How many records were overwritten, by the counters of their CPU.
+fn overrun_by(counters: Option<Counters>) -> Option<u64>
+    ensures { result ≡ overrun_by counters }
+{
+    match counters {
+        Some(counters) => Some(counters.overrun),
+        None => None,
+    }
 }
 
 /// How many numbers parcels miss.
@@ -111,7 +122,7 @@ fn settle_cpu(
     requires cpu { found.old.capture.cpu.0 < MAX_CPUS }
     requires known { (pages : List Page) × IsCapture found.old.capture pages }
     ensures settled { (cpu : ℕ) → IsCpuRead unknown cpu (parts_of_cpu cpu (map part_seen parts.now)) found.old
-        → OnOk result (IsCpuCaptured cpu overrun (parts_of_cpu cpu (map part_seen parts.now)) found.new) }
+        → OnOk result (IsCpuSettled cpu overrun (parts_of_cpu cpu (map part_seen parts.now)) found.new) }
     ensures past { (cpu : ℕ) → IsCpuRead unknown cpu (parts_of_cpu cpu (map part_seen parts.now)) found.old
         → result ≡ Err CaptureFault.Numbers → IsOwnPast overrun cpu (map part_seen parts.now) }
 {
@@ -128,7 +139,28 @@ fn settle_cpu(
     Ok(())
 }
 
-/// Settles the losses of unknown number of all CPUs, of which these are the parts, by texts of counters.
+/// Settles the loss of unknown number of a CPU whose parts are among these by its counters, if there are some, and
+/// keeps the counters.
+fn settle_counted(
+    alloc: Global,
+    found: &mut CpuCapture,
+    parts: &[CpuPart<'_>],
+    counters: Option<Counters>,
+) -> Result<(), CaptureFault>
+    requires cpu { found.old.capture.cpu.0 < MAX_CPUS }
+    requires known { (pages : List Page) × IsCapture found.old.capture pages }
+    ensures settled { (cpu : ℕ) → IsCpuRead unknown cpu (parts_of_cpu cpu (map part_seen parts.now)) found.old
+        → OnOk result (IsCpuCaptured cpu counters (parts_of_cpu cpu (map part_seen parts.now)) found.new) }
+    ensures past { (cpu : ℕ) → IsCpuRead unknown cpu (parts_of_cpu cpu (map part_seen parts.now)) found.old
+        → result ≡ Err CaptureFault.Numbers → IsOwnPast (overrun_by counters) cpu (map part_seen parts.now) }
+{
+    settle_cpu(alloc, found, parts, overrun_by(counters))?;
+    found.counters = counters;
+    Ok(())
+}
+
+/// Settles the losses of unknown number of all CPUs, of which these are the parts, by texts of counters, and keeps the
+/// counters.
 pub(crate) fn settle(
     alloc: Global,
     cpus: &mut [CpuCapture],
@@ -136,14 +168,15 @@ pub(crate) fn settle(
     texts: &[&[u8]],
 ) -> Result<(), CaptureFault>
     requires { AreCpusRead unknown (map part_seen parts.now) cpus.old }
-    ensures settled { OnOk result (AreCpusCaptured (λ cpu. overrun_of cpu (map (λ text. text.now) texts.now))
+    ensures settled { OnOk result (AreCpusCaptured (λ cpu. cpu_counters_of cpu (map (λ text. text.now) texts.now))
         (map part_seen parts.now) cpus.new) }
     ensures past { result ≡ Err CaptureFault.Numbers → (cpu : ℕ)
-        × IsOwnPast (overrun_of cpu (map (λ text. text.now) texts.now)) cpu (map part_seen parts.now) }
+        × IsOwnPast (overrun_by (cpu_counters_of cpu (map (λ text. text.now) texts.now))) cpu
+        (map part_seen parts.now) }
 {
-    let overruns = overruns_in(texts);
+    let counted = counters_of_cpus(texts);
     for cpu in 0..CPUS {
-        settle_cpu(alloc, &mut cpus[cpu], parts, overruns[cpu])?;
+        settle_counted(alloc, &mut cpus[cpu], parts, counted[cpu])?;
     }
     Ok(())
 }

@@ -7,17 +7,12 @@ ghost use Rattle.capture.specs.stamps.Restored.{time_until, restored_word, resto
 ghost use Rattle.capture.specs.stamps.Restored.{restored_image};
 ghost use Rattle.capture.specs.stamps.Walk.{RestoresWord};
 
+use crate::head::{HEADER, stated_size};
 use page_image::number_at;
 use record_words::{Word, next_word, put_extend};
 
 /// The times of stamps and extends are below this: 2^59.
 const TIME_LIMIT: u64 = 1 << 59;
-
-/// How many bytes the header of an image takes.
-const HEADER: usize = 16;
-
-/// Bits 0 to 29 of a commit word, below this bit, are the size of the data.
-const SIZE_LIMIT: u64 = 1 << 30;
 
 /// How far the words of data are restored.
 #[derive(Clone, Copy)]
@@ -112,7 +107,7 @@ pub fn restore_stamps(image: &mut [u8])
         return;
     }
     let time = number_at(image, 0);
-    let size = (number_at(image, 8) % SIZE_LIMIT) as usize;
+    let size = stated_size(image);
     if image.len() - HEADER < size {
         return;
     }

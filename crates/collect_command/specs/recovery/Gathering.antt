@@ -1,4 +1,4 @@
--- How pieces are added to a fleet, and the bytes of those that are new are kept.
+-- How pieces are added to a fleet, and the bytes of some are kept.
 use Rattle.std.specs.Prelude.{◌≡◌, ◌⊎◌, ℕ, List, [], ◌∷◌, ◌++◌, length, ⊤}
 use Rattle.parcel_streams.specs.Pieces.{Packed, AreAllPieces, bytes_of_pieces}
 use Rattle.parcel_streams.specs.Answers.{pieces_seen}
@@ -16,7 +16,7 @@ use Rattle.collect_command.specs.declared.recovery.gather.Stop.TheVariants.{Refu
 use Rattle.collect_command.specs.declared.recovery.gather.StoppedAt.{StoppedAt}
 use Rattle.collect_command.specs.recovery.Telling.{IsToldBy, AreToldBy}
 
--- A fleet, and where the bytes of new pieces are put.
+-- A fleet, and where the bytes of the pieces that are kept are put.
 pub record Gathering (K : Type 0) (g : Ghosts K) : Type 0 where
   pub fleet : List (ℕ × Stream)
   pub out : Out K g
@@ -25,11 +25,11 @@ module _ {K : Type 0} {g : Ghosts K} where
   abbrev pub gathering_of : List (ℕ × Stream) → Out K g → Gathering K g
   gathering_of fleet out = record { fleet = fleet; out = out }
 
-  -- these pieces were added since nothing was there, and the bytes of those that were new were put
+  -- these pieces were added since nothing was there, and the bytes of those that are kept were put
   abbrev pub Has : (start : Start) → Gathering K g → List Piece → Type 0
   Has start at pieces = HasGathered start at.out at.fleet pieces
 
-  -- one piece was added, and its bytes were put if it was new
+  -- one piece was added, and its bytes were put if it is kept
   abbrev pub AddsOne : Piece → (old new : Gathering K g) → Type 0
   AddsOne piece old new = Gathers piece old.fleet old.out new.fleet new.out
 

@@ -1,23 +1,30 @@
 -- What a run of `collect` of streams does with its inputs and its sinks.
-use Rattle.std.specs.Prelude.{◌≡◌, ◌⊎◌, ⊤, ℕ, Bool, true, false, List, [], ◌++◌, Option}
+use Rattle.std.specs.Prelude.{◌≡◌, ◌⊎◌, ⊤, ℕ, Bool, true, false, List, [], ◌∷◌, ◌++◌, Option}
 use Rattle.command_io.specs.Written.{IsTextWritten}
 use Rattle.command_io.specs.declared.command.TheConstants.{MEMORY_LINE}
 use Rattle.stream_collector.specs.Stream.{Stream}
 use Rattle.fleet_collector.specs.declared.refusal.PieceRefusal.{PieceRefusal}
 use Rattle.stream_collector.specs.declared.added.Added.{Added}
-use Rattle.fleet_collector.specs.Pieces.{AddsPiece, IsRefusal}
+use Rattle.fleet_collector.specs.Pieces.{AddsPiece}
+use Rattle.fleet_collector.specs.Told.{IsFleetOf}
 use Rattle.capture_text.specs.declared.form.Form.{Form}
 use Rattle.fleet_text.specs.Listed.{Shown, IsFleetShown, shown_text}
 use Rattle.fleet_text.specs.Faults.{fault_line, is_no_memory}
+use Rattle.fleet_text.specs.Hidden.{AreHiddenRuns, given_by_all, hidden_text}
+use Rattle.fleet_text.specs.Runs.{Run}
+use Rattle.parcel_streams.specs.Pieces.{Packed}
+use Rattle.parcel_streams.specs.Answers.{pieces_seen}
 use Rattle.parcel_streams.specs.declared.source.reader.PieceReader.{PieceReader}
 use Rattle.collect_command.specs.declared.ending.Outcome.{Outcome}
 use Rattle.collect_command.specs.declared.ending.Ending.{Ending}
-use Rattle.collect_command.specs.declared.ending.Ending.TheVariants.{Done, Malformed, NoMemory, NotRead, NotWritten}
+use Rattle.collect_command.specs.declared.ending.Ending.TheVariants.{Done, Hidden, Malformed, NoMemory, NotRead}
+use Rattle.collect_command.specs.declared.ending.Ending.TheVariants.{NotWritten}
+use Rattle.collect_command.specs.declared.streams.gather.Gatherer.{Gatherer}
 use Rattle.collect_command.specs.declared.streams.read.Stop.{Stop}
 use Rattle.collect_command.specs.declared.streams.read.Stop.TheVariants.{Read, Piece as PieceStop}
 use Rattle.collect_command.specs.declared.streams.read.Stopped.{Stopped}
 use Rattle.collect_command.specs.streams.Reading.{Placed, placed, AreWhole, StopsInputs}
-use Rattle.collect_command.specs.streams.Gathering.{IsGathered, pieces_in, piece_lines}
+use Rattle.collect_command.specs.streams.Gathering.{IsGathered, IsNotTaken, pieces_in, piece_lines}
 
 -- the text and then the line for refused memory
 abbrev pub IsMemoryLine : (contents after : Option (List ℕ)) (failed : Bool) → List ℕ → Ending → Type 0
@@ -35,12 +42,25 @@ TellsStop input (PieceStop index at trouble) contents after failed text ending =
     × IsTextWritten NotWritten contents after failed (text ++ fault_line at index trouble) (Malformed input) ending)
     ⊎ IsMemoryLine contents after failed text ending
 
--- what the fleet has was written, or that memory was refused
-pub record IsListed (form : Form) (fleet : List (ℕ × Stream)) (contents after : Option (List ℕ)) (failed : Bool)
-    (ending : Ending) : Type 0 where
+-- how a run ends that lists this: it says whether marks hide a number
+abbrev pub ending_with : (hidden : List Run) → Ending
+ending_with [] = Done
+ending_with (run ∷ runs) = Hidden
+
+-- what the fleet of these pieces has was written, and below it the numbers that marks among the pieces hide
+pub record IsListed (form : Form) (pieces : List Packed) (fleet : List (ℕ × Stream))
+    (contents after : Option (List ℕ)) (failed : Bool) (ending : Ending) : Type 0 where
   pub shown : Shown
   pub is_shown : IsFleetShown fleet shown
-  pub written : IsTextWritten NotWritten contents after failed (shown_text form shown) Done ending
+  pub hidden : List Run
+  pub are_hidden : AreHiddenRuns pieces hidden
+  pub written : IsTextWritten NotWritten contents after failed (shown_text form shown ++ hidden_text form hidden)
+      (ending_with hidden) ending
+
+-- these pieces are all that were taken, and the fleet is theirs
+pub record HasTaken (gatherer : Gatherer) (pieces : List Packed) : Type 0 where
+  pub given_are : gatherer.given ≡ given_by_all pieces
+  pub told : IsFleetOf pieces gatherer.fleet
 
 -- a piece was added to a fleet
 abbrev pub Adds : (old : List (ℕ × Stream)) → Placed → (new : List (ℕ × Stream)) → Type 0
@@ -48,7 +68,7 @@ Adds old placed new = (added : Added) × AddsPiece old new placed.piece added
 
 -- it was refused, and the fleet stays
 abbrev pub IsRefused : (old : List (ℕ × Stream)) → Placed → PieceRefusal → (new : List (ℕ × Stream)) → Type 0
-IsRefused old placed refusal new = (new ≡ old) × IsRefusal old placed.piece refusal
+IsRefused old placed refusal new = (new ≡ old) × IsNotTaken old placed.piece refusal
 
 -- a line was printed for it, and none is refused
 abbrev pub Prints : Unit {0} → Placed → Unit {0} → Type 0
@@ -60,8 +80,8 @@ IsNotPrinted before placed refusal after = ⊥
 module _ {R : Type 0} (remaining : R → Option (List ℕ)) (has_failed : R → Bool) where
   -- ---- a listing
 
-  -- All inputs were read to their ends, and what the fleet of their pieces has is listed, or memory was refused before
-  -- the first line. What was new is kept, in the order of the inputs.
+  -- All inputs were read to their ends, and what the fleet of their pieces has is listed, with what marks hide, or
+  -- memory was refused before the first line. What was new or below a bound is kept, in the order of the inputs.
   pub record ListsAll (form : Form) (old new : List (PieceReader R)) (keep keep_after : Option (List ℕ))
       (keep_failed : Bool)
       (contents after : Option (List ℕ)) (failed : Bool) (outcome : Outcome) : Type 0 where
@@ -69,10 +89,10 @@ module _ {R : Type 0} (remaining : R → Option (List ℕ)) (has_failed : R → 
     pub are_whole : AreWhole remaining has_failed 0 old new pieces
     pub fleet : List (ℕ × Stream)
     pub gathered : IsGathered keep keep_after keep_failed (pieces_in pieces) fleet outcome.is_kept
-    pub told : IsListed form fleet contents after failed outcome.ending
+    pub told : IsListed form (pieces_seen (pieces_in pieces)) fleet contents after failed outcome.ending
         ⊎ IsMemoryLine contents after failed [] outcome.ending
 
-  -- An input wasn't read to its end, and why is all that is written. What was new before is kept.
+  -- An input wasn't read to its end, and why is all that is written. What was new or below a bound before is kept.
   pub record ListsNone (old new : List (PieceReader R)) (keep keep_after : Option (List ℕ)) (keep_failed : Bool)
       (contents after : Option (List ℕ)) (failed : Bool) (outcome : Outcome) : Type 0 where
     pub stopped : Stopped

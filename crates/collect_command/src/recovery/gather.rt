@@ -1,4 +1,4 @@
-//! A fleet of all pieces that the regions state, and the pieces that are new.
+//! A fleet of all pieces that the regions state, and the pieces that are kept.
 ghost use Rattle.std.specs.Prelude.{◌≡◌, ◌<◌, All, IfOk, IfErr, OnOk};
 ghost use Rattle.trace_model.specs.declared.limits.TheConstants.{MAX_CPUS};
 ghost use Rattle.parcel_streams.specs.Pieces.{IsPiece, bytes_of_piece};
@@ -72,7 +72,7 @@ fn pack(alloc: Global, piece: &Piece) -> Result<(Vec<u8>, Piece), NoMemory>
     }
 }
 
-/// Adds a piece to the fleet, and puts its bytes if it is new.
+/// Adds a piece to the fleet, and puts its bytes if it is kept.
 fn add_piece<K: Sink>(
     piece: Piece,
     bytes: &[u8],
@@ -86,11 +86,11 @@ fn add_piece<K: Sink>(
     ensures unchanged { IfErr result (λ _. gathering_of fleet.new out.new ≡ gathering_of fleet.old out.old) }
 {
     match fleet.add_piece(piece) {
-        Ok(Added::New) => {
+        Ok(Added::New | Added::Forgotten) => {
             out.put(bytes);
             Ok(())
         }
-        Ok(Added::Known | Added::Forgotten) => Ok(()),
+        Ok(Added::Known) => Ok(()),
         Err(refusal) => Err(refusal),
     }
 }

@@ -1,9 +1,12 @@
 //! The command `collect` for streams.
-ghost use Rattle.std.specs.Prelude.{◌≡◌, ◌⊎◌, false, ℕ, List, [], All, IfErr, OnOk};
+ghost use Rattle.std.specs.Prelude.{◌≡◌, ◌⊎◌, false, ℕ, List, [], All, IfErr, IfOk, OnErr, OnOk};
 ghost use Rattle.text_values.specs.Putting.{Start, contents_of, has_failed, HasWriter, HasPut, KeepsWriter};
+ghost use Rattle.parcel_streams.specs.Pieces.{Packed};
 ghost use Rattle.parcel_streams.specs.source.Readers.{source_of};
+ghost use Rattle.fleet_text.specs.Hidden.{hidden_of};
 ghost use Rattle.collect_command.specs.streams.Reading.{IsFresh};
 ghost use Rattle.collect_command.specs.streams.Runs.{IsMemoryLine, TellsStop, IsListed, IsStreamRun, IsPrintRun};
+ghost use Rattle.collect_command.specs.streams.Runs.{HasTaken, ending_with};
 ghost use Rattle.collect_command.specs.streams.Runs.{PrintsAll, PrintsSome};
 
 use crate::ending::{Ending, Outcome};
@@ -13,8 +16,7 @@ use crate::streams::print::PiecePrinter;
 use crate::streams::read::{Stop, Stopped, read_inputs};
 use capture_text::Form;
 use command_io::{Sink, Source};
-use fleet_collector::Fleet;
-use fleet_text::{Listed, put_fault};
+use fleet_text::{Hidden, Listed, put_fault};
 use parcel_streams::source::PieceReader;
 use std::alloc::Global;
 use text_values::{Out, TextBuffer, finish, finish_memory};
@@ -39,37 +41,72 @@ fn tell_stop<W: Sink>(out: &mut Out<'_, W>, stopped: Stopped) -> Ending
     }
 }
 
-/// Lists what a fleet has. Nothing was put before.
-fn list_fleet<W: Sink>(alloc: Global, form: Form, fleet: &Fleet, out: &mut Out<'_, W>) -> Ending
+/// How a run ends that lists what is hidden.
+fn ending_with(hidden: &Hidden) -> Ending
+    ensures { result ≡ ending_with (hidden_of hidden.now) }
+{
+    if hidden.is_empty() {
+        Ending::Done
+    } else {
+        Ending::Hidden
+    }
+}
+
+/// Lists what a fleet has, and what is hidden. Nothing was put before.
+fn list_fleet<W: Sink>(
+    alloc: Global,
+    form: Form,
+    gatherer: &Gatherer,
+    out: &mut Out<'_, W>,
+) -> Result<Ending, NoMemory>
     ensures writer { KeepsWriter out.old out.new }
-    ensures listed { (start : Start) → HasPut start [] out.old
-        → IsListed form fleet.now start.contents (contents_of out.new) (has_failed out.new) result
+    ensures listed { (start : Start) (pieces : List Packed) → HasPut start [] out.old → HasTaken gatherer.now pieces
+        → IfOk result (λ ending. IsListed form pieces gatherer.now.fleet start.contents (contents_of out.new)
+        (has_failed out.new) ending) }
+    ensures refused { OnErr result (out.new ≡ out.old) }
+{
+    let listed = Listed::new(alloc, &gatherer.fleet)?;
+    let hidden = Hidden::new(alloc, &gatherer.given, &gatherer.fleet)?;
+    listed.put(out, form);
+    hidden.put(out, form);
+    Ok(finish(out, ending_with(&hidden), Ending::NotWritten))
+}
+
+/// Lists what a fleet has, and what is hidden, or reports that memory was refused. Nothing was put before.
+fn list_or_tell<W: Sink>(
+    alloc: Global,
+    form: Form,
+    gatherer: &Gatherer,
+    out: &mut Out<'_, W>,
+) -> Ending
+    ensures writer { KeepsWriter out.old out.new }
+    ensures listed { (start : Start) (pieces : List Packed) → HasPut start [] out.old → HasTaken gatherer.now pieces
+        → IsListed form pieces gatherer.now.fleet start.contents (contents_of out.new) (has_failed out.new) result
         ⊎ IsMemoryLine start.contents (contents_of out.new) (has_failed out.new) [] result }
 {
-    match Listed::new(alloc, fleet) {
-        Ok(listed) => {
-            listed.put(out, form);
-            finish(out, Ending::Done, Ending::NotWritten)
-        }
+    match list_fleet(alloc, form, gatherer, out) {
+        Ok(ending) => ending,
         Err(NoMemory) => finish_memory(out, Ending::NoMemory, Ending::NotWritten),
     }
 }
 
-/// Writes what a fleet has, through this buffer.
+/// Writes what a fleet has, and what is hidden, through this buffer.
 fn write_fleet<W: Sink>(
     alloc: Global,
     form: Form,
-    fleet: &Fleet,
+    gatherer: &Gatherer,
     buffer: TextBuffer,
     writer: &mut W,
 ) -> Ending
     requires { W.failed writer.old ≡ false }
-    ensures { IsListed form fleet.now (W.contents writer.old) (W.contents writer.new) (W.failed writer.new) result
+    ensures { (pieces : List Packed) → HasTaken gatherer.now pieces
+        → IsListed form pieces gatherer.now.fleet (W.contents writer.old) (W.contents writer.new)
+        (W.failed writer.new) result
         ⊎ IsMemoryLine (W.contents writer.old) (W.contents writer.new) (W.failed writer.new) [] result }
 {
     let mut buffer = buffer;
     let mut out = Out::new(&mut buffer, writer);
-    list_fleet(alloc, form, fleet, &mut out)
+    list_or_tell(alloc, form, gatherer, &mut out)
 }
 
 /// Writes why an input isn't read to its end, through this buffer.
@@ -88,26 +125,28 @@ fn end_run<W: Sink>(
     alloc: Global,
     form: Form,
     read: Result<(), Stopped>,
-    fleet: &Fleet,
+    gatherer: &Gatherer,
     buffer: TextBuffer,
     writer: &mut W,
 ) -> Ending
     requires { W.failed writer.old ≡ false }
-    ensures listed { OnOk read (IsListed form fleet.now (W.contents writer.old) (W.contents writer.new)
+    ensures listed { OnOk read ((pieces : List Packed) → HasTaken gatherer.now pieces
+        → IsListed form pieces gatherer.now.fleet (W.contents writer.old) (W.contents writer.new)
         (W.failed writer.new) result
         ⊎ IsMemoryLine (W.contents writer.old) (W.contents writer.new) (W.failed writer.new) [] result) }
     ensures told { IfErr read (λ stopped. TellsStop stopped.input stopped.stop (W.contents writer.old)
         (W.contents writer.new) (W.failed writer.new) [] result) }
 {
     match read {
-        Ok(()) => write_fleet(alloc, form, fleet, buffer, writer),
+        Ok(()) => write_fleet(alloc, form, gatherer, buffer, writer),
         Err(stopped) => write_stop(buffer, writer, stopped),
     }
 }
 
 /// Lists what the pieces of all inputs say together: their records by time, and which numbers are missing, unknown,
-/// undelivered or forgotten. The bytes of each piece that is new when it comes are written to `keep`. Nothing is
-/// written to `writer` before all inputs are read, and memory is asked for only before the first byte is written.
+/// undelivered, forgotten or hidden. The bytes of each piece that is new when it comes, or is below a bound, are
+/// written to `keep`. Nothing is written to `writer` before all inputs are read, and memory is asked for only before
+/// the first byte is written.
 pub fn collect_streams<R: Source, K: Sink, W: Sink>(
     alloc: Global,
     form: Form,
@@ -135,7 +174,7 @@ pub fn collect_streams<R: Source, K: Sink, W: Sink>(
     let mut keeping = Out::new(&mut kept, keep);
     let read = read_inputs(alloc, inputs, &mut gatherer, &mut keeping);
     let is_kept = keeping.finish().is_ok();
-    let ending = end_run(alloc, form, read, &gatherer.fleet, buffer, writer);
+    let ending = end_run(alloc, form, read, &gatherer, buffer, writer);
     Outcome { ending, is_kept }
 }
 

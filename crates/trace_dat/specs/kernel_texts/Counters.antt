@@ -1,13 +1,22 @@
--- The counters of a CPU's ring, as the kernel prints them.
+-- The counters of a CPU's ring, as the kernel prints them (kernel/trace/trace.c, tracing_stats_read).
 use Rattle.std.specs.Prelude.{ℕ, List, [], ◌∷◌, Option, unwrap_or, codes, bytes_eq, if◌then◌else◌}
 use Rattle.std.specs.Option.{option_and_then, option_map}
 use Rattle.trace_dat.specs.declared.kernel_texts.counters.Counters.{Counters}
 use Rattle.trace_dat.specs.kernel_texts.Lines.{value_in, number_in}
 
--- the CPU and how many records were overwritten: both have a line
+-- the number behind this beginning of a line, or 0 if there is none
+unfoldable pub count_in : (key text : List ℕ) → ℕ
+count_in key text = unwrap_or (option_and_then number_in (value_in key text)) 0
+
+-- the CPU and what is counted: the CPU and the records that were overwritten have a line, the others may have one
 unfoldable pub counters_in : List ℕ → Option Counters
 counters_in text =
-    option_and_then (λ cpu. option_map (λ overrun. record { cpu = cpu; overrun = overrun })
+    option_and_then (λ cpu. option_map (λ overrun. record {
+      cpu = cpu;
+      overrun = overrun;
+      commit_overrun = count_in (codes "commit overrun: ") text;
+      dropped = count_in (codes "dropped events: ") text;
+    })
     (option_and_then number_in (value_in (codes "overrun: ") text)))
     (option_and_then number_in (value_in (codes "CPU: ") text))
 

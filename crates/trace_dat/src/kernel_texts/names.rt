@@ -89,6 +89,7 @@ pub struct EventNames {
 }
 
 impl EventNames {
+    ghost use Rattle.std.specs.Prelude.{Some, None, IfSome, IfNone, ◌≤◌, ◌<◌, ◌^◌};
     ghost use Rattle.trace_dat.specs.kernel_texts.Names.{event_seen, events_of, HasEvents, HasEventsOfSome};
 
     /// No event.
@@ -134,5 +135,19 @@ impl EventNames {
         ensures { option_map event_seen result ≡ events_of self.now id }
     {
         self.events.get(&id).map(OwnedEvent::lent)
+    }
+
+    /// The event of the least number that isn't below this one, with its number; None if there is none. A number of
+    /// 65,536 or more is above those of all events: so what follows the event `id` is found from `id + 1` on, whatever
+    /// `id` is.
+    pub fn next_event(&self, from: u32) -> Option<(u16, EventName<'_>)>
+        ensures there { IfSome result (λ next. events_of self.now next.0 ≡ Some (event_seen next.1)) }
+        ensures above { IfSome result (λ next. from ≤ next.0) }
+        ensures least { IfSome result (λ next. (id : ℕ) → from ≤ id → id < next.0 → events_of self.now id ≡ None) }
+        ensures none { IfNone result ((id : ℕ) → from ≤ id → id < 2 ^ 16 → events_of self.now id ≡ None) }
+    {
+        let from = u16::try_from(from).ok()?;
+        let (id, event) = self.events.range(from..).next()?;
+        Some((*id, event.lent()))
     }
 }

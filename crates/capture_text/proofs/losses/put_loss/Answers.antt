@@ -1,5 +1,5 @@
 use Rattle.text_values.proofs.Chains.{put_then, put_same}
-use Rattle.capture_text.proofs.UnknownLosses.{text_loss, json_loss}
+use Rattle.capture_text.proofs.SaidNumbers.{text_loss, json_loss}
 use Rattle.capture_text.proofs.losses.put_loss.Goals as goal
 
 pub returns-in-Text : goal.returns-in-Text

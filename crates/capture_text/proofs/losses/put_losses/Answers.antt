@@ -2,7 +2,7 @@ use Rattle.std.specs.Option.{option_map}
 use Rattle.text_values.proofs.Chains.{put_then, put_same}
 use Rattle.capture_text.specs.Window.{bound_seen}
 use Rattle.capture_text.specs.Listed.{listed_loss}
-use Rattle.capture_text.proofs.UnknownLosses.{losses_more}
+use Rattle.capture_text.proofs.SaidNumbers.{losses_more}
 use Rattle.capture_text.proofs.losses.put_losses.Goals as goal
 
 pub loop-number-preserved : goal.loop-number-preserved

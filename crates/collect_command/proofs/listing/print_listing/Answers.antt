@@ -1,4 +1,4 @@
-use Rattle.std.proofs.Common.{rules, ◌≡◌, ◌++◌, ℕ, [], Bool, true, Option, flat_map, ◌∙◌, ap, ap₂, sym, subst}
+use Rattle.std.proofs.Common.{rules, ◌≡◌, ◌++◌, ℕ, [], Bool, true, false, Option, flat_map, ◌∙◌, ap, ap₂, sym, subst}
 use Rattle.std.proofs.Common.{◌+◌, ◌-◌, ◌^◌, min, arith}
 use Rattle.std.specs.Prelude.{count_by, fold}
 use Rattle.std.specs.Result.{is_ok}
@@ -6,6 +6,7 @@ use Rattle.world_model.specs.Printing.{Shown}
 use Rattle.capture.specs.Rings.{parcels_of_captures}
 use Rattle.capture_text.specs.declared.form.Form.{Form}
 use Rattle.capture_text.specs.declared.printer.Printer.{Printer}
+use Rattle.capture_text.specs.declared.selection.Selection.{Selection}
 use Rattle.capture_text.specs.Selection.{selection_seen}
 use Rattle.capture_text.specs.Window.{KnownBound, bound_at, bound_by, listed_bound, noted_of}
 use Rattle.capture_text.specs.Listed.{listed_line, is_listed_cut, listed_runs}
@@ -15,7 +16,7 @@ use Rattle.text_values.specs.Putting.{start_of, contents_of, has_failed, HasPut}
 use Rattle.collect_command.specs.declared.ending.Listed.{Listed}
 use Rattle.collect_command.specs.declared.ending.Ending.{Ending}
 use Rattle.collect_command.specs.declared.ending.Ending.TheVariants.{NotWritten}
-use Rattle.collect_command.specs.Listings.{bounds_by, all_unknown, all_damaged, ending_of, are_all_intact}
+use Rattle.collect_command.specs.Listings.{bounds_by, all_unknown, all_damaged, all_sums, ending_of, are_all_intact}
 use Rattle.collect_command.specs.Listings.{listing_text, IsListed}
 use Rattle.collect_command.proofs.Printing.{walked, walked_form, walked_selection, walked_cut, walked_bound}
 use Rattle.collect_command.proofs.Printing.{same_put, same_print, ended}
@@ -25,7 +26,7 @@ from_none : (n : ℕ) → 0 + n ≡ n
 from_none n = omega arith
 
 pub returns-clause-listed : goal.returns-clause-listed
-returns-clause-listed g c detail parts captures describes read =
+returns-clause-listed g c detail counted parts captures describes read are =
     let form = c.args.form in
     let selected = selection_seen c.args.selection in
     let printer : Printer = record {
@@ -65,15 +66,22 @@ returns-clause-listed g c detail parts captures describes read =
     same_put start c.print_unknown.new.out
     (ap₂ (λ (f : Form) (b : ℕ → Option KnownBound). known ++ all_unknown f b 0 captures) same_form same_bounds)
     (c.print_unknown.ensures parts captures read start known runs) in
-    let damaged : HasPut start (listing_text form detail selected parts shown captures) c.print_damaged.new.out =
+    let lost = known ++ all_unknown form bounds 0 captures in
+    let damaged : HasPut start (lost ++ all_damaged form bounds parts 0 captures) c.print_damaged.new.out =
     same_put start c.print_damaged.new.out
-    (ap₂ (λ (f : Form) (b : ℕ → Option KnownBound).
-    (known ++ all_unknown form bounds 0 captures) ++ all_damaged f b parts 0 captures) same_form same_bounds)
-    (c.print_damaged.ensures parts captures read start (known ++ all_unknown form bounds 0 captures) unknown) in
+    (ap₂ (λ (f : Form) (b : ℕ → Option KnownBound). lost ++ all_damaged f b parts 0 captures) same_form same_bounds)
+    (c.print_damaged.ensures parts captures read start lost unknown) in
+    let summed : HasPut start (listing_text form detail selected counted parts shown captures) c.print_sums.new.out =
+    same_put start c.print_sums.new.out
+    (ap₂ (λ (f : Form) (s : Selection).
+    (lost ++ all_damaged form bounds parts 0 captures)
+    ++ all_sums f (selection_seen s) counted missing.0 0 captures) same_form same_selection)
+    (c.print_sums.ensures counted parts captures missing.0 read are missing.1 start
+    (lost ++ all_damaged form bounds parts 0 captures) damaged) in
     let after = c.finish.new.self in
-    let text = listing_text form detail selected parts shown captures in
-    let all = c.finish.ensures.all start text damaged in
-    let prefix = c.finish.ensures.prefix start text damaged in
+    let text = listing_text form detail selected counted parts shown captures in
+    let all = c.finish.ensures.all start text summed in
+    let prefix = c.finish.ensures.prefix start text summed in
     let end =
     ended c.finish.result (has_failed after) (are_all_intact captures) start.contents (contents_of after) text all
     prefix c.finish.ensures.fault in
@@ -86,9 +94,10 @@ returns-clause-listed g c detail parts captures describes read =
       ending = c.ending_of.result;
       cut = c.walk_lines.new.taker.cut;
       malformed = c.args.malformed;
+      is_unnamed = false;
     } in
-    let listed : IsListed form detail selected parts captures start.contents (contents_of after) (has_failed after)
-    said =
+    let listed : IsListed form detail selected counted parts captures start.contents (contents_of after)
+    (has_failed after) said =
     record {
       shown = shown;
       is_print =
@@ -103,5 +112,5 @@ returns-clause-listed g c detail parts captures describes read =
       cut_is = cut ∙ ap (λ (n : ℕ). min n (2 ^ 64 - 1)) (from_none (count_by (is_listed_cut detail selected) walk.0));
       malformed_are = describes.malformed_are;
     } in
-    let name = c.finish.ensures.writer start _ damaged ∙ c.new-out.ensures.same_writer in
+    let name = c.finish.ensures.writer start _ summed ∙ c.new-out.ensures.same_writer in
     search rules

@@ -7,6 +7,9 @@ use Rattle.command_line.proofs.CommandLineLemmas.{parsed_collect}
 use Rattle.command_line.proofs.CollectExamples.{asked_collect, asked_cpu, asked_dashes, asked_flags, asked_fields}
 use Rattle.command_line.proofs.CollectExamples.{asked_formats, asked_keep, asked_page, asked_parcels, refused_none}
 use Rattle.command_line.proofs.CollectExamples.{refused_high, refused_inputs, refused_small}
+use Rattle.command_line.proofs.CollectExamples.{asked_follow, asked_tasks, asked_symbols, asked_part, asked_span}
+use Rattle.command_line.proofs.CollectExamples.{refused_falling, refused_backwards, refused_empty_pid}
+use Rattle.command_line.proofs.CollectExamples.{refused_no_round, refused_follow_since, refused_round}
 use Rattle.command_line.proofs.RecoverExamples.{asked_recover, asked_to_keep, refused_no_region, refused_two_inputs}
 use Rattle.command_line.proofs.RecoverExamples.{refused_with_page}
 use Rattle.command_line.proofs.Ranges.{asked_in_range}
@@ -15,9 +18,10 @@ use Rattle.command_line.proofs.parse.call_of.Goals as goal
 pub returns-clause-in_range : goal.returns-clause-in_range
 returns-clause-in_range g c = λ asked is.
     let words = map g.S.AsStr.text c.args.words.now in
-    asked_in_range _ asked
-    (parsed_collect words c.read_words.result asked (is_version words) (is_help words) refl refl c.read_words.ensures
-    is)
+    let parsed =
+    parsed_collect words c.read_words.result asked (is_version words) (is_help words) refl refl c.read_words.ensures
+    is in
+    asked_in_range _ asked parsed.0 parsed.1
 
 pub returns-clause-replay : goal.returns-clause-replay
 returns-clause-replay g c = λ first words.
@@ -147,3 +151,47 @@ returns-clause-help_word g c = λ first words. (rw words at c.read_words.ensures
 
 pub returns-clause-version_and_help : goal.returns-clause-version_and_help
 returns-clause-version_and_help g c = λ first words. (rw words at c.read_words.ensures).help refl
+
+pub returns-clause-collect_tasks : goal.returns-clause-collect_tasks
+returns-clause-collect_tasks g c = λ first words.
+    asked_tasks first c.read_words.result ((rw words at c.read_words.ensures).parsed refl refl)
+
+pub returns-clause-collect_symbols : goal.returns-clause-collect_symbols
+returns-clause-collect_symbols g c = λ first words.
+    asked_symbols first c.read_words.result ((rw words at c.read_words.ensures).parsed refl refl)
+
+pub returns-clause-collect_part : goal.returns-clause-collect_part
+returns-clause-collect_part g c = λ first words.
+    asked_part first c.read_words.result ((rw words at c.read_words.ensures).parsed refl refl)
+
+pub returns-clause-collect_span : goal.returns-clause-collect_span
+returns-clause-collect_span g c = λ first words.
+    asked_span first c.read_words.result ((rw words at c.read_words.ensures).parsed refl refl)
+
+pub returns-clause-collect_falling : goal.returns-clause-collect_falling
+returns-clause-collect_falling g c = λ first words.
+    refused_falling first c.read_words.result ((rw words at c.read_words.ensures).parsed refl refl)
+
+pub returns-clause-collect_backwards : goal.returns-clause-collect_backwards
+returns-clause-collect_backwards g c = λ first words.
+    refused_backwards first c.read_words.result ((rw words at c.read_words.ensures).parsed refl refl)
+
+pub returns-clause-collect_empty_pid : goal.returns-clause-collect_empty_pid
+returns-clause-collect_empty_pid g c = λ first words.
+    refused_empty_pid first c.read_words.result ((rw words at c.read_words.ensures).parsed refl refl)
+
+pub returns-clause-collect_follow : goal.returns-clause-collect_follow
+returns-clause-collect_follow g c = λ first words.
+    asked_follow first c.read_words.result ((rw words at c.read_words.ensures).parsed refl refl)
+
+pub returns-clause-collect_no_round : goal.returns-clause-collect_no_round
+returns-clause-collect_no_round g c = λ first words.
+    refused_no_round first c.read_words.result ((rw words at c.read_words.ensures).parsed refl refl)
+
+pub returns-clause-collect_follow_since : goal.returns-clause-collect_follow_since
+returns-clause-collect_follow_since g c = λ first words.
+    refused_follow_since first c.read_words.result ((rw words at c.read_words.ensures).parsed refl refl)
+
+pub returns-clause-collect_round : goal.returns-clause-collect_round
+returns-clause-collect_round g c = λ first words.
+    refused_round first c.read_words.result ((rw words at c.read_words.ensures).parsed refl refl)

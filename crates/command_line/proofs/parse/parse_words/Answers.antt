@@ -32,7 +32,7 @@ returns-in-Ok g c =
     subst (λ (a : App). fault_of a words ≡ []) built
     (c.in_ok-matches.ensures.kinds (ap is_simple_and_free built ∙ command_line_is_free)) in
     collect_call-words words m (found_of c.in-Some.found.now) c.in-Ok.call has accepted (search rules)
-    c.in-Some.ensures.rows c.in-Ok.ensures.asked
+    c.in-Some.ensures.rows c.in-Ok.ensures.asked c.in-Ok.ensures.together
 
 pub returns-in-Some : goal.returns-in-Some
 returns-in-Some g c =

@@ -6,4 +6,4 @@ use Rattle.fleet_text.proofs.lines.put_runs.Given as goal
 
 abbrev pub invariant-loop-run : goal.invariant-loop-run
 invariant-loop-run g l =
-    Puts (flat_map (run_line l.form l.kind) (map run_seen (take l.run-index l.runs))) l.fn.out l.out
+    Puts (flat_map (run_line l.form l.name) (map run_seen (take l.run-index l.runs))) l.fn.out l.out

@@ -3,7 +3,7 @@ use Rattle.fleet_text.proofs.lines.put_text_run.Goals as goal
 
 pub returns : goal.returns
 returns g c = λ start text has.
-    let put0 = rw c.kind_name.ensures at (c.put.ensures start text has) in
+    let put0 = c.put.ensures start text has in
     let put1 = c.put-2.ensures start _ put0 in
     let put2 = c.put_cpu.ensures start _ put1 in
     let put3 = c.put_numbered.ensures start _ put2 in

@@ -1,4 +1,4 @@
-use Rattle.std.proofs.Common.{◌≡◌, ◌<◌, false, length, sym, subst, arith}
+use Rattle.std.proofs.Common.{◌≡◌, ◌∙◌, ◌<◌, false, length, sym, subst, arith}
 use Rattle.trace_model.specs.declared.limits.TheConstants.{MAX_CPUS}
 use Rattle.capture.proofs.InputsRead.{IsChosen, reads-none, as-first, within, is-unsaid, reads-next}
 use Rattle.capture.proofs.InputsRead.{reads-unread, reads-all, first-unread}
@@ -15,13 +15,14 @@ loop-at-init g c = record {
   reads =
       reads-none g.R.Source.remaining g.R.Source.failed c.if-inputs-eq1.losses c.args.page c.args.name.now
       c.args.inputs.now
-      c.in-Ok.captured (c.in-Ok.ensures c.args.page c.args.name.now);
+      c.in-Ok.captured (c.in-Ok.ensures.none c.args.page c.args.name.now);
   chosen = elim c.if-inputs-eq1.branch [
     | then-inputs-eq1 w ↦ subst (λ losses. IsChosen losses (length c.args.inputs.now)) (sym w.losses-is)
         w.if-inputs-eq1.true
     | else-inputs-eq1 w ↦ subst (λ losses. IsChosen losses (length c.args.inputs.now)) (sym w.losses-is)
         w.if-inputs-eq1.false
   ];
+  wanted = c.in-Ok.ensures.wanted;
 }
 
 pub read_input-requires-clause-cpu : goal.read_input-requires-clause-cpu
@@ -87,6 +88,7 @@ loop-at-preserved g c =
           (c.in_default-read_input.ensures.read c.loop-at.invariant.reads.files now.0 now.1)
           c.in_default-read_input.ensures.end c.in_default-read_input.ensures.sound;
       chosen = c.loop-at.invariant.chosen;
+      wanted = c.read_input.ensures.wanted ∙ c.loop-at.invariant.wanted;
     }
 
 pub returns-clause-read : goal.returns-clause-read

@@ -6,7 +6,7 @@ use Rattle.trace_model.specs.Image.{unknown}
 use Rattle.capture.specs.declared.files.captured.CpuCapture.{CpuCapture}
 use Rattle.capture.specs.files.Files.{File, ModelPart, is_dat, parts_of_cpu}
 use Rattle.capture.proofs.CpuLists.{cpus-more, cpu-past}
-use Rattle.capture.proofs.FilesMore.{as-read, raw-added, raw-past}
+use Rattle.capture.proofs.FilesMore.{as-read, raw-added, raw-past, smaller-raw}
 use Rattle.capture.proofs.Prefixes.{raw-more}
 use Rattle.capture.proofs.RestFaults.{not-failed, raw-fault}
 use Rattle.capture.proofs.files.inputs.read_raw.Goals as goal
@@ -50,6 +50,16 @@ returns-in_err-add_raw-clause-fault g c = λ losses name files first_raw was.
     (λ broken. c.add_raw.ensures.read_fault.1 (c.in_err-add_raw.was ∙ ap Err broken))
     (λ other.
     not-failed _ (λ failed. other (let e = sym c.in_err-add_raw.was ∙ c.add_raw.ensures.read_fault.0 failed in cc)))
+    (λ smaller is.
+    let shown = c.add_raw.ensures.smaller smaller (c.in_err-add_raw.was ∙ ap Err is) in
+    let file : File = record { cpu = cpu; bytes = first ++ shown.more } in
+    let raw : is_dat name file.bytes ≡ false =
+    raw-more (length c.args.piece.now) name first shown.more c.requires.some shown.no_more first_raw in (
+      shown.more,
+      shown.taken,
+      smaller-raw (length c.args.piece.now) name files file smaller raw shown.smaller_is,
+      λ dat. absurd (let e = sym raw ∙ dat in cc),
+    ))
     (λ numbers.
     let past = c.add_raw.ensures.past cpu (parts_of_cpu cpu was.parts) own (c.in_err-add_raw.was ∙ ap Err numbers) in
     let file : File = record { cpu = cpu; bytes = first ++ past.more } in
@@ -57,7 +67,7 @@ returns-in_err-add_raw-clause-fault g c = λ losses name files first_raw was.
     raw-more (length c.args.piece.now) name first past.more c.requires.some past.rest.no_more first_raw in (
       past.more,
       past.rest.taken,
-      raw-past losses (length c.args.piece.now) name files file c.args.captured.now was raw
+      raw-past losses (length c.args.piece.now) name files file c.args.captured.now was raw past.rest.none_smaller
           (cpu-past unknown was.parts (record { cpu = cpu; size = length c.args.piece.now; bytes = file.bytes })
           past.past),
     )))
@@ -81,6 +91,7 @@ returns-clause-read g c = λ losses name files first_raw was.
       more = adds.more;
       taken = adds.rest.taken;
       added = raw-added losses (length c.args.piece.now) name files file c.args.captured.now _ was raw
+          adds.rest.none_smaller
           (cpus-more unknown was.parts part items c.add_raw.new.found (as-read was.parts items was.cpus_are) adds.read)
-          refl refl refl refl;
+          refl refl refl refl refl refl refl;
     }

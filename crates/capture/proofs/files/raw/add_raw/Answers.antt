@@ -5,7 +5,7 @@ use Rattle.capture.specs.Pages.{Page, told, Fit}
 use Rattle.capture.specs.Captures.{IsCapture}
 use Rattle.capture.specs.declared.part.Part.{Part}
 use Rattle.capture.specs.declared.pages.CaptureFault.TheVariants.{Numbers}
-use Rattle.capture.specs.declared.read.ReadFault.TheVariants.{Capture as CaptureIs}
+use Rattle.capture.specs.declared.read.ReadFault.TheVariants.{Capture as CaptureIs, SmallerPages}
 use Rattle.capture.proofs.Told.{all-told-unknown}
 use Rattle.capture.specs.files.Files.{ModelPart}
 use Rattle.capture.specs.files.Captures.{CountsPart, measured}
@@ -21,7 +21,7 @@ returns-in_err-extent-clause-past g c = λ cpu parts was numbers.
     record { cpu = cpu; size = length c.args.piece.now; bytes = take c.args.filled c.args.piece.now ++ on.bytes } in
     record {
       more = on.bytes;
-      rest = record { taken = on.taken; no_more = on.no_more };
+      rest = record { taken = on.taken; no_more = on.no_more; none_smaller = on.none_smaller };
       past =
           pages-past unknown cpu parts part c.args.found.now was part.bytes [] on.pages (sym (append-nil part.bytes))
           on.cut
@@ -37,7 +37,7 @@ returns-in_err-part-clause-past g c = λ cpu parts was numbers.
     let long = c.part_of.ensures.past reported in
     record {
       more = on.bytes;
-      rest = record { taken = on.taken; no_more = on.no_more };
+      rest = record { taken = on.taken; no_more = on.no_more; none_smaller = on.none_smaller };
       past = bytes-past unknown cpu parts part c.args.found.now was on.pages on.cut (omega (arith, on.extent_is, long));
     }
 
@@ -51,7 +51,7 @@ returns-in_err-count_part-clause-past g c = λ cpu parts was numbers.
     let is = ap (λ (p : Part). p.length) c.in_ok-part.ensures.part in
     record {
       more = on.bytes;
-      rest = record { taken = on.taken; no_more = on.no_more };
+      rest = record { taken = on.taken; no_more = on.no_more; none_smaller = on.none_smaller };
       past =
           bytes-past unknown cpu parts part c.args.found.now was on.pages on.cut
           (omega (arith, on.extent_is, long, is));
@@ -68,7 +68,7 @@ returns-clause-read g c = λ cpu parts was.
     ∙ ap (λ (n : ℕ). record { size = length c.args.piece.now; length = n }) (sym on.extent_is) in
     record {
       more = on.bytes;
-      rest = record { taken = on.taken; no_more = on.no_more };
+      rest = record { taken = on.taken; no_more = on.no_more; none_smaller = on.none_smaller };
       read = cpu-more unknown cpu parts part on.pages c.args.found.now c.count_part.new.self was on.cut
           (subst (λ (ps : List Page). IsCapture c.read_on.new.capture (before ++ ps)) (sym (all-told-unknown on.pages))
           on.capture_is)
@@ -78,3 +78,9 @@ returns-clause-read g c = λ cpu parts was.
           CountsPart (record c.args.found.now { capture = c.read_on.new.capture }) c.count_part.new.self p) is
           c.in_ok-count_part.ensures.counted);
     }
+
+pub returns-in_err-extent-clause-smaller : goal.returns-in_err-extent-clause-smaller
+returns-in_err-extent-clause-smaller g c = λ smaller is.
+    let reported : c.read_on.result ≡ Err (SmallerPages smaller) = grind (arith, common_steps) in
+    let on = c.read_on.ensures.smaller smaller reported in
+    record { more = on.bytes; taken = on.taken; no_more = on.no_more; smaller_is = on.smaller_is }

@@ -6,9 +6,11 @@ use Rattle.std.proofs.lemmas.Option.{slice_get-get_or, slice_get_within}
 use Rattle.capture.specs.declared.pages.CaptureFault.TheVariants.{Numbers}
 use Rattle.capture.specs.declared.files.captured.CpuCapture.{CpuCapture}
 use Rattle.capture.specs.files.Files.{parts_of_cpu}
+use Rattle.trace_dat.specs.declared.kernel_texts.counters.Counters.{Counters}
+use Rattle.capture.specs.files.Losses.{overrun_by}
 use Rattle.capture.specs.files.Captures.{IsCpuCaptured, IsOwnPast}
 use Rattle.capture.specs.files.Giving.{part_seen}
-use Rattle.capture.proofs.Settled.{settled-next, plain-capture, overrun-at}
+use Rattle.capture.proofs.Settled.{settled-next, plain-capture, counted-at}
 use Rattle.capture.proofs.files.settle.settle.Goals as goal
 
 pub loop-cpu-init : goal.loop-cpu-init
@@ -18,11 +20,11 @@ loop-cpu-init c = record {
     done = λ cpu found at below. absurd (omega (arith, below));
     left = λ cpu found at above. c.requires.each cpu found at;
   };
-  known = c.overruns_in-overruns.ensures;
+  known = c.counters_of_cpus-counted.ensures;
 }
 
-pub settle_cpu-requires : goal.settle_cpu-requires
-settle_cpu-requires c =
+pub settle_counted-requires : goal.settle_counted-requires
+settle_counted-requires c =
     let at : ℕ = c.loop-cpu.cpu in
     let found : CpuCapture = get_or c.loop-cpu.cpus at c.index-cpus-cpu.result in
     let here : slice_get c.loop-cpu.cpus at ≡ Some found =
@@ -34,19 +36,19 @@ settle_cpu-requires c =
       known = (own.pages, plain-capture at _ found own);
     }
 
-pub returns-in_err-settle_cpu-clause-past : goal.returns-in_err-settle_cpu-clause-past
-returns-in_err-settle_cpu-clause-past c = λ numbers.
+pub returns-in_err-settle_counted-clause-past : goal.returns-in_err-settle_counted-clause-past
+returns-in_err-settle_counted-clause-past c = λ numbers.
     let at : ℕ = c.loop-cpu.cpu in
     let found : CpuCapture = get_or c.loop-cpu.cpus at c.index-cpus-cpu.result in
     let here : slice_get c.loop-cpu.cpus at ≡ Some found =
     slice_get-get_or c.loop-cpu.cpus at c.index-cpus-cpu.result
     (omega (arith, c.loop-cpu-test.true, c.loop-cpu.invariant.count)) in
     let own = c.loop-cpu.invariant.settled.left at found here (omega arith) in
-    let reported : c.settle_cpu.result ≡ Err Numbers = grind (arith, common_steps) in (
+    let reported : c.settle_counted.result ≡ Err Numbers = grind (arith, common_steps) in (
       at,
-      subst (λ (o : Option ℕ). IsOwnPast o at (map part_seen c.args.parts.now))
-          (overrun-at c.overruns_in-overruns.result at _ _ (c.loop-cpu.invariant.known at c.loop-cpu-test.true))
-          (c.settle_cpu.ensures.past at own reported),
+      subst (λ (o : Option Counters). IsOwnPast (overrun_by o) at (map part_seen c.args.parts.now))
+          (counted-at c.counters_of_cpus-counted.result at _ _ (c.loop-cpu.invariant.known at c.loop-cpu-test.true))
+          (c.settle_counted.ensures.past at own reported),
     )
 
 pub loop-cpu-preserved : goal.loop-cpu-preserved
@@ -58,13 +60,13 @@ loop-cpu-preserved c =
     (omega (arith, c.loop-cpu-test.true, c.loop-cpu.invariant.count)) in
     let own = c.loop-cpu.invariant.settled.left at found here (omega arith) in
     let new =
-    subst (λ (o : Option ℕ).
-    IsCpuCaptured at o (parts_of_cpu at (map part_seen c.args.parts.now)) c.settle_cpu.new.found)
-    (overrun-at c.overruns_in-overruns.result at _ _ (c.loop-cpu.invariant.known at c.loop-cpu-test.true))
-    (c.in_ok-settle_cpu.ensures.settled at own) in
+    subst (λ (o : Option Counters).
+    IsCpuCaptured at o (parts_of_cpu at (map part_seen c.args.parts.now)) c.settle_counted.new.found)
+    (counted-at c.counters_of_cpus-counted.result at _ _ (c.loop-cpu.invariant.known at c.loop-cpu-test.true))
+    (c.in_ok-settle_counted.ensures.settled at own) in
     record {
-      count = length-set c.loop-cpu.cpus at c.settle_cpu.new.found ∙ c.loop-cpu.invariant.count;
-      settled = settled-next _ _ at c.loop-cpu.cpus c.settle_cpu.new.found c.loop-cpu.invariant.settled new;
+      count = length-set c.loop-cpu.cpus at c.settle_counted.new.found ∙ c.loop-cpu.invariant.count;
+      settled = settled-next _ _ at c.loop-cpu.cpus c.settle_counted.new.found c.loop-cpu.invariant.settled new;
       known = c.loop-cpu.invariant.known;
     }
 

@@ -1,7 +1,6 @@
-use Rattle.std.proofs.Common.{ap, ◌∙◌, List, Option, flat_map}
+use Rattle.std.proofs.Common.{ap, ◌∙◌, List, flat_map}
 use Rattle.capture.specs.Pages.{damages_from}
 use Rattle.capture.specs.declared.pages.Damaged.{Damaged}
-use Rattle.capture_text.specs.Window.{KnownBound}
 use Rattle.capture_text.specs.Listed.{listed_page}
 use Rattle.capture_text.specs.Printed.{bounds_of}
 use Rattle.text_values.proofs.Chains.{put_same}
@@ -16,7 +15,6 @@ returns g c = λ pages is.
     let cpu = capture.cpu.0 in
     let bound = bounds_of c.args.self.now cpu in
     put_same _ _
-    (ap (λ (b : Option KnownBound). flat_map (listed_page form b parts cpu) c.deref.result.now) c.of-bound.ensures
-    ∙ ap (λ (more : List Damaged). flat_map (listed_page form bound parts cpu) more) c.deref.ensures.value
+    (ap (λ (more : List Damaged). flat_map (listed_page form bound parts cpu) more) c.deref.ensures.value
     ∙ all_lines form bound parts cpu capture.damaged.items (damages_from 0 0 pages) is.damaged_are)
-    c.put_damages.ensures
+    c.put_damaged_pages.ensures

@@ -1,12 +1,16 @@
 use Rattle.std.proofs.Common.{◌≡◌, ℕ, Bool, Option, ◌++◌, ◌∙◌, inl, inr, List, [], ap, sym, subst}
 use Rattle.text_values.specs.Putting.{start_of, writer_of, contents_of, has_failed, HasWriter}
+use Rattle.parcel_streams.specs.Answers.{pieces_seen}
 use Rattle.parcel_streams.specs.declared.piece.Piece.{Piece}
+use Rattle.fleet_text.specs.Hidden.{given_by_all}
+use Rattle.fleet_text.specs.Runs.{Run as NumbersRun}
 use Rattle.collect_command.specs.declared.streams.gather.Gatherer.{Gatherer}
 use Rattle.collect_command.specs.streams.Reading.{placed}
 use Rattle.collect_command.specs.streams.Gathering.{HasGathered, IsGathered, pieces_in}
 use Rattle.collect_command.specs.streams.Runs.{IsStreamRun}
-use Rattle.collect_command.proofs.StreamsGathered.{none_gathered, all_gathered}
-use Rattle.collect_command.proofs.Endings.{gathered, stops_gathered, stops_adding, by_read}
+use Rattle.collect_command.proofs.StreamsGathered.{none_gathered, all_gathered, all_given, GathersTo, TakesTo}
+use Rattle.collect_command.proofs.Endings.{gathered, stops_gathered, stops_adding, stops_seen, takes_seen, by_read}
+use Rattle.collect_command.proofs.Endings.{RefusesTo}
 use Rattle.collect_command.proofs.streams.collect.collect_streams.Goals as goal
 
 pub returns : goal.returns
@@ -19,7 +23,7 @@ returns g c =
     let after = c.finish.new.self in
     let start = start_of keeping in
     let has : HasGathered start keeping gatherer.fleet [] =
-    none_gathered start keeping gatherer.fleet c.new-gatherer.ensures c.new-keeping.ensures.empty in
+    none_gathered start keeping gatherer.fleet c.new-gatherer.ensures.fleet c.new-keeping.ensures.empty in
     let first = g.W.Sink.contents c.args.writer.now in
     let last = c.end_run-ending.new.writer in
     let done : (pieces : List Piece) → HasGathered start kept taker.fleet pieces → HasWriter start after
@@ -39,18 +43,29 @@ returns g c =
     by_read c.read_inputs-read.result c.read_inputs-read.ensures.taken c.read_inputs-read.ensures.stopped
     c.end_run-ending.ensures.listed c.end_run-ending.ensures.told
     (λ t listed.
+    let taken = takes_seen (λ z. z) TakesTo (GathersTo fleet_of) (λ p x q one. one.0) (gatherer, keeping) t.pieces
+    (taker, kept) t.taken in
     let both = done (pieces_in t.pieces)
-    (all_gathered fleet_of start [] t.pieces (gatherer, keeping) (taker, kept) has t.taken) in (
+    (all_gathered fleet_of start [] t.pieces (gatherer, keeping) (taker, kept) has taken) in
+    let given = all_given t.pieces (gatherer, keeping) (taker, kept) t.taken in (
       both.0,
       inl record {
         pieces = t.pieces;
         are_whole = t.are_whole;
         fleet = taker.fleet;
         gathered = both.1;
-        told = listed;
+        told = listed (pieces_seen (pieces_in t.pieces)) record {
+          given_are = given
+              ∙ ap (λ (runs : List NumbersRun). runs ++ given_by_all (pieces_seen (pieces_in t.pieces)))
+              c.new-gatherer.ensures.given;
+          told = both.1.told;
+        };
       },
     ))
-    (λ stopped s told.
+    (λ stopped stops told.
+    let s = stops_seen (λ z. z) TakesTo (GathersTo fleet_of) (λ p x q one. one.0) g.R.Source.remaining
+    g.R.Source.failed (RefusesTo fleet_of) (RefusesTo fleet_of) (λ p x r q refused. refused) c.args.inputs.now
+    c.read_inputs-read.new.inputs (gatherer, keeping) (taker, kept) stopped stops in
     let both = done (pieces_in (s.pieces ++ placed stopped.input 0 s.here.pieces))
     (stops_gathered fleet_of g.R.Source.remaining g.R.Source.failed start c.args.inputs.now
     c.read_inputs-read.new.inputs (gatherer, keeping) (taker, kept) stopped s has) in (
@@ -59,7 +74,7 @@ returns g c =
         stopped = stopped;
         fleet = taker.fleet;
         stops = stops_adding fleet_of g.R.Source.remaining g.R.Source.failed c.args.inputs.now
-            c.read_inputs-read.new.inputs (gatherer, keeping) (taker, kept) stopped c.new-gatherer.ensures s;
+            c.read_inputs-read.new.inputs (gatherer, keeping) (taker, kept) stopped c.new-gatherer.ensures.fleet s;
         gathered = both.1;
         told = told;
       }),

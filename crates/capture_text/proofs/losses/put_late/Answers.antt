@@ -1,0 +1,13 @@
+use Rattle.text_values.proofs.Chains.{put_then, put_same}
+use Rattle.capture_text.proofs.SaidNumbers.{text_late, json_late}
+use Rattle.capture_text.proofs.losses.put_late.Goals as goal
+
+pub returns-in-Text : goal.returns-in-Text
+returns-in-Text g c =
+    put_same _ _ (text_late _ _ c.args.line.now.number.0 _ c.in-Text.is c.from-cpu.ensures)
+    (put_then _ _ c.put_between.ensures c.put_between-in-Text.ensures)
+
+pub returns-in-Json : goal.returns-in-Json
+returns-in-Json g c =
+    put_same _ _ (json_late _ _ c.args.line.now.number.0 _ c.in-Json.is c.from-cpu.ensures)
+    (put_then _ _ c.put_between-in-Json.ensures c.put_between-in-Json-2.ensures)

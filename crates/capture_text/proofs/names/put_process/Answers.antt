@@ -1,0 +1,18 @@
+use Rattle.std.proofs.Common.{◌≡◌, ◌++◌, List, ap, ap₂, ◌∙◌, arith}
+use Rattle.std.specs.Prelude.{ℕ, Option}
+use Rattle.std.specs.Int.{w32, cast_signed, cast_unsigned}
+use Rattle.std.specs.Fmt.{signed_decimal}
+use Rattle.std.proofs.Math.Facts.{to_z-of_z}
+use Rattle.text_values.proofs.Chains.{put_then, put_same}
+use Rattle.capture_text.specs.Lent.{task_known, tasks_lent}
+use Rattle.capture_text.specs.Beside.{task_part}
+use Rattle.capture_text.proofs.names.put_process.Goals as goal
+
+pub returns : goal.returns
+returns g c =
+    let same : cast_signed w32 (cast_unsigned w32 c.args.pid) ≡ c.args.pid = grind (arith, to_z-of_z, c.ranges.pid) in
+    put_same _ _
+    (ap₂ (λ (n : List ℕ) (t : Option (List ℕ)). n ++ task_part t)
+    (ap signed_decimal (grind (arith, to_z-of_z, c.from.ensures, c.ranges.pid)))
+    (c.task_of.ensures ∙ ap (task_known (tasks_lent c.args.tasks)) same))
+    (put_then _ _ c.put_signed.ensures c.put_task.ensures)

@@ -1,0 +1,5 @@
+pub mod Gaps
+pub mod Pages
+pub mod Live
+pub mod Printing
+pub mod Following
