@@ -1,6 +1,9 @@
-// The flight recorder's file, which has its rings, and all that their records need to be read: docs/formats/files.md,
-// "Flight file". Whatever is stored here is stored so that the process may be killed after any instruction.
+// The flight recorder's image: its rings, and all that their records need to be read, in the form of a flight file
+// (docs/formats/files.md, "Flight file"). It is a file, or memory of the process, which has no room for sites, since a
+// dump has them from sites.c. Whatever is stored here is stored so that the process may be killed after any
+// instruction.
 #define _GNU_SOURCE
+#include "../region/heap.h"
 #include "recorder.h"
 
 #include <fcntl.h>
@@ -9,7 +12,7 @@
 
 static uint64_t *word(size_t at)
 {
-    return flight_recorder.file + at;
+    return flight_recorder.image + at;
 }
 
 static uint64_t number(size_t at)
@@ -38,55 +41,70 @@ static void store_boot(void)
     store(FILE_BOOT + 1, boot[1]);
 }
 
-// Where the three areas are, and how long; how long the file is, too.
-static size_t lay_out(uint64_t *areas)
+// Where the three areas are, and how long; how long the image is, too. (A file has its checksums behind them.)
+static size_t lay_out(uint64_t *areas, bool has_file)
 {
     const struct flight_config *config = &flight_recorder.config;
     size_t slots = (config->threads * (size_t)SLOT_BYTES + FILE_HEADER - 1) / FILE_HEADER * FILE_HEADER;
-    size_t rings = config->threads * ring_offset(config->pages, config->size, config->levels);
     areas[0] = FILE_HEADER;
     areas[1] = config->threads * (size_t)SLOT_BYTES;
     areas[2] = FILE_HEADER + slots;
-    areas[3] = FILE_SITES_ROOM;
-    areas[4] = areas[2] + FILE_SITES_ROOM;
-    areas[5] = rings;
-    return areas[4] + rings;
+    areas[3] = has_file ? FILE_SITES_ROOM : 0;
+    areas[4] = areas[2] + areas[3];
+    areas[5] = config->threads * ring_offset(config->pages, config->size, config->levels);
+    return areas[4] + areas[5] + (has_file ? sums_len(areas[4] + areas[5]) : 0);
 }
 
-int flight_make_file(const char *path)
+// Memory of this process alone, or null.
+static void *map_memory(size_t len)
+{
+    void *made = mmap(NULL, len, PROT_READ | PROT_WRITE, MAP_PRIVATE | MAP_ANONYMOUS, -1, 0);
+    return made == MAP_FAILED ? NULL : made;
+}
+
+// Maps it. To the heap all rings in it are in one region.
+static int map_image(const char *path, size_t len)
+{
+    struct recorder *it = &flight_recorder;
+    void *made = path ? tracering_region_file(path, len) : map_memory(len);
+    if (!made)
+        return errno;
+    it->image = made;
+    it->image_len = len;
+    it->has_file = path != NULL;
+    if (!tracering_heap_hold(made, len))
+        return ENOMEM;
+    return path && stat(path, &it->file_found) ? errno : 0;
+}
+
+int flight_make_image(const char *path)
 {
     struct recorder *it = &flight_recorder;
     uint64_t areas[6];
-    size_t len = lay_out(areas);
-    void *made = tracering_region_file(path, len);
-    if (!made)
-        return errno;
-    it->file = made;
-    it->file_len = len;
-    if (stat(path, &it->file_found))
-        return errno;
+    int fault = map_image(path, lay_out(areas, path != NULL));
+    if (fault)
+        return fault;
     for (size_t at = 0; at < 6; at++)
         store(FILE_SLOTS + at, areas[at]);
+    if (path)
+        store(FILE_SUMS, areas[4] + areas[5]);
     for (uint32_t slot = 0; slot < it->config.threads; slot++)
-        it->slots[slot].noted = (struct noted *)((uint8_t *)made + areas[0]) + slot;
+        it->slots[slot].noted = (struct noted *)((uint8_t *)it->image + areas[0]) + slot;
     return 0;
 }
 
-void *flight_region_of(uint32_t ring, size_t *len)
+void *flight_region_of(uint32_t slot, uint32_t level, size_t *len)
 {
     const struct flight_config *config = &flight_recorder.config;
-    size_t slot = ring / config->levels, level = ring % config->levels;
     size_t offset = slot * ring_offset(config->pages, config->size, config->levels);
     offset += ring_offset(config->pages, config->size, level);
     *len = ring_room(config->pages, config->size, level);
-    return (uint8_t *)flight_recorder.file + number(FILE_RINGS) + offset;
+    return (uint8_t *)flight_recorder.image + number(FILE_RINGS) + offset;
 }
 
-void flight_begin_file(void)
+void flight_begin_image(void)
 {
     const struct recorder *it = &flight_recorder;
-    if (!it->file)
-        return;
     store(FILE_VERSION, FILE_VERSION_NUMBER);
     store(FILE_THREADS, it->config.threads);
     store(FILE_LEVELS, it->config.levels);
@@ -100,12 +118,8 @@ void flight_begin_file(void)
     memcpy(word(FILE_NAME), it->program, FILE_NAME_SIZE);
     flight_stamp();
     // Those of a recorder that ran before keep their ids.
-    uint32_t sites = load(&flight_site_count);
-    for (uint32_t id = 0; id < sites; id++) {
-        const struct flight_site *site = __atomic_load_n(&flight_sites[id], __ATOMIC_SEQ_CST);
-        if (site)
-            flight_put_site(id, site);
-    }
+    for (const uint32_t *known = flight_next_site(NULL); known; known = flight_next_site(known))
+        flight_put_site(known);
     store(FILE_MAGIC, FILE_MAGIC_NUMBER);
 }
 
@@ -113,42 +127,82 @@ void flight_begin_file(void)
 
 static void unmap(void)
 {
-    if (flight_recorder.file)
-        (void)tracering_region_unmap(flight_recorder.file, flight_recorder.file_len);
-    flight_recorder.file = NULL;
+    struct recorder *it = &flight_recorder;
+    if (it->image) {
+        tracering_heap_let_go(it->image, it->image_len);
+        (void)tracering_region_unmap(it->image, it->image_len);
+    }
+    it->image = NULL;
 }
 
-void flight_end_file(void)
+// Stores the checksum of each block of a file that nothing is stored in any more: before that, each would cost each
+// event. (That of the header has the words that say that it ended, and that they are there.)
+static void put_sums(void)
 {
-    if (!flight_recorder.file)
+    uint64_t header[FILE_HEADER / sizeof(uint64_t)];
+    const uint8_t *image = (const uint8_t *)flight_recorder.image;
+    size_t end = number(FILE_SUMS);
+    uint32_t *sums = (uint32_t *)(void *)((uint8_t *)flight_recorder.image + end);
+    if (!flight_is_readable(image, flight_recorder.image_len))
         return;
+    memcpy(header, image, sizeof header);
+    header[FILE_ENDED] = header[FILE_SUMMED] = 1;
+    sums[0] = flight_checksum(header, sizeof header);
+    for (size_t block = 1; block < end / FILE_BLOCK; block++)
+        sums[block] = flight_checksum(image + block * FILE_BLOCK, FILE_BLOCK);
+    store(FILE_SUMMED, 1);
+}
+
+void flight_end_image(void)
+{
     flight_stamp();
+    // (What has checksums has ended: so there is no moment at which one of both is missing.)
+    if (flight_recorder.has_file)
+        put_sums();
     store(FILE_ENDED, 1);
     unmap();
 }
 
-void flight_drop_file(const char *path)
+void flight_drop_image(const char *path)
 {
-    if (!flight_recorder.file)
-        return;
+    if (flight_recorder.image && path)
+        (void)unlink(path);
     unmap();
-    (void)unlink(path);
 }
 
 // Puts memory of this process alone in the file's place.
 static bool replace_file(int protection)
 {
     int flags = MAP_PRIVATE | MAP_ANONYMOUS | MAP_FIXED | MAP_NORESERVE;
-    return mmap(flight_recorder.file, flight_recorder.file_len, protection, flags, -1, 0) != MAP_FAILED;
+    return mmap(flight_recorder.image, flight_recorder.image_len, protection, flags, -1, 0) != MAP_FAILED;
 }
 
 // (A TRACE that the fork interrupted goes on in the child, as well: its stores are the child's alone. If there is no
 // memory for them, they end the child, and whatever happens, they don't go to its parent's file.)
 void flight_leave_file(void)
 {
-    if (flight_recorder.file && !replace_file(PROT_READ | PROT_WRITE) && !replace_file(PROT_NONE))
+    bool has_file = flight_recorder.image && flight_recorder.has_file;
+    if (has_file && !replace_file(PROT_READ | PROT_WRITE) && !replace_file(PROT_NONE))
         _exit(EXIT_FAILURE);
-    flight_recorder.file = NULL;
+    flight_recorder.image = NULL;
+}
+
+// Asks the kernel about a word: it reads the word before it finds that the call asks for nothing known. (A load would
+// end the process, if the page is no more in the file.)
+static bool has_word(const uint8_t *at)
+{
+    return !syscall(SYS_rt_sigprocmask, -1, at, NULL, sizeof(uint64_t)) || errno != EFAULT;
+}
+
+bool flight_is_readable(const void *bytes, size_t len)
+{
+    const uint8_t *at = bytes;
+    if (!flight_recorder.has_file)
+        return true;
+    for (size_t offset = 0; offset < len; offset += FILE_HEADER)
+        if (!has_word(at + offset))
+            return false;
+    return has_word(at + len - sizeof(uint64_t));
 }
 
 // ---- What is stored while it runs.
@@ -156,7 +210,7 @@ void flight_leave_file(void)
 // There are two pairs, of which one is whole at any time. If another thread is storing one, that is as good.
 void flight_stamp(void)
 {
-    if (!flight_recorder.file)
+    if (!flight_recorder.has_file || !flight_recorder.image)
         return;
     uint64_t stamps = number(FILE_STAMPS);
     if (stamps & 1
@@ -169,53 +223,16 @@ void flight_stamp(void)
     store(FILE_STAMPS, stamps + 2);
 }
 
-// Notes how many events a ring refused for each reason. A handler that interrupts this may have noted more by then, and
-// that stays: so what is noted never falls, and has each refused event whose call returned.
-static void note_refused_by(const struct ring *ring, uint64_t *noted)
-{
-    struct tracering_refused refused;
-    (void)tracering_refused(&ring->writer, &refused);
-    const uint64_t counts[] = {refused.busy, refused.too_deep, refused.too_long, refused.late_moment, refused.crowded,
-        refused.worn};
-    for (size_t reason = 0; reason < SLOT_REASONS; reason++) {
-        uint64_t found = __atomic_load_n(&noted[reason], __ATOMIC_RELAXED);
-        while (found < counts[reason]
-            && !__atomic_compare_exchange_n(&noted[reason], &found, counts[reason], false, __ATOMIC_RELAXED,
-                __ATOMIC_RELAXED))
-            ;
-    }
-}
-
-void flight_note_refused(void)
-{
-    const struct slot *slot = flight_mine.slot;
-    if (!slot || !flight_recorder.file)
-        return;
-    for (uint32_t level = 0; level < flight_recorder.config.levels; level++)
-        note_refused_by(&slot->rings[level], slot->noted->refused[level]);
-}
-
-// ---- Sites. Each has its room, its length, and then what a SITE section of a dump has.
-
-static uint8_t *put(uint8_t *at, const void *bytes, size_t len)
-{
-    memcpy(at, bytes, len);
-    return at + len;
-}
-
-static uint8_t *put_number(uint8_t *at, uint32_t value)
-{
-    return put(at, &value, sizeof value);
-}
+// ---- Sites.
 
 // Gets this much room after the sites that are there, or null. A room is stated by the exchange that gets it: whoever
 // finds one stated goes on after it, whether it has a site yet or never will.
 static uint32_t *get_room(size_t room)
 {
-    uint8_t *sites = (uint8_t *)flight_recorder.file + number(FILE_SITES);
+    uint8_t *sites = (uint8_t *)flight_recorder.image + number(FILE_SITES);
     for (;;) {
         uint64_t used = number(FILE_SITES_USED);
-        if (room > FILE_SITES_ROOM - used)
+        if (room > number(FILE_SITES_LEN) - used)
             return NULL;
         uint32_t *head = (uint32_t *)(sites + used), found = 0;
         bool is_got = __atomic_compare_exchange_n(head, &found, (uint32_t)room, false, __ATOMIC_SEQ_CST,
@@ -227,22 +244,12 @@ static uint32_t *get_room(size_t room)
     }
 }
 
-void flight_put_site(uint32_t id, const struct flight_site *site)
+void flight_put_site(const uint32_t *known)
 {
-    if (!flight_recorder.file)
-        return;
-    size_t len = 4 * 4 + (size_t)site->count + 4 + site->file_len + 4 + site->format_len;
-    uint32_t *head = get_room((SITE_HEAD + len + 7) / 8 * 8);
+    uint32_t room = known[0], len = __atomic_load_n(known + 1, __ATOMIC_ACQUIRE);
+    uint32_t *head = len && flight_recorder.has_file ? get_room(room) : NULL;
     if (!head)
         return;
-    uint8_t *at = (uint8_t *)head + SITE_HEAD;
-    at = put_number(at, id);
-    at = put_number(at, site->line);
-    at = put_number(at, site->style);
-    at = put_number(at, site->count);
-    for (unsigned each = 0; each < site->count; each++)
-        *at++ = __atomic_load_n(&site->kinds[each], __ATOMIC_RELAXED);
-    at = put(put_number(at, site->file_len), site->file, site->file_len);
-    (void)put(put_number(at, site->format_len), site->format, site->format_len);
-    __atomic_store_n(head + 1, (uint32_t)len, __ATOMIC_RELEASE);
+    memcpy(head + 2, known + 2, len);
+    __atomic_store_n(head + 1, len, __ATOMIC_RELEASE);
 }

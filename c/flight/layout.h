@@ -26,23 +26,30 @@ enum {
     FILE_STARTED_REAL,
     FILE_STAMPS,
     FILE_STAMP, // two pairs
-    FILE_WITHOUT_RING = 23,
-    FILE_SITES_USED,
+    FILE_SITES_USED = 24,
     FILE_ENDED,
-    FILE_NAME = 32 // 64 bytes
+    FILE_SUMS,
+    FILE_SUMMED,
+    FILE_NAME = 32,         // 64 bytes
+    FILE_WITHOUT_RING = 256 // several counts
 };
 
 // The bytes `TRLIVING`, as a number.
 #define FILE_MAGIC_NUMBER 0x474e4956494c5254u
 #define FILE_HEADER ((size_t)4096)
 #define FILE_SITES_ROOM ((size_t)1 << 20)
+// What a checksum of a file that was stopped is of.
+#define FILE_BLOCK ((size_t)4096)
 
 enum {
-    FILE_VERSION_NUMBER = 1,
+    FILE_VERSION_NUMBER = 2,
     FILE_NAME_SIZE = 64,
     FILE_LATER_PAGES = 2, // of a ring of level 1 and above
-    FILE_MOST_RINGS = 256,
+    FILE_MOST_RINGS = 65536,
     FILE_MOST_LEVELS = 4,
+    FILE_CPUS = 256, // the CPU of a ring's parcels is its number modulo this
+    FILE_COUNTS = 32, // of events without a ring
+    FILE_COUNT_WORDS = 8, // from one to the next
     // The words of a slot: two, its leases, the counts of what was refused on each level, and zeros.
     SLOT_VERSION = 0,
     SLOT_COUNT,
@@ -53,7 +60,9 @@ enum {
     SLOT_REASONS = 6,
     SLOT_BYTES = 1088,
     // What a site begins with: its room and its length, of four bytes each.
-    SITE_HEAD = 8
+    SITE_HEAD = 8,
+    // Where in a site's style its level is.
+    SITE_LEVEL_SHIFT = 4
 };
 
 // A slot's version while its leases change: the place of the lease that does, and an odd number.
@@ -76,6 +85,12 @@ static inline uint64_t next_version(uint64_t version)
 static inline size_t stamp_word(uint64_t stamps)
 {
     return FILE_STAMP + 2 * ((stamps / 2 - 1) & 1);
+}
+
+// How many bytes the checksums of a file's blocks take.
+static inline size_t sums_len(size_t len)
+{
+    return len / FILE_BLOCK * sizeof(uint32_t);
 }
 
 // Where the kernel says which boot this is.

@@ -1,15 +1,14 @@
-// The flight recorder: threads and the rings that they have. c/include/tracering_flight.h says what each call does,
-// docs/formats/files.md, "Flight dump", what a dump has, recorder.h how the parts work together.
+// The flight recorder: events, start and stop. c/include/tracering_flight.h says what each call does, recorder.h how
+// the parts work together.
 //
 // TRACE, flight_dump, flight_name and the handlers keep to what a signal's handler may do: they take no memory and no
 // lock, and errno is as it was. What no handler of the same thread may interrupt runs with all signals blocked.
 #define _GNU_SOURCE
 #include "recorder.h"
 
-#include <sched.h>
-#include <stdlib.h>
 #include <sys/mman.h>
-#include <sys/prctl.h>
+
+enum { STOP_WAIT_MS = 5000 }; // how long flight_stop waits for threads
 
 struct recorder flight_recorder;
 uint32_t flight_running;
@@ -21,99 +20,14 @@ pthread_mutex_t flight_lock = PTHREAD_MUTEX_INITIALIZER;
 static pthread_once_t once = PTHREAD_ONCE_INIT;
 static pthread_key_t key;
 static int no_key; // why there is none
+// What the recorder that runs was started with, or that of the parent, of which this process is a forked child.
+static struct flight_config given_config;
+static char given_path[PATH_MAX];
+static bool is_of_parent;
 // The signals that a thread which forks had blocked.
 static _Thread_local __attribute__((tls_model("initial-exec"))) sigset_t unforked;
 
-// ---- Leases.
-
-static void copy_words(uint64_t *to, const uint64_t *from, size_t words)
-{
-    for (size_t at = 0; at < words; at++)
-        __atomic_store_n(&to[at], __atomic_load_n(&from[at], __ATOMIC_ACQUIRE), __ATOMIC_RELEASE);
-}
-
-// Begins a lease of this thread, which has the slot; one without a record gives way to it. All signals are blocked.
-static void begin_lease(struct slot *slot)
-{
-    struct lease lease = {.thread = this_thread()};
-    for (uint32_t level = 0; level < MOST_LEVELS; level++)
-        lease.first[level] = records_of(&slot->rings[level]);
-    char name[NAME_SIZE] = {0};
-    if (flight_mine.name[0])
-        memcpy(name, flight_mine.name, sizeof name);
-    else
-        (void)prctl(PR_GET_NAME, name);
-    memcpy(lease.name, name, sizeof name);
-    struct noted *noted = slot->noted;
-    uint64_t count = __atomic_load_n(&noted->leases.count, __ATOMIC_RELAXED), version = noted->version;
-    if (count && !memcmp(noted->leases.of[(count - 1) % LEASES].first, lease.first, sizeof lease.first))
-        count--;
-    __atomic_store_n(&noted->version, changing_version(version, count % LEASES), __ATOMIC_SEQ_CST);
-    copy_words((uint64_t *)&noted->leases.of[count % LEASES], (const uint64_t *)&lease, sizeof lease / 8);
-    __atomic_store_n(&noted->leases.count, count + 1, __ATOMIC_RELAXED);
-    __atomic_store_n(&noted->version, next_version(version), __ATOMIC_SEQ_CST);
-    flight_stamp();
-}
-
-// Copies the leases of a slot. If its thread is halted while it changes them, they are as they are.
-void flight_copy_leases(struct leases *to, const struct slot *slot)
-{
-    for (int tries = 0; tries < 10000; tries++) {
-        uint64_t version = __atomic_load_n(&slot->noted->version, __ATOMIC_SEQ_CST);
-        copy_words((uint64_t *)to, (const uint64_t *)&slot->noted->leases, LEASE_WORDS);
-        if (!(version & 1) && version == __atomic_load_n(&slot->noted->version, __ATOMIC_SEQ_CST))
-            return;
-    }
-}
-
-// ---- Slots.
-
-void flight_count_without_ring(void)
-{
-    (void)__atomic_fetch_add(&flight_recorder.without_ring, 1, __ATOMIC_RELAXED);
-    if (flight_recorder.file)
-        (void)__atomic_fetch_add(flight_recorder.file + FILE_WITHOUT_RING, 1, __ATOMIC_RELAXED);
-}
-
-// Gives a slot back, as the one that is to be claimed after all that are free now.
-void flight_hand_back(struct slot *slot)
-{
-    uint64_t returns = __atomic_add_fetch(&flight_recorder.returns, 1, __ATOMIC_SEQ_CST);
-    __atomic_store_n(&slot->freed, returns, __ATOMIC_RELAXED);
-    __atomic_store_n(&slot->owner, NOBODY, __ATOMIC_SEQ_CST);
-}
-
-// The slot that was given back longest ago, if one is free; `is_held` says whether a dump has one.
-static struct slot *longest_free(bool *is_held)
-{
-    struct slot *found = NULL;
-    *is_held = false;
-    for (uint32_t at = 0; at < flight_recorder.config.threads; at++) {
-        struct slot *slot = &flight_recorder.slots[at];
-        uint32_t owner = load(&slot->owner);
-        *is_held |= owner == DUMPER;
-        if (!owner && (!found || __atomic_load_n(&slot->freed, __ATOMIC_RELAXED)
-                    < __atomic_load_n(&found->freed, __ATOMIC_RELAXED)))
-            found = slot;
-    }
-    return found;
-}
-
-// Gets a slot for this thread. A dump holds one only while it gathers, so it is waited for, though not for ever.
-static struct slot *claim(void)
-{
-    bool is_held;
-    for (int tries = 0; tries < 1000; tries++) {
-        struct slot *slot = longest_free(&is_held);
-        if (slot && exchange_if(&slot->owner, NOBODY, this_thread()))
-            return slot;
-        if (!slot && !is_held)
-            return NULL;
-        if (!slot)
-            (void)sched_yield();
-    }
-    return NULL;
-}
+// ---- Events.
 
 // Gets a slot of this recorder for this thread, unless a handler has got it one meanwhile.
 static struct slot *get_slot(uint32_t number)
@@ -121,17 +35,15 @@ static struct slot *get_slot(uint32_t number)
     sigset_t signals;
     block_signals(&signals);
     bool has_slot = flight_mine.running == number;
-    struct slot *slot = has_slot ? flight_mine.slot : claim();
+    struct slot *slot = has_slot ? flight_mine.slot : flight_claim();
     if (slot && !has_slot && pthread_setspecific(key, slot)) {
         flight_hand_back(slot); // since this thread's end wouldn't
         slot = NULL;
     }
     if (slot && !has_slot) {
-        begin_lease(slot);
-        __atomic_store_n(&slot->signalled, NOBODY, __ATOMIC_SEQ_CST);
+        flight_begin_lease(slot);
         flight_mine.slot = slot;
         flight_mine.running = number;
-        flight_answer(slot);
     }
     unblock_signals(&signals);
     return slot;
@@ -141,16 +53,17 @@ static struct slot *get_slot(uint32_t number)
 static __attribute__((noinline, cold)) struct slot *enter(void)
 {
     int before = errno;
-    bool is_held;
     uint32_t number = load(&flight_running);
     if (!number) {
         flight_mine.slot = NULL;
         flight_mine.running = 0;
         return NULL;
     }
-    struct slot *slot = longest_free(&is_held) || is_held ? get_slot(number) : NULL;
+    flight_hide();
+    struct slot *slot = flight_may_claim(number) ? get_slot(number) : NULL;
     if (!slot)
         flight_count_without_ring();
+    flight_show();
     errno = before;
     return slot;
 }
@@ -160,22 +73,6 @@ static inline struct slot *own_slot(void)
     return flight_mine.running == __atomic_load_n(&flight_running, __ATOMIC_ACQUIRE) ? flight_mine.slot : enter();
 }
 
-// Gives back the slot of a thread that ends.
-static void leave(void *given)
-{
-    sigset_t signals;
-    struct slot *slot = given;
-    block_signals(&signals);
-    if (go_in() == slot) {
-        flight_answer(slot);
-        flight_mine.slot = NULL;
-        flight_mine.running = 0;
-        flight_hand_back(slot);
-    }
-    go_out();
-    unblock_signals(&signals);
-}
-
 void flight_record(const struct flight_site *site, uint8_t *event, size_t len)
 {
     struct slot *slot = own_slot();
@@ -183,11 +80,26 @@ void flight_record(const struct flight_site *site, uint8_t *event, size_t len)
         return;
     uint32_t id = __atomic_load_n(&site->id, __ATOMIC_ACQUIRE);
     memcpy(event, &id, sizeof id);
-    struct ring *ring = slot->rings;
-    for (uint32_t level = 1; ring->writer.in_call && level < flight_recorder.config.levels; level++)
+    struct tracering_writer *ring = slot->rings;
+    for (uint32_t level = 1; ring->in_call && level < flight_recorder.config.levels; level++)
         ring++;
-    if (__builtin_expect(tracering_write(&ring->writer, flight_moment(), event, len) != TRACERING_DONE, false))
+    if (__builtin_expect(tracering_write(ring, flight_moment(), event, len) != TRACERING_DONE, false))
         flight_note_refused();
+}
+
+// Gives back the slot of a thread that ends.
+static void leave(void *given)
+{
+    sigset_t signals;
+    struct slot *slot = given;
+    block_signals(&signals);
+    if (go_in() == slot) {
+        flight_mine.slot = NULL;
+        flight_mine.running = 0;
+        flight_hand_back(slot);
+    }
+    go_out();
+    unblock_signals(&signals);
 }
 
 int flight_name(const char *name)
@@ -197,20 +109,21 @@ int flight_name(const char *name)
     sigset_t signals;
     int before = errno;
     block_signals(&signals);
+    flight_hide();
     size_t len = strnlen(name, NAME_SIZE - 1);
     memset(flight_mine.name, 0, sizeof flight_mine.name);
     memcpy(flight_mine.name, name, len);
     struct slot *slot = go_in();
     if (slot)
-        begin_lease(slot);
+        flight_begin_lease(slot);
     go_out();
+    flight_show();
     unblock_signals(&signals);
     errno = before;
     return 0;
 }
 
-
-// ---- Start and stop.
+// ---- Forks.
 
 // A fork begins. Until the child has left the file, no handler may record there: the C library lets signals arrive in
 // the child before it calls start_child.
@@ -229,9 +142,11 @@ static void start_child(void)
 {
     flight_mine.slot = NULL;
     flight_mine.running = 0;
+    is_of_parent |= load(&flight_running) != 0;
     __atomic_store_n(&flight_running, 0, __ATOMIC_SEQ_CST);
     __atomic_store_n(&flight_is_dumping, 0, __ATOMIC_SEQ_CST);
     __atomic_store_n(&flight_inside, 0, __ATOMIC_SEQ_CST);
+    flight_turn_sites();
     flight_recorder.memory = NULL;
     flight_leave_file();
     (void)pthread_mutex_init(&flight_lock, NULL);
@@ -251,6 +166,8 @@ static __attribute__((constructor)) void start_early(void)
     (void)pthread_once(&once, start_process);
 }
 
+// ---- Start and stop.
+
 // The numbers of a recorder, with the defaults for those that are 0.
 static struct flight_config with_defaults(const struct flight_config *given)
 {
@@ -261,14 +178,8 @@ static struct flight_config with_defaults(const struct flight_config *given)
     config.levels += config.levels ? 0 : 2;
     config.pages += config.pages ? 0 : 8;
     config.size += config.size ? 0 : 4080;
-    config.wait_ms += config.wait_ms ? 0 : 100;
-    config.signal += config.signal ? 0 : SIGRTMAX - 1;
     if (config.file && !config.file[0])
         config.file = NULL;
-    if (config.keep == FLIGHT_KEEP_NONE)
-        config.keep = 0;
-    else if (!config.keep)
-        config.keep = config.threads * (config.pages + 1);
     return config;
 }
 
@@ -278,120 +189,110 @@ static bool is_in_range(const struct flight_config *config)
 #if defined(__x86_64__) || defined(__aarch64__)
     has_clock |= config->clock == FLIGHT_TSC;
 #endif
-    return config->threads <= MOST_RINGS && config->levels <= MOST_LEVELS
-        && config->threads * config->levels <= MOST_RINGS && config->pages >= 2 && config->pages <= 1024
-        && config->size >= 32 && config->size <= 65520 && config->size % 4 == 0 && config->keep <= MOST_KEPT
-        && has_clock && (config->clock == FLIGHT_CALLER) == (config->now != NULL)
-        && !flight_is_of_crash(config->signal);
+    return config->levels <= MOST_LEVELS && config->threads <= FILE_MOST_RINGS / config->levels && config->pages >= 2
+        && config->pages <= 1024 && config->size >= 32 && config->size <= 65520 && config->size % 4 == 0 && has_clock
+        && (config->clock == FLIGHT_CALLER) == (config->now != NULL);
 }
 
-// Lays out the memory of a recorder: the slots, what is noted of them, the kept pages, their parcels, and those of the
-// pages that are written.
+static size_t in_pages(size_t len)
+{
+    return (len + FILE_HEADER - 1) / FILE_HEADER * FILE_HEADER;
+}
+
+// Lays out the memory of a recorder: the slots, the nodes of their queue, and what a dump copies to.
 static int get_memory(void)
 {
     struct recorder *it = &flight_recorder;
-    size_t levels = it->config.levels, threads = it->config.threads, slots = threads * sizeof *it->slots;
-    it->room = it->config.keep;
-    for (uint32_t level = 0; level < levels; level++)
-        it->room += pages_of(level) + 1;
-    it->parcel_size = TRACERING_HEADER + (it->config.size + 7) / 8 * 8;
-    size_t kept = it->room * sizeof *it->kept, parcels = it->room * it->parcel_size;
-    size_t noted = threads * sizeof(struct noted);
-    it->memory_len = slots + noted + kept + parcels + levels * it->parcel_size;
-    it->memory = mmap(NULL, it->memory_len, PROT_READ | PROT_WRITE, MAP_PRIVATE | MAP_ANONYMOUS, -1, 0);
-    if (it->memory == MAP_FAILED)
+    size_t threads = it->config.threads, slots = in_pages(threads * sizeof *it->slots);
+    size_t nodes = in_pages((threads + 1) * sizeof *it->queue.nodes);
+    size_t copies = ring_offset(it->config.pages, it->config.size, it->config.levels);
+    it->memory_len = slots + nodes + copies + (it->config.pages + 2) * sizeof *it->pages;
+    void *memory = mmap(NULL, it->memory_len, PROT_READ | PROT_WRITE, MAP_PRIVATE | MAP_ANONYMOUS, -1, 0);
+    if (memory == MAP_FAILED)
         return ENOMEM;
-    it->slots = (struct slot *)it->memory;
-    for (size_t slot = 0; slot < threads; slot++)
-        it->slots[slot].noted = (struct noted *)((uint8_t *)it->memory + slots) + slot;
-    it->kept = (struct kept *)((uint8_t *)it->memory + slots + noted);
-    it->parcels = (uint8_t *)it->memory + slots + noted + kept;
-    it->tails = it->parcels + parcels;
+    it->memory = memory;
+    it->slots = memory;
+    it->queue.nodes = (struct node *)((uint8_t *)memory + slots);
+    it->copies = (uint8_t *)memory + slots + nodes;
+    it->pages = (const uint8_t **)(it->copies + copies);
     return 0;
 }
 
 static void release_memory(void)
 {
-    for (uint32_t slot = 0; slot < flight_recorder.config.threads; slot++)
-        for (uint32_t level = 0; level < flight_recorder.config.levels; level++) {
-            struct ring *ring = &flight_recorder.slots[slot].rings[level];
-            (void)tracering_writer_free(&ring->writer, NULL);
-            (void)tracering_reader_free(&ring->reader);
-        }
-    (void)munmap(flight_recorder.memory, flight_recorder.memory_len);
-    flight_recorder.memory = NULL;
+    struct recorder *it = &flight_recorder;
+    for (uint32_t slot = 0; slot < it->config.threads; slot++)
+        for (uint32_t level = 0; level < it->config.levels; level++)
+            (void)tracering_writer_free(&it->slots[slot].rings[level], NULL);
+    (void)munmap(it->memory, it->memory_len);
+    it->memory = NULL;
 }
 
-// Makes a ring: in the recorder's file, if it has one.
-static int32_t make_ring(struct ring *ring, uint32_t number, uint32_t pages)
+// Makes the ring of a slot. Nobody reads it but by copying its region, so its reader's end is freed.
+static int32_t make_ring(uint32_t slot, uint32_t level)
 {
-    uint32_t size = flight_recorder.config.size;
+    const struct flight_config *config = &flight_recorder.config;
+    struct tracering_reader reader = TRACERING_READER_INIT;
     size_t len;
-    if (!flight_recorder.file)
-        return tracering_new(&ring->writer, &ring->reader, number, pages, size);
-    void *region = flight_region_of(number, &len);
-    return tracering_new_in(&ring->writer, &ring->reader, number, pages, size, flight_recorder.started_real, region,
-        len);
+    void *region = flight_region_of(slot, level, &len);
+    uint32_t cpu = (slot * config->levels + level) % FILE_CPUS, pages = level ? FILE_LATER_PAGES : config->pages;
+    int32_t code = tracering_new_in(&flight_recorder.slots[slot].rings[level], &reader, cpu, pages, config->size,
+        flight_recorder.started_real, region, len);
+    return code == TRACERING_DONE ? tracering_reader_free(&reader) : code;
 }
 
 // Makes the rings of all slots. What was made before one that isn't is released with the memory.
 static int make_rings(void)
 {
-    uint32_t levels = flight_recorder.config.levels;
-    for (uint32_t number = 0; number < flight_recorder.config.threads * levels; number++) {
-        struct ring *ring = &flight_recorder.slots[number / levels].rings[number % levels];
-        ring->first = ring->last = NO_PAGE;
-        if (make_ring(ring, number, pages_of(number % levels)) != TRACERING_DONE)
-            return ENOMEM;
-    }
+    for (uint32_t slot = 0; slot < flight_recorder.config.threads; slot++)
+        for (uint32_t level = 0; level < flight_recorder.config.levels; level++)
+            if (make_ring(slot, level) != TRACERING_DONE)
+                return ENOMEM;
     return 0;
 }
 
-// Installs the handler of the signal that dumps send, unless the program has one of its own.
-static int install_request(void)
+// Keeps what a recorder is started with, for children that are forked.
+static void keep_given(const struct flight_config *config)
 {
-    struct sigaction action = {.sa_handler = flight_on_request, .sa_flags = SA_RESTART | SA_ONSTACK}, former;
-    sigfillset(&action.sa_mask);
-    if (sigaction(flight_recorder.config.signal, NULL, &former))
-        return errno;
-    if (former.sa_handler != SIG_DFL && former.sa_handler != SIG_IGN && former.sa_handler != flight_on_request)
-        return EBUSY;
-    return sigaction(flight_recorder.config.signal, &action, NULL) ? errno : 0;
-}
-
-// One that is still to arrive at a thread which blocks it is discarded: its former action might end the process.
-static void remove_request(void)
-{
-    struct sigaction ignored = {.sa_handler = SIG_IGN}, former = {.sa_handler = SIG_DFL};
-    (void)sigaction(flight_recorder.config.signal, &ignored, NULL);
-    (void)sigaction(flight_recorder.config.signal, &former, NULL);
+    // (It may be what is kept.)
+    if (config->file && config->file != given_path)
+        memcpy(given_path, config->file, strlen(config->file) + 1);
+    given_config = *config;
+    given_config.file = config->file ? given_path : NULL;
+    is_of_parent = false;
 }
 
 static int start(const struct flight_config *config)
 {
+    char expanded[PATH_MAX], *path = config->file ? expanded : NULL;
+    if (config->file && (strlen(config->file) >= PATH_MAX || !flight_expand_path(expanded, config->file)))
+        return ENAMETOOLONG;
     memset(&flight_recorder, 0, sizeof flight_recorder);
     flight_recorder.config = *config;
     flight_recorder.config.file = NULL; // the caller's, for so long
     strncpy(flight_recorder.program, program_invocation_short_name, sizeof flight_recorder.program - 1);
     flight_recorder.started = flight_moment();
     flight_recorder.started_real = nanoseconds(CLOCK_REALTIME);
-    int fault = get_memory();
+    int fault = flight_make_sites();
+    if (!fault)
+        fault = get_memory();
     if (fault)
         return fault;
-    if (config->file)
-        fault = flight_make_file(config->file);
+    fault = flight_make_image(path);
     if (!fault)
         fault = make_rings();
-    if (!fault)
-        fault = install_request();
     if (fault) {
         release_memory();
-        flight_drop_file(config->file);
+        flight_drop_image(path);
         return fault;
     }
-    flight_begin_file();
+    keep_given(config);
+    flight_fill_queue();
+    flight_prepare_dumps();
+    flight_begin_image();
     last_running += last_running == UINT32_MAX ? 2 : 1;
     __atomic_store_n(&flight_running, last_running, __ATOMIC_SEQ_CST);
+    flight_turn_sites();
     return 0;
 }
 
@@ -405,11 +306,24 @@ int flight_start(const struct flight_config *given)
     // (A thread that is to be cancelled would end where it opens the file.)
     (void)pthread_setcancelstate(PTHREAD_CANCEL_DISABLE, &cancelled);
     (void)pthread_mutex_lock(&flight_lock);
+    flight_hide();
     int fault = load(&flight_running) ? EALREADY : no_key ? no_key : start(&config);
+    flight_show();
     (void)pthread_mutex_unlock(&flight_lock);
     (void)pthread_setcancelstate(cancelled, NULL);
     errno = before;
     return fault;
+}
+
+int flight_start_in_child(void)
+{
+    if (load(&flight_running))
+        return EALREADY;
+    if (!is_of_parent)
+        return ENODEV;
+    if (given_config.file && !strstr(given_config.file, "%p"))
+        return EEXIST;
+    return flight_start(&given_config);
 }
 
 // Waits for the threads that are between go_in and go_out, and answers whether none is any more. One that doesn't go
@@ -433,12 +347,13 @@ static int stop(void)
     __atomic_store_n(&flight_running, 0, __ATOMIC_SEQ_CST);
     if (!await_none_inside()) {
         __atomic_store_n(&flight_running, running, __ATOMIC_SEQ_CST);
+        flight_turn_sites();
         return ETIMEDOUT;
     }
+    flight_turn_sites();
     flight_forget_crashes();
-    remove_request();
     release_memory();
-    flight_end_file();
+    flight_end_image();
     return 0;
 }
 
@@ -448,6 +363,7 @@ int flight_stop(void)
     int before = errno, fault;
     (void)pthread_mutex_lock(&flight_lock);
     block_signals(&signals);
+    flight_hide();
     if (!load(&flight_running))
         fault = ENODEV;
     else if (!exchange_if(&flight_is_dumping, 0, 1))
@@ -456,6 +372,7 @@ int flight_stop(void)
         fault = stop();
         change(&flight_is_dumping, 0);
     }
+    flight_show();
     unblock_signals(&signals);
     (void)pthread_mutex_unlock(&flight_lock);
     errno = before;

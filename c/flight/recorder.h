@@ -3,16 +3,15 @@
 //
 // How they work together. TRACE has a static flight_site, puts its arguments in a row (FLIGHT_PUT), and calls
 // flight_record (recorder.c), which writes them to the first ring of the thread's slot that isn't in a call. A thread
-// gets a slot by a compare and exchange of its owner (claim), and notes a lease in it.
+// gets a slot from the queue of free ones (slots.c), and notes a lease in it.
 //
-// A dump (put_all, dump.c) gathers from each slot (flight_gather, gather.c) the closed pages of its rings, into the
-// queue of kept pages, then a copy of each page that is written. Nobody writes the ring meanwhile: the dump's own
-// thread has all signals blocked; another one gathers itself, in the handler of the signal that it is sent (ask,
-// flight_answer); a free slot belongs to the dump meanwhile. The slot's words request and owner settle who gathers.
-// Other uses of a slot are between go_in and go_out, which flight_stop waits for.
+// All rings, leases, and counts of refusals lie in one memory, the image: the recorder's file, or memory of the process
+// in the same form (file.c). A dump (dump.c) copies the region of each ring while its thread goes on, whatever that is
+// doing: no thread is asked, nothing is locked, and what was copied stays where it is. So a dump that fails loses
+// nothing. The texts of sites are copied when they become known (sites.c): nothing of an object that has TRACE is read
+// after that but by its own code.
 //
-// With a file (file.c) rings, leases, counts of refusals and sites are there; a forked child leaves it
-// (flight_leave_file).
+// Other uses of a slot than TRACE's are between go_in and go_out, which flight_stop waits for.
 #ifndef RECORDER_H
 #define RECORDER_H
 
@@ -35,31 +34,11 @@
 #pragma GCC visibility push(hidden)
 
 enum {
-    MOST_RINGS = FILE_MOST_RINGS,
     MOST_LEVELS = FILE_MOST_LEVELS,
     MOST_SITES = 1 << 16,
-    MOST_KEPT = 1 << 24,
-    LATER_PAGES = FILE_LATER_PAGES, // of a ring of level 1 and above
-    LEASES = SLOT_MOST_LEASES,      // that are kept of each slot
-    NAME_SIZE = FILE_NAME_SIZE,     // a thread's name and a zero
-    OUTPUT_SIZE = 1 << 16,
-    STACK_SIZE = 1 << 16,  // of the alternate stack that a thread gets
-    LEAST_STACK = 1 << 14, // of its own, which is left to it: a quarter of that is too little for a dump
-    MOVING_TRIES = 100,
-    STOP_WAIT_MS = 5000 // how long flight_stop waits for threads
+    LEASES = SLOT_MOST_LEASES, // that are kept of each slot
+    NAME_SIZE = FILE_NAME_SIZE // a thread's name and a zero
 };
-
-// A ring of one slot. The thread that has the slot writes it. Who dumps has the rest.
-struct ring {
-    struct tracering_writer writer;
-    struct tracering_reader reader;
-    uint64_t after;       // the number after the last record that a dump took
-    uint64_t dropped;     // how many records of its kept pages were dropped
-    uint32_t first, last; // its kept pages, or NO_PAGE
-};
-
-// No kept page.
-#define NO_PAGE UINT32_MAX
 
 // The time in which one thread has a slot: words, since a dump may read them while the thread changes them.
 struct lease {
@@ -75,84 +54,54 @@ struct leases {
 
 enum { LEASE_WORDS = sizeof(struct leases) / 8 };
 
-// What is noted of a slot: in the recorder's file, if it has one.
+// What is noted of a slot, in the image.
 struct noted {
     uint64_t version; // of the leases: odd while one of them changes (layout.h)
     struct leases leases;
-    uint64_t refused[MOST_LEVELS][SLOT_REASONS]; // in a file alone
+    uint64_t refused[MOST_LEVELS][SLOT_REASONS];
     uint64_t zeros[6];
 };
 
 _Static_assert(sizeof(struct noted) == SLOT_BYTES, "a slot of a flight file has another length");
 
-// Who has a slot: a thread, by its number, or one of these.
-#define NOBODY 0
-#define DUMPER UINT32_MAX
-
-// What a dump asks the thread of a slot, and what that answers.
-enum request {
-    NOT_ASKED,
-    ASKED_AT_REST, // to answer only if it is in no call
-    ASKED_ANYWAY,
-    ANSWERING,
-    IS_AMID,
-    ANSWERED
-};
-
 // What a thread has while it records.
 struct slot {
-    struct ring rings[MOST_LEVELS];
-    uint32_t owner;
-    uint32_t request;
-    uint32_t signalled; // the owner that was sent the dump's signal, until it arrives
-    uint64_t freed;     // by how many returns of slots it was given back
+    struct tracering_writer rings[MOST_LEVELS];
     struct noted *noted;
+    uint32_t owner; // the thread's number, or NOBODY, or NOBODY_ANY_MORE
+    uint32_t node;  // its place in the queue of free slots, once it is given back
 } __attribute__((aligned(128)));
 
-// What became of the page that is written, as dumps have it.
-enum tail { TAIL_READ, TAIL_EMPTY, TAIL_AMID_CALL, TAIL_BEGUN, TAIL_NO_ANSWER, TAIL_GONE };
+enum { NOBODY = 0 };
+// All rings of the slot are in calls of a thread that ended in them: no thread gets it any more.
+#define NOBODY_ANY_MORE UINT32_MAX
 
-// What was found on one ring of the slot that is dumped.
-struct found {
-    uint32_t tail;
-    uint64_t written;
-    struct tracering_taken taken;
-};
-
-// A page that a dump took: its parcel is in `parcels`, at the same index.
-struct kept {
-    uint32_t ring, next; // the next page of its ring
-    uint64_t count;      // how many records it has
-    size_t len;
-};
-
-struct output {
-    int file, fault;
-    uint32_t sections;
-    size_t filled;
-    uint8_t bytes[OUTPUT_SIZE];
+// The free slots, the one that was given back last at the end: a queue of Michael and Scott. Of a word the low half is
+// a node, and the high half is another number after each change.
+struct queue {
+    uint64_t head, tail;
+    struct node {
+        uint64_t next;
+        uint32_t slot;
+    } *nodes;
 };
 
 struct recorder {
     struct flight_config config;
     uint64_t started, started_real; // the clock, and the time of day
-    uint64_t without_ring;          // how many events found no ring
-    uint64_t returns;               // how often a slot was given back
     char program[NAME_SIZE];
-    void *memory;
+    void *memory; // the slots, the queue's nodes, and what a dump copies to
     size_t memory_len;
     struct slot *slots;
-    uint64_t *file; // the header of its file, which is mapped; null: it has none
-    size_t file_len;
+    struct queue queue;
+    uint32_t looked; // the slot of which it is looked next whether its thread lives
+    uint64_t *image; // the header of its file, or of memory in that form
+    size_t image_len;
+    bool has_file;
     struct stat file_found; // the file, so that no dump takes its place
-    // What follows belongs to the thread that dumps, and to the one that answers it: the kept pages are a queue of
-    // `room` places, and `used` of them from `begin` on are filled.
-    struct kept *kept;
-    uint8_t *parcels, *tails;
-    size_t parcel_size;
-    uint32_t room, begin, used;
-    struct found found[MOST_LEVELS];
-    struct output out;
+    // What follows belongs to the thread that dumps.
+    uint8_t *copies;                // of the regions of one slot
+    const uint8_t **pages;          // of one ring, by their fills
 };
 
 extern struct recorder flight_recorder;
@@ -164,57 +113,115 @@ extern uint32_t flight_is_dumping;
 extern uint32_t flight_inside;
 // What starts, stops and switches holds this.
 extern pthread_mutex_t flight_lock;
-// The places that record, by their ids.
-extern struct flight_site *flight_sites[MOST_SITES];
-extern uint32_t flight_site_count;
 
 // The slot of this thread, if it is one of the recorder that runs; and the name that it gave itself.
 struct mine {
     struct slot *slot;
     uint32_t running;
+    uint32_t refusals; // how many of its events found no slot, of this recorder
+    uint32_t refused_by;
     char name[NAME_SIZE];
 };
 extern _Thread_local __attribute__((tls_model("initial-exec"))) struct mine flight_mine;
 
-// Gathers from a slot, whoever has it, what the next section of a dump has.
-void flight_gather(struct slot *slot);
-// Answers a dump, if it asks for this slot, which is the calling thread's. All signals are blocked.
-void flight_answer(struct slot *slot);
+// ---- Slots (slots.c).
+
+// Makes all slots free.
+void flight_fill_queue(void);
+// Whether the calling thread may get a slot: one is free, or it is to look for one whose thread has ended, which it
+// does at its first event that finds none, and then now and then.
+bool flight_may_claim(uint32_t running);
+// Gets a slot for the calling thread, or null: none is free, and of those that were looked at no thread has ended.
+struct slot *flight_claim(void);
 // Gives a slot back, as the one that is to be claimed after all that are free now.
 void flight_hand_back(struct slot *slot);
-// Drops the oldest pages that are more than are to be kept.
-void flight_drop_pages(void);
-// Counts an event that found no ring.
+// Counts an event of the calling thread that found no slot.
 void flight_count_without_ring(void);
+// How many there were.
+uint64_t flight_without_ring(void);
+// Begins a lease of this thread, which has the slot. All signals are blocked.
+void flight_begin_lease(struct slot *slot);
 // Copies the leases of a slot.
 void flight_copy_leases(struct leases *to, const struct slot *slot);
-// The handler of the signal by which a dump asks.
-void flight_on_request(int signal);
-// Whether it is one of the signals of a crash.
-bool flight_is_of_crash(int signal);
+// Notes how many events the rings of the calling thread, which has a slot, refused.
+void flight_note_refused(void);
+
+// ---- The image (file.c).
+
+// Makes it, with a header that has no magic yet, and lets the slots note there: the file at this path, or memory.
+int flight_make_image(const char *path);
+// Where the region of a ring is, and how long.
+void *flight_region_of(uint32_t slot, uint32_t level, size_t *len);
+// Puts what is known into the header, and all sites into a file, and then the magic.
+void flight_begin_image(void);
+// Marks a file's end, and lets go of the image.
+void flight_end_image(void);
+// Lets go of an image that wasn't begun, and removes its file.
+void flight_drop_image(const char *path);
+// A forked child's memory is its own from now on.
+void flight_leave_file(void);
+// Whether all of it can be read: another process may have cut the file short.
+bool flight_is_readable(const void *bytes, size_t len);
+// Stores what both clocks say now.
+void flight_stamp(void);
+// Puts a known site into the file, before any event has its id. May be called in handlers.
+void flight_put_site(const uint32_t *known);
+
+// ---- Sites (sites.c).
+
+// Maps the memory of what is kept of sites: 0, or why there is none.
+int flight_make_sites(void);
+// What is kept of each site that is known, in the form of a site of a flight file: the first one, the next one; null
+// after the last one. One that isn't whole has no length.
+const uint32_t *flight_next_site(const uint32_t *known);
+// From now on each site asks once more whether it is on.
+void flight_turn_sites(void);
+
+// ---- Dumps (dump.c, output.c, crash.c).
+
+// Makes what each dump needs.
+void flight_prepare_dumps(void);
+// The checksum CRC-32C of bytes.
+uint32_t flight_checksum(const void *bytes, size_t len);
+// How many crashes were dumped whole, after which the process was not to end.
+extern uint32_t flight_crash_dumps;
+// Dumps, unless somebody else does, and answers whether it tried. If `is_last`, nobody dumps after it.
+bool flight_try_dump(const char *path, int signal, bool is_last, int *fault);
+// Writes a file as PATH~, and renames it when it is whole; or to what is at the path and holds no bytes.
+int flight_write_path(const char *path, void (*put_all)(int signal), int signal);
+// Copies a path, with this process's number in place of each %p, to PATH_MAX bytes. False: it is too long.
+bool flight_expand_path(char *to, const char *path);
+// Puts bytes into the file that is written. After a fault nothing more is written.
+void flight_put_bytes(const void *bytes, size_t len);
+bool flight_has_output_fault(void);
+// Has the file that is written end with this fault.
+void flight_fail_output(int fault);
 // What SIGSEGV and others did before, is done again.
 void flight_forget_crashes(void);
 
-// ---- The recorder's file. Without one these do nothing.
+// ---- ThreadSanitizer doesn't know what orders the recorder's accesses, and takes the C library's copying for races.
+// If it watches the program, it passes over what is done between these two. (The library itself isn't compiled for it.)
 
-// Makes the file at this path, with a header that has no magic yet, and lets the slots note there.
-int flight_make_file(const char *path);
-// Where the region of a ring is, by its number.
-void *flight_region_of(uint32_t number, size_t *len);
-// Puts what is known into the header, and all sites, and then the magic: from now on this is a flight file.
-void flight_begin_file(void);
-// Marks its end, and lets go of it.
-void flight_end_file(void);
-// Lets go of a file that wasn't begun, and removes it.
-void flight_drop_file(const char *path);
-// A forked child's memory is its own from now on.
-void flight_leave_file(void);
-// Stores what both clocks say now.
-void flight_stamp(void);
-// Puts a site there, before any event has its id. May be called in handlers.
-void flight_put_site(uint32_t id, const struct flight_site *site);
-// Notes how many events the rings of the calling thread, which has a slot, refused.
-void flight_note_refused(void);
+void AnnotateIgnoreReadsBegin(const char *, int) __attribute__((weak, visibility("default")));
+void AnnotateIgnoreReadsEnd(const char *, int) __attribute__((weak, visibility("default")));
+void AnnotateIgnoreWritesBegin(const char *, int) __attribute__((weak, visibility("default")));
+void AnnotateIgnoreWritesEnd(const char *, int) __attribute__((weak, visibility("default")));
+
+static inline void flight_hide(void)
+{
+    if (AnnotateIgnoreReadsBegin && AnnotateIgnoreWritesBegin) {
+        AnnotateIgnoreReadsBegin(__FILE__, __LINE__);
+        AnnotateIgnoreWritesBegin(__FILE__, __LINE__);
+    }
+}
+
+static inline void flight_show(void)
+{
+    if (AnnotateIgnoreReadsEnd && AnnotateIgnoreWritesEnd) {
+        AnnotateIgnoreWritesEnd(__FILE__, __LINE__);
+        AnnotateIgnoreReadsEnd(__FILE__, __LINE__);
+    }
+}
 
 // ---- Clocks, signals, words that threads share, and waiting.
 
@@ -287,17 +294,11 @@ static inline uint32_t load(const uint32_t *word)
 }
 
 // How many records of a ring are complete.
-static inline uint64_t records_of(const struct ring *ring)
+static inline uint64_t records_of(const struct tracering_writer *ring)
 {
     uint64_t records = 0;
-    (void)tracering_written(&ring->writer, &records);
+    (void)tracering_written(ring, &records);
     return records;
-}
-
-// How many pages the rings of this level have.
-static inline uint32_t pages_of(uint32_t level)
-{
-    return level ? LATER_PAGES : flight_recorder.config.pages;
 }
 
 // The slot of the calling thread, or null.

@@ -1,11 +1,23 @@
 // The flight recorder: the places that record, how far their texts are read, and which of them are switched on.
+//
+// A site is of the program, or of an object that may be unloaded. So what a dump has of it is copied when it becomes
+// known, and it asks once more by itself whether it is on if switches have changed since: nobody else reads it.
 #define _GNU_SOURCE
 #include "recorder.h"
 
 #include <stdlib.h>
+#include <sys/mman.h>
 
-struct flight_site *flight_sites[MOST_SITES];
-uint32_t flight_site_count;
+// What is kept of sites: as in a flight file, one after the other. (Memory that isn't used isn't taken.)
+enum { KEPT_ROOM = 1 << 24, INDEX = 2 * MOST_SITES };
+static uint32_t *kept_sites;
+static uint64_t kept_used;
+static uint32_t site_count;
+// Where each site is that was kept, found by its content: words of it, and 0 for none.
+static uint32_t site_index[INDEX];
+
+// Two times how often what is on may have changed, from 1 on.
+uint32_t flight_turn = 2;
 
 // A switch: the last one of its pattern, among all of which the one with the highest rank counts.
 struct rule {
@@ -16,9 +28,8 @@ struct rule {
 
 static struct rule *rules;
 static uint64_t ranks;
-static uint32_t rules_version;
 
-// What a pattern is matched with: a site's "FILE:LINE FORMAT", in its parts.
+// What a pattern is matched with: a site's "FILE:LINE FORMAT" or "FILE:LINE LEVEL FORMAT", in its parts.
 struct subject {
     const char *part[3];
     size_t len[3];
@@ -95,7 +106,9 @@ static bool matches(const char *pattern, const struct subject *subject)
 // Whether the switches leave a site on.
 static bool is_left_on(const struct flight_site *site)
 {
-    char line[16] = ":";
+    static const char *const levels[] = {"", "ERROR ", "WARN ", "INFO ", "DEBUG "};
+    unsigned level = site->style >> SITE_LEVEL_SHIFT;
+    char line[32] = ":";
     size_t len = 1;
     uint32_t power = 1;
     while (site->line / power >= 10)
@@ -103,6 +116,8 @@ static bool is_left_on(const struct flight_site *site)
     for (; power; power /= 10)
         line[len++] = (char)('0' + site->line / power % 10);
     line[len++] = ' ';
+    for (const char *at = level < sizeof levels / sizeof *levels ? levels[level] : ""; *at; at++)
+        line[len++] = *at;
     struct subject subject = {{site->file, line, site->format}, {site->file_len, len, site->format_len}};
     uint64_t last = 1;
     for (struct rule *rule = __atomic_load_n(&rules, __ATOMIC_SEQ_CST); rule; rule = rule->next) {
@@ -130,17 +145,18 @@ static struct rule *rule_of(const char *pattern)
     return rule;
 }
 
-// Switches a site as the switches say. If they change meanwhile, it is done again: so no old answer stays.
-static bool apply_rules(struct flight_site *site)
+// Switches a site as the switches say. (The turn is loaded first: if another one begins meanwhile, the site asks
+// again.)
+static bool apply_rules(struct flight_site *site, uint32_t turn)
 {
-    uint32_t version;
-    bool is_on;
-    do {
-        version = load(&rules_version);
-        is_on = is_left_on(site);
-        __atomic_store_n(&site->state, is_on ? FLIGHT_ON : FLIGHT_OFF, __ATOMIC_SEQ_CST);
-    } while (load(&rules_version) != version);
+    bool is_on = is_left_on(site);
+    __atomic_store_n(&site->state, turn | is_on, __ATOMIC_SEQ_CST);
     return is_on;
+}
+
+void flight_turn_sites(void)
+{
+    (void)__atomic_add_fetch(&flight_turn, 2, __ATOMIC_SEQ_CST);
 }
 
 int flight_switch(const char *pattern, bool on)
@@ -151,12 +167,7 @@ int flight_switch(const char *pattern, bool on)
     struct rule *rule = rule_of(pattern);
     if (rule) {
         __atomic_store_n(&rule->state, 2 * ++ranks + on, __ATOMIC_SEQ_CST);
-        (void)__atomic_add_fetch(&rules_version, 1, __ATOMIC_SEQ_CST);
-        for (uint32_t id = 0; id < load(&flight_site_count); id++) {
-            struct flight_site *site = __atomic_load_n(&flight_sites[id], __ATOMIC_SEQ_CST);
-            if (site)
-                (void)apply_rules(site);
-        }
+        flight_turn_sites();
     }
     (void)pthread_mutex_unlock(&flight_lock);
     return rule ? 0 : ENOMEM;
@@ -250,25 +261,161 @@ static void find_limits(struct flight_site *site)
     }
 }
 
-// A site gets its id, from which a dump finds it, and is in the file before any event has that. (Two threads may both
-// give it one, and each id leads to it. In a list one of them would have to wait.)
+// ---- What is kept of sites.
+
+int flight_make_sites(void)
+{
+    if (kept_sites)
+        return 0;
+    int flags = MAP_PRIVATE | MAP_ANONYMOUS | MAP_NORESERVE;
+    void *made = mmap(NULL, KEPT_ROOM, PROT_READ | PROT_WRITE, flags, -1, 0);
+    kept_sites = made == MAP_FAILED ? NULL : made;
+    return kept_sites ? 0 : ENOMEM;
+}
+
+const uint32_t *flight_next_site(const uint32_t *known)
+{
+    const uint32_t *next = known ? known + known[0] / sizeof *known : kept_sites;
+    uint64_t used = (uint64_t)(next - kept_sites) * sizeof *next;
+    bool is_there = used < KEPT_ROOM && __atomic_load_n(next, __ATOMIC_ACQUIRE);
+    return is_there ? next : NULL;
+}
+
+// What a site has after its id, as it is kept: how long that is.
+static size_t len_of(const struct flight_site *site)
+{
+    return 3 * 4 + (size_t)site->count + 4 + site->file_len + 4 + site->format_len;
+}
+
+static uint8_t *put(uint8_t *at, const void *bytes, size_t len)
+{
+    memcpy(at, bytes, len);
+    return at + len;
+}
+
+static uint8_t *put_number(uint8_t *at, uint32_t value)
+{
+    return put(at, &value, sizeof value);
+}
+
+static void put_site(uint8_t *at, const struct flight_site *site)
+{
+    at = put_number(at, site->line);
+    at = put_number(at, site->style);
+    at = put_number(at, site->count);
+    for (unsigned each = 0; each < site->count; each++)
+        *at++ = kind_of(site, each);
+    at = put(put_number(at, site->file_len), site->file, site->file_len);
+    (void)put(put_number(at, site->format_len), site->format, site->format_len);
+}
+
+// Whether this is kept of the site.
+static bool is_of(const uint32_t *known, const struct flight_site *site)
+{
+    const uint8_t *at = (const uint8_t *)(known + 3), *kinds = at + 3 * 4;
+    const uint8_t *file = kinds + site->count + 4, *format = file + site->file_len + 4;
+    const uint32_t numbers[] = {site->line, site->style, site->count};
+    if (known[1] != 4 + len_of(site) || memcmp(at, numbers, sizeof numbers))
+        return false;
+    for (unsigned each = 0; each < site->count; each++)
+        if (kinds[each] != kind_of(site, each))
+            return false;
+    return !memcmp(file - 4, &site->file_len, 4) && !memcmp(file, site->file, site->file_len)
+        && !memcmp(format, site->format, site->format_len);
+}
+
+// Gets room after what is kept, or null. (A room is stated before the next one is given: so none is passed over.)
+static uint32_t *get_room(size_t room)
+{
+    for (;;) {
+        uint64_t used = __atomic_load_n(&kept_used, __ATOMIC_SEQ_CST);
+        if (room > KEPT_ROOM - used)
+            return NULL;
+        uint32_t *head = kept_sites + used / sizeof *head, found = 0;
+        bool is_got = __atomic_compare_exchange_n(head, &found, (uint32_t)room, false, __ATOMIC_SEQ_CST,
+            __ATOMIC_SEQ_CST);
+        (void)__atomic_compare_exchange_n(&kept_used, &used, used + (is_got ? room : found), false, __ATOMIC_SEQ_CST,
+            __ATOMIC_SEQ_CST);
+        if (is_got)
+            return head;
+    }
+}
+
+// Keeps a new site, with the next id, from 1 on, and puts it into the recorder's file.
+static const uint32_t *keep(const struct flight_site *site)
+{
+    uint32_t count = load(&site_count);
+    do {
+        if (count >= MOST_SITES)
+            return NULL;
+    } while (!__atomic_compare_exchange_n(&site_count, &count, count + 1, false, __ATOMIC_SEQ_CST, __ATOMIC_SEQ_CST));
+    size_t len = 4 + len_of(site);
+    uint32_t *known = get_room((SITE_HEAD + len + 7) / 8 * 8);
+    if (!known)
+        return NULL;
+    known[2] = count + 1;
+    put_site((uint8_t *)(known + 3), site);
+    __atomic_store_n(&known[1], (uint32_t)len, __ATOMIC_RELEASE);
+    flight_put_site(known);
+    flight_stamp();
+    return known;
+}
+
+static uint64_t hash_bytes(uint64_t hash, const char *bytes, size_t len)
+{
+    for (size_t at = 0; at < len; at++)
+        hash = (hash ^ (uint8_t)bytes[at]) * 0x100000001b3;
+    return hash;
+}
+
+// What is kept of a site: of one with the same texts and kinds, if that is known (an object may be loaded again and
+// again). Null: there are too many. (Two threads may both keep one.)
+static const uint32_t *find_or_keep(const struct flight_site *site)
+{
+    uint64_t hash = hash_bytes(0xcbf29ce484222325 ^ site->line, site->file, site->file_len);
+    hash = hash_bytes(hash, site->format, site->format_len);
+    for (size_t at = (hash ^ hash >> 32) % INDEX;; at = (at + 1) % INDEX) {
+        uint32_t place = load(&site_index[at]);
+        if (place && is_of(kept_sites + place - 1, site))
+            return kept_sites + place - 1;
+        if (place)
+            continue;
+        const uint32_t *known = keep(site);
+        while (known && !exchange_if(&site_index[at], 0, (uint32_t)(known - kept_sites) + 1))
+            at = (at + 1) % INDEX;
+        return known;
+    }
+}
+
+// A site that wasn't known gets its id, under which it is in the recorder's file by then.
+static bool learn(struct flight_site *site)
+{
+    find_limits(site);
+    const uint32_t *known = find_or_keep(site);
+    if (known)
+        __atomic_store_n(&site->id, known[2], __ATOMIC_RELEASE);
+    else
+        flight_count_without_ring();
+    return known;
+}
+
+// (One that can't become known asks again at each event, which is counted.)
+static bool become_known(struct flight_site *site)
+{
+    uint32_t turn = load(&flight_turn);
+    if (!load(&flight_running)) {
+        __atomic_store_n(&site->state, turn, __ATOMIC_SEQ_CST);
+        return false;
+    }
+    return (__atomic_load_n(&site->id, __ATOMIC_ACQUIRE) || learn(site)) && apply_rules(site, turn);
+}
+
 bool flight_register(struct flight_site *site)
 {
-    if (!load(&flight_running))
-        return false;
-    uint32_t id = load(&flight_site_count);
-    do {
-        if (id >= MOST_SITES) {
-            flight_count_without_ring();
-            return false;
-        }
-    } while (!__atomic_compare_exchange_n(&flight_site_count, &id, id + 1, false, __ATOMIC_SEQ_CST, __ATOMIC_SEQ_CST));
-    find_limits(site);
-    __atomic_store_n(&flight_sites[id], site, __ATOMIC_SEQ_CST);
-    flight_put_site(id, site);
-    flight_stamp();
-    __atomic_store_n(&site->id, id, __ATOMIC_RELEASE);
-    return apply_rules(site);
+    flight_hide();
+    bool is_on = become_known(site);
+    flight_show();
+    return is_on;
 }
 
 // What a %.*s was given before its text.

@@ -1,5 +1,5 @@
 // Rings whose pages lie in memory of the caller's: a file, or memory that is shared. If the process is killed, at any
-// instruction, its records are still there, and while it runs, others can look at them (on x86-64).
+// instruction, its records are still there, and while it runs, others can look at them.
 //
 //     size_t len = tracering_region_size(64, 4080);
 //     void *region = tracering_region_file("ring.0", len);
@@ -23,9 +23,11 @@
 // one that was never completed are lost with it. A file's bytes are those of the machine's page cache: they outlive the
 // process, and a crash of the machine only if they were written back (msync).
 //
-// Order. That the stores of a call are seen in their order is tested, and not proved: after a kill it follows from the
-// order of instructions, and another thread sees it on x86-64, which stores in order. So elsewhere a copy of a region
-// that is written may be wrong.
+// Order. That the stores of a call are made in their order is tested, and not proved. After a kill it is all that
+// counts. Another thread sees that order on x86-64; on other machines, as arm64, a copy asks the kernel for it some ten
+// times (membarrier(2)): that takes a copy microseconds, or some hundred milliseconds if the process that made the ring
+// wasn't allowed the call; the writer pays nothing. docs/formats/pages.md, "While it is written", has the argument. It
+// was tried in a model and under QEMU, not on such a machine.
 //
 // Threads. One writer and one reader use a ring at a time, as tracering.h says. Any thread or process may call
 // tracering_region_about, tracering_region_copy and tracering_region_slot, and so may a handler: they take no memory
@@ -135,7 +137,8 @@ int32_t tracering_region_about(const void *region, size_t len, struct tracering_
 // `copy` has room for as many bytes as the region has (`len` of `tracering_region_about`). NO_ROOM: `copy_len` is too
 // small. BAD_REGION: as there, or the region begins at no multiple of TRACERING_REGION_ALIGN; then nothing is copied,
 // as with NO_ROOM. Or another ring, of another stream, was made there meanwhile; then the copy is no region,
-// and isn't tried again: whoever asked for the ring of that stream has to know that it is gone.
+// and isn't tried again: whoever asked for the ring of that stream has to know that it is gone. Or the machine isn't an
+// x86-64, and its kernel refuses the calls that order loads ("Order"); then the copy is no region, too.
 int32_t tracering_region_copy(const void *region, size_t len, void *copy, size_t copy_len);
 
 // What slot `slot` (from 0 on) of a copy, or of a region that nothing writes any more, has: `bytes` is set to where in

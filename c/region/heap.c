@@ -21,7 +21,8 @@ struct used_region {
     struct used_region *next;
     _Atomic uint64_t changes; // odd during a change of the two below
     _Atomic uintptr_t begin, end;
-    _Atomic size_t holders; // the bodies, and who is filling the region; 0: the entry is free
+    _Atomic size_t holders; // the bodies, and who is filling or holding the region; 0: the entry is free
+    _Atomic bool is_held;   // it has room for several rings, of one owner
 };
 
 static _Atomic(struct used_region *) used_regions;
@@ -94,14 +95,47 @@ bool tracering_heap_has_bodies(const void *begin, size_t len)
     return atomic_load(&used_count) && find((uintptr_t)begin, (uintptr_t)begin + len, NULL);
 }
 
-int tracering_heap_begin(struct filling *filling, void *begin, size_t len)
+// An entry of this memory, held once.
+static struct used_region *claim_for(void *begin, size_t len)
 {
     struct used_region *region = claim();
     if (!region)
-        return 0;
+        return NULL;
     set_bounds(region, (uintptr_t)begin, (uintptr_t)begin + len);
     // (Of two threads that fill the same memory, the one that counts itself later sees the other.)
     atomic_fetch_add(&used_count, 1);
+    return region;
+}
+
+bool tracering_heap_hold(void *begin, size_t len)
+{
+    struct used_region *region = claim_for(begin, len);
+    if (region)
+        atomic_store(&region->is_held, true);
+    return region;
+}
+
+void tracering_heap_let_go(void *begin, size_t len)
+{
+    struct used_region *region = find((uintptr_t)begin, (uintptr_t)begin + len, NULL);
+    if (!region)
+        return;
+    atomic_store(&region->is_held, false);
+    leave(region);
+}
+
+int tracering_heap_begin(struct filling *filling, void *begin, size_t len)
+{
+    struct used_region *held = find((uintptr_t)begin, (uintptr_t)begin + len, NULL);
+    if (held && atomic_load(&held->is_held)) {
+        atomic_fetch_add(&held->holders, 1);
+        filling->region = held;
+        current = filling;
+        return 1;
+    }
+    struct used_region *region = claim_for(begin, len);
+    if (!region)
+        return 0;
     if (find((uintptr_t)begin, (uintptr_t)begin + len, region)) {
         leave(region);
         return -1;

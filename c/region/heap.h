@@ -26,7 +26,12 @@ struct filling {
 int tracering_heap_begin(struct filling *filling, void *begin, size_t len);
 void tracering_heap_end(struct filling *filling);
 
-// Whether a body is in this memory.
+// From here on all regions in this memory are as one, so that many take no longer to make and to free than one takes,
+// until it is let go. Nobody else makes one there. False: there is no memory to note that.
+bool tracering_heap_hold(void *begin, size_t len);
+void tracering_heap_let_go(void *begin, size_t len);
+
+// Whether a body is in this memory, or it is held.
 bool tracering_heap_has_bodies(const void *begin, size_t len);
 
 // What the proved code calls.

@@ -4,7 +4,18 @@
 
 #include "tracering_region.h"
 
-enum { MAGIC_WORD, VERSION_WORD, PAGES_WORD, SIZE_WORD, CPU_WORD, STREAM_WORD, TAKEN_WORD, ENDED_WORD, HEADER_WORDS };
+enum {
+    MAGIC_WORD,
+    VERSION_WORD,
+    PAGES_WORD,
+    SIZE_WORD,
+    CPU_WORD,
+    STREAM_WORD,
+    TAKEN_WORD,
+    ENDED_WORD,
+    ORDERED_WORD,
+    HEADER_WORDS
+};
 enum { SLOT_CPU, SLOT_FILL, SLOT_FIRST, SLOT_MISSED, SLOT_TIME, SLOT_COMMIT, SLOT_WORDS };
 
 // The bytes `tracring`, as a number.
@@ -39,5 +50,8 @@ static inline bool is_aligned(const void *region)
 {
     return (uintptr_t)region % TRACERING_REGION_ALIGN == 0;
 }
+
+// Sets the number after the last record of a slot, which commits no more bytes than a page has; false: it is no page.
+bool tracering_region_end(const void *slot, uint64_t *end);
 
 #endif

@@ -1,5 +1,6 @@
 // Regions of rings that are dead, or that others write meanwhile.
 #include "layout.h"
+#include "order.h"
 
 #include <string.h>
 
@@ -19,8 +20,8 @@ static void put_word(void *at, size_t word, uint64_t value)
     memcpy((unsigned char *)at + word * sizeof value, &value, sizeof value);
 }
 
-// Each load is done before the next one. (The writer stores plainly, or lets this thread see no value before it is
-// stored: on x86-64 all stores are seen in their order.)
+// A load that the compiler leaves where it is. (What orders it with others is `order`, below. That it acquires is for
+// what is stored with release: the letters of a region, last of its header, and `ended`.)
 static uint64_t load(const uint64_t *at)
 {
     return __atomic_load_n(at, __ATOMIC_ACQUIRE);
@@ -66,38 +67,38 @@ int32_t tracering_region_about(const void *region, size_t len, struct tracering_
     return TRACERING_DONE;
 }
 
-// Whether what this commit says was there is there still. (tests/c/survive plants here, and below.)
-static bool is_same(const uint64_t *slot, uint64_t fill, uint64_t commit)
-{
-#ifdef PLANT_NOT_LOOKED_AGAIN
-    (void)slot, (void)fill, (void)commit;
-    return true;
-#else
-    return load(slot + SLOT_FILL) == fill && load(slot + SLOT_COMMIT) >= commit;
-#endif
-}
-
-// Copies a slot as it was at one moment, or leaves the copy empty. The writer zeroes commit before it stores a new
-// fill, and overwrites data after that: if fill is the same before and after, and commit no less, then nothing that
-// was committed before has changed. (Fill is loaded first: else commit may be of the fill before.)
-static void copy_slot(const uint64_t *slot, unsigned char *copy, size_t size)
-{
-    put_word(copy, SLOT_COMMIT, 0);
-    uint64_t fill = load(slot + SLOT_FILL), commit = load(slot + SLOT_COMMIT);
-    size_t words = SLOT_WORDS + ((commit < size ? (size_t)commit : size) + 7) / 8;
-    for (size_t word = 0; word < words; word++)
-        if (word != SLOT_COMMIT)
-            put_word(copy, word, load(slot + word));
-    if (is_same(slot, fill, commit))
-        put_word(copy, SLOT_COMMIT, commit);
-}
+// ---- Copies of what is written.
 
 // The slots of a live region, and of its copy.
 struct slots {
     const unsigned char *from;
     unsigned char *to;
     size_t count, size;
+    bool is_offered, is_ordered; // `order`, by the writer's process; whether each one so far was done
 };
+
+// Where loads are ordered: each of these is before all loads that come after it here. docs/formats/pages.md, "While it
+// is written", says what each one is for.
+enum place {
+    AFTER_HEADER,
+    AFTER_NOTED,
+    AFTER_FILLS,
+    AFTER_COMMITS,
+    AFTER_WORDS,
+    AFTER_LOOK,
+    AFTER_TAKEN
+};
+
+// What was stored before anything that was loaded so far is seen from here on. (tests/c/survive plants here and below.)
+static void order(struct slots *slots, enum place place)
+{
+#ifdef PLANT_UNORDERED
+    if (place == PLANT_UNORDERED)
+        return;
+#endif
+    (void)place;
+    slots->is_ordered = slots->is_ordered && tracering_order(slots->is_offered);
+}
 
 static const uint64_t *slot_of(const struct slots *slots, size_t slot)
 {
@@ -109,17 +110,59 @@ static unsigned char *copy_of(const struct slots *slots, size_t slot)
     return slots->to + slot_offset(slots->size, slot);
 }
 
-// The newest fill that has something. Those before it are whole from here on: pages are committed in their order.
+// Whether what the copy of a slot says was there is there still.
+static bool is_same(const uint64_t *slot, const unsigned char *copy)
+{
+#ifdef PLANT_NOT_LOOKED_AGAIN
+    (void)slot, (void)copy;
+    return true;
+#else
+    return load(slot + SLOT_FILL) == word_at(copy, SLOT_FILL)
+        && load(slot + SLOT_COMMIT) >= word_at(copy, SLOT_COMMIT);
+#endif
+}
+
+// The fill of each slot.
+static void copy_fills(const struct slots *slots)
+{
+    for (size_t slot = 0; slot < slots->count; slot++)
+        put_word(copy_of(slots, slot), SLOT_FILL, load(slot_of(slots, slot) + SLOT_FILL));
+}
+
+// The newest of these fills that has something, or had when a newer one began. Those before it are whole from here on:
+// pages are committed in their order.
 static inline uint64_t newest_fill(const struct slots *slots)
 {
     uint64_t newest = 0;
     for (size_t slot = 0; slot < slots->count; slot++) {
-        const uint64_t *at = slot_of(slots, slot);
-        uint64_t fill = load(at + SLOT_FILL);
-        if (load(at + SLOT_COMMIT) && load(at + SLOT_FILL) == fill && fill > newest)
+        uint64_t fill = word_at(copy_of(slots, slot), SLOT_FILL);
+        if (load(slot_of(slots, slot) + SLOT_COMMIT) && fill > newest)
             newest = fill;
     }
     return newest;
+}
+
+// How much each slot has of its fill, and nothing of fills newer than this one.
+static void copy_commits(const struct slots *slots, uint64_t newest)
+{
+    for (size_t slot = 0; slot < slots->count; slot++) {
+        unsigned char *copy = copy_of(slots, slot);
+        bool is_known = word_at(copy, SLOT_FILL) <= newest;
+        put_word(copy, SLOT_COMMIT, is_known ? load(slot_of(slots, slot) + SLOT_COMMIT) : 0);
+    }
+}
+
+// The other words of each slot, as far as it has something.
+static void copy_words(const struct slots *slots)
+{
+    for (size_t slot = 0; slot < slots->count; slot++) {
+        unsigned char *copy = copy_of(slots, slot);
+        uint64_t commit = word_at(copy, SLOT_COMMIT);
+        size_t words = SLOT_WORDS + ((commit < slots->size ? (size_t)commit : slots->size) + 7) / 8;
+        for (size_t word = 0; word < words; word++)
+            if (word != SLOT_FILL && word != SLOT_COMMIT)
+                put_word(copy, word, load(slot_of(slots, slot) + word));
+    }
 }
 
 // Empties the copies of slots that were begun again since; whether there was one.
@@ -127,10 +170,8 @@ static bool drop_overwritten(const struct slots *slots)
 {
     bool dropped = false;
     for (size_t slot = 0; slot < slots->count; slot++) {
-        const uint64_t *at = slot_of(slots, slot);
         unsigned char *copy = copy_of(slots, slot);
-        uint64_t commit = word_at(copy, SLOT_COMMIT);
-        if (!commit || is_same(at, word_at(copy, SLOT_FILL), commit))
+        if (!word_at(copy, SLOT_COMMIT) || is_same(slot_of(slots, slot), copy))
             continue;
         put_word(copy, SLOT_COMMIT, 0);
         dropped = true;
@@ -138,24 +179,29 @@ static bool drop_overwritten(const struct slots *slots)
     return dropped;
 }
 
-// Pages newer than the newest one before are left out: in the copy that one may lack its last records. All pages that
-// stay were there at one moment, when all that are left out had been overwritten: so the copy shows what was lost as a
+// Copies each slot as it was at one moment, or leaves its copy empty. The writer zeroes commit before it stores a new
+// fill, and overwrites data after that: if fill is the same before and after, and commit no less, then nothing that
+// was committed before has changed. (Fill is loaded first: else commit may be of the fill before.)
+// Pages newer than the newest one before are left out: in the copy that one may lack its last records. (The fills are
+// loaded again, since a page before that one may have been begun behind the loads that found it.) All pages that stay
+// were there at one moment, when all that are left out had been overwritten: so the copy shows what was lost as a
 // region does that nobody writes.
-static void copy_once(const struct slots *slots)
+static void copy_once(struct slots *slots)
 {
-#ifdef PLANT_NEWER_PAGES_STAY
-    uint64_t newest = UINT64_MAX;
-#else
+    copy_fills(slots);
+    order(slots, AFTER_NOTED);
     uint64_t newest = newest_fill(slots);
+#ifdef PLANT_NEWER_PAGES_STAY
+    newest = UINT64_MAX;
 #endif
-    for (size_t slot = 0; slot < slots->count; slot++) {
-        unsigned char *copy = copy_of(slots, slot);
-        copy_slot(slot_of(slots, slot), copy, slots->size);
-        if (word_at(copy, SLOT_FILL) > newest)
-            put_word(copy, SLOT_COMMIT, 0);
-    }
-    while (drop_overwritten(slots)) {
-    }
+    copy_fills(slots);
+    order(slots, AFTER_FILLS);
+    copy_commits(slots, newest);
+    order(slots, AFTER_COMMITS);
+    copy_words(slots);
+    order(slots, AFTER_WORDS);
+    while (drop_overwritten(slots))
+        order(slots, AFTER_LOOK);
 }
 
 // Whether a page of the copy has something.
@@ -167,13 +213,22 @@ static bool has_page(const struct slots *slots)
     return false;
 }
 
+// Whether a slot has something.
+static bool has_commit(const struct slots *slots)
+{
+    for (size_t slot = 0; slot < slots->count; slot++)
+        if (load(slot_of(slots, slot) + SLOT_COMMIT))
+            return true;
+    return false;
+}
+
 // If all pages were overwritten meanwhile, it is tried again: whoever copies may have been halted.
-static void copy_slots(const struct slots *slots)
+static void copy_slots(struct slots *slots)
 {
     int tries = 0;
     do
         copy_once(slots);
-    while (!has_page(slots) && newest_fill(slots) && ++tries < MOST_TRIES);
+    while (!has_page(slots) && has_commit(slots) && ++tries < MOST_TRIES);
 }
 
 // Whether the ring is still the one of this header: another one that is made in the region takes the magic away before
@@ -201,15 +256,17 @@ int32_t tracering_region_copy(const void *region, size_t len, void *copy, size_t
     read_header(region, header);
     if (!is_header(header, len))
         return TRACERING_BAD_REGION;
-    struct slots slots = {region, copy, header[PAGES_WORD] + 1, header[SIZE_WORD]};
+    struct slots slots = {region, copy, header[PAGES_WORD] + 1, header[SIZE_WORD], header[ORDERED_WORD] == 1, true};
     if (copy_len < slot_offset(slots.size, slots.count))
         return TRACERING_NO_ROOM;
     memset(copy, 0, TRACERING_REGION_HEADER);
+    order(&slots, AFTER_HEADER);
     copy_slots(&slots);
-    // (`ended` was loaded before all slots, and `taken` after them: neither says of a record that has no slot here that
-    // it never was, or was never taken.)
+    // (`ended` was loaded before all slots, and `taken` after it was found which were begun again: neither says of a
+    // record that has no slot here that it never was, or was never taken.)
     header[TAKEN_WORD] = load(from + TAKEN_WORD);
-    if (!is_same_ring(from, header))
+    order(&slots, AFTER_TAKEN);
+    if (!slots.is_ordered || !is_same_ring(from, header))
         return TRACERING_BAD_REGION;
     memcpy(copy, header, sizeof header);
     return TRACERING_DONE;
@@ -271,15 +328,23 @@ static bool is_end(const struct words *words)
     return !words->left || (words->left >= sizeof padding && !memcmp(words->data, padding, sizeof padding));
 }
 
-// Whether a slot is a page, and the number after its last record is below this one.
-static bool ends_below(const unsigned char *slot, uint64_t number)
+bool tracering_region_end(const void *slot, uint64_t *end)
 {
-    struct words words = {slot + TRACERING_HEADER, word_at(slot, SLOT_COMMIT), word_at(slot, SLOT_TIME),
-        word_at(slot, SLOT_FIRST)};
+    const unsigned char *at = slot;
+    struct words words = {at + TRACERING_HEADER, word_at(at, SLOT_COMMIT), word_at(at, SLOT_TIME),
+        word_at(at, SLOT_FIRST)};
     while (!is_end(&words))
         if (!read_word(&words))
             return false;
-    return words.end < number;
+    *end = words.end;
+    return true;
+}
+
+// Whether a slot is a page, and the number after its last record is below this one.
+static bool ends_below(const unsigned char *slot, uint64_t number)
+{
+    uint64_t end;
+    return number && tracering_region_end(slot, &end) && end < number;
 }
 
 int32_t tracering_region_slot(const void *region, size_t len, size_t slot, const void **bytes, size_t *bytes_len)

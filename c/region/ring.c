@@ -2,6 +2,7 @@
 // that is closed and taken, by a wish, within one call (660 gaps in 500 kills).
 #include "heap.h"
 #include "layout.h"
+#include "order.h"
 
 #include <string.h>
 
@@ -23,7 +24,7 @@ static int32_t refusal_of(const struct tracering_held *w, const struct tracering
     return len < needed || !is_aligned(region) ? TRACERING_BAD_REGION : TRACERING_DONE;
 }
 
-// The region's own words, the first one last.
+// The region's own words, the first one last: who loads that sees all that is stored here.
 static void store_header(uint64_t *header, uint32_t cpu, size_t pages, size_t size, uint64_t stream)
 {
     memset(header + 1, 0, TRACERING_REGION_HEADER - sizeof *header);
@@ -32,6 +33,7 @@ static void store_header(uint64_t *header, uint32_t cpu, size_t pages, size_t si
     header[SIZE_WORD] = size;
     header[CPU_WORD] = cpu;
     header[STREAM_WORD] = stream;
+    header[ORDERED_WORD] = tracering_order_offer();
     for (size_t slot = 0; slot <= pages; slot++)
         *(uint64_t *)((unsigned char *)header + slot_offset(size, slot)) = cpu;
     __atomic_store_n(&header[MAGIC_WORD], REGION_MAGIC, __ATOMIC_RELEASE);
@@ -64,7 +66,8 @@ int32_t tracering_raw_new_in(struct tracering_held *w, struct tracering_held *r,
     if (begun <= 0)
         return begun ? TRACERING_BAD_REGION : TRACERING_NO_MEMORY;
     uint64_t *header = region;
-    // (Before all that follows: whoever copies the former ring sees by it that there is another one.)
+    // (Before all that follows: whoever copies the former ring, and orders its loads, sees by it that there is another
+    // one.)
     __atomic_store_n(&header[MAGIC_WORD], 0, __ATOMIC_RELEASE);
     __atomic_signal_fence(__ATOMIC_SEQ_CST);
     code = make(w, r, cpu, pages, size, &filling);

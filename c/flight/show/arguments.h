@@ -1,4 +1,4 @@
-// The arguments of a record, and the two ways of formatting them.
+// The arguments of a record, and the three ways of formatting them.
 #ifndef FLIGHT_SHOW_ARGUMENTS_H
 #define FLIGHT_SHOW_ARGUMENTS_H
 
@@ -42,5 +42,11 @@ void add_shortest(struct text *text, const struct argument *argument);
 // Format as C's printf does, or as Rust's format does. What can't be formatted so is added in angle brackets.
 void format_printf(struct text *text, struct bytes format, struct arguments *arguments);
 void format_braces(struct text *text, struct bytes format, struct arguments *arguments);
+
+// Adds the text of a site of named fields, and each field as NAME=VALUE.
+void format_fields(struct text *text, const struct site *site, struct arguments *arguments);
+
+// The name of a field of such a site, from 0 on; none is empty.
+struct bytes field_name(const struct site *site, size_t field);
 
 #endif

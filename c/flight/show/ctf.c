@@ -23,7 +23,7 @@ struct ctf {
     const struct dump *dump;
     const char *folder;
     struct text *path; // of the file that was opened last
-    struct stream streams[CPUS]; // by CPU
+    struct stream streams[RINGS]; // by number
     struct text formatted;
     struct arguments arguments;
     bool has_failed;
@@ -256,10 +256,11 @@ static void add_record(struct ctf *ctf, struct text *packet, const struct record
         add_argument(packet, record->site->kinds.at[k], k < arguments->count ? &arguments->at[k] : NULL);
 }
 
-static void ctf_record(void *self, const struct record *record)
+static void ctf_record(void *self, const struct dump *dump, const struct record *record)
 {
     struct ctf *ctf = self;
     struct stream *stream = stream_of(ctf, record->ring);
+    (void)dump;
     if (!stream)
         return;
     uint64_t time = trace_time(&ctf->dump->process, record->moment);
@@ -271,10 +272,11 @@ static void ctf_record(void *self, const struct record *record)
         write_packet(ctf, record->ring, stream);
 }
 
-static void ctf_gap(void *self, const struct gap *gap)
+static void ctf_gap(void *self, const struct dump *dump, const struct gap *gap)
 {
     struct ctf *ctf = self;
     struct stream *stream = stream_of(ctf, gap->ring);
+    (void)dump;
     if (!stream)
         return;
     if (stream->packet.len)
@@ -282,10 +284,11 @@ static void ctf_gap(void *self, const struct gap *gap)
     stream->discarded += gap->last - gap->first + 1;
 }
 
-static void ctf_loss(void *self, const struct loss *loss)
+static void ctf_loss(void *self, const struct dump *dump, const struct loss *loss)
 {
     struct ctf *ctf = self;
-    if (loss->kind != LOSS_REFUSED && loss->kind != LOSS_NOT_READ)
+    (void)dump;
+    if (loss->kind != LOSS_REFUSED)
         return;
     struct stream *stream = stream_of(ctf, loss->ring);
     if (!stream)
@@ -314,7 +317,7 @@ static void ctf_end(void *self, size_t losses)
     }
 }
 
-bool write_ctf(struct dump *dump, size_t most, const char *folder, struct text *path)
+bool write_ctf(struct dump *dump, const struct choice *choice, const char *folder, struct text *path)
 {
     struct ctf *ctf = allocate(1, sizeof *ctf);
     struct viewer viewer = {ctf, ctf_head, ctf_record, ctf_gap, ctf_loss, ctf_end};
@@ -324,8 +327,8 @@ bool write_ctf(struct dump *dump, size_t most, const char *folder, struct text *
     if (mkdir(folder, 0777) && errno != EEXIST)
         ctf->has_failed = true;
     else
-        list_dump(dump, most, &viewer);
-    for (size_t k = 0; k < CPUS; k++) {
+        list_dumps(dump, 1, choice, &viewer);
+    for (size_t k = 0; k < RINGS; k++) {
         if (ctf->streams[k].file)
             close_file(ctf, ctf->streams[k].file);
         free_text(&ctf->streams[k].packet);

@@ -70,10 +70,12 @@ bool read_site(struct cursor *c, struct site *site)
     if (!at)
         return false;
     size_t count = number32_at(at + 12);
-    *site = (struct site){number32_at(at), number32_at(at + 4), number32_at(at + 8), {NULL, 0}, {NULL, 0}, {NULL, 0},
-        begin};
-    if (site->style >= STYLES)
-        return refuse(c, begin + 8, "there is no style %u", site->style);
+    uint32_t style = number32_at(at + 8), level = style >> SITE_LEVEL_SHIFT;
+    *site = (struct site){.id = number32_at(at), .line = number32_at(at + 4), .offset = begin};
+    if (style % (1 << SITE_LEVEL_SHIFT) >= STYLES || level >= LEVELS)
+        return refuse(c, begin + 8, "there is no style %u", style);
+    site->style = (enum style)(style % (1 << SITE_LEVEL_SHIFT));
+    site->level = (enum level)level;
     if (count > MOST_ARGUMENTS)
         return refuse(c, begin + 12, "at most %d arguments are expected, and not %zu", MOST_ARGUMENTS, count);
     site->kinds = (struct bytes){take(c, count, "kinds of arguments"), count};

@@ -1,10 +1,11 @@
+#include "../checksum.h"
 #include "cursor.h"
 #include "text.h"
 
 #include <stdlib.h>
 #include <string.h>
 
-enum { HEAD = 16, SECTION_HEAD = 16, VERSION = 1, LEAST_LEASE = 16 };
+enum { HEAD = 16, SECTION_HEAD = 16, SUM = 8, VERSION = 2, LEAST_LEASE = 16, MOST_DAMAGES = 1000 };
 
 struct section {
     const uint8_t *kind;
@@ -14,8 +15,54 @@ struct section {
 // What was read before: which sections may come now.
 struct progress {
     uint32_t sections;
-    bool process, pages, sites, ends; // `pages`: a page may come
+    uint32_t pages; // how many pages of the last ring are to come
+    bool process, sites, ends;
+    struct checksum_table table;
 };
+
+// ---- What is made of a file.
+
+void dump_begin(struct dump *dump)
+{
+    memset(dump, 0, sizeof *dump);
+    dump->rings = allocate(RINGS, sizeof *dump->rings);
+    dump->of_number = allocate(RINGS, sizeof *dump->of_number);
+}
+
+struct ring *dump_add_ring(struct dump *dump, const struct ring *ring)
+{
+    struct ring *kept = &dump->rings[dump->ring_count++];
+    *kept = *ring;
+    dump->of_number[ring->number] = kept;
+    return kept;
+}
+
+int32_t dump_add_page(struct dump *dump, const struct ring *ring, struct bytes page, struct tracering_fault_at *at)
+{
+    struct tracering_collector *records = &dump->records[ring->number / CPUS];
+    int32_t code = tracering_collector_new(records);
+    if (code == TRACERING_DONE || code == TRACERING_IN_USE)
+        code = tracering_collector_add(records, page.at, page.len, at);
+    if (code == TRACERING_NO_MEMORY)
+        end_without_memory();
+    return code;
+}
+
+void add_damage(struct dump *dump, const struct ring *ring, const char *what, const char *why, size_t offset)
+{
+    if (dump->damage_count == MOST_DAMAGES) {
+        dump->more_damages++;
+        return;
+    }
+    if (!dump->damages)
+        dump->damages = allocate(MOST_DAMAGES, sizeof *dump->damages);
+    size_t len = strlen(why) + 1;
+    char *kept = allocate(len, 1);
+    memcpy(kept, why, len);
+    dump->damages[dump->damage_count++] = (struct damage){what, ring, kept, offset};
+}
+
+// ---- The sections of a dump.
 
 static bool read_process(struct cursor *c, struct process *process)
 {
@@ -59,44 +106,30 @@ static bool read_leases(struct cursor *c, struct ring *ring)
     return true;
 }
 
-// Checks the numbers of a ring, which begin at this offset.
-static bool check_ring(struct cursor *c, const struct dump *dump, const struct ring *ring, size_t begin)
-{
-    if (ring->number >= CPUS)
-        return refuse(c, begin, "there is no ring %u", ring->number);
-    if (dump->of_cpu[ring->number])
-        return refuse(c, begin, "ring %u is there twice", ring->number);
-    if (ring->tail >= TAILS)
-        return refuse(c, begin + 12, "there is no tail %u", ring->tail);
-    if (ring->lacking > ring->written)
-        return refuse(c, begin + 24, "more records lack than were written");
-    return true;
-}
-
-static bool read_ring(struct cursor *c, struct dump *dump)
+static bool read_ring(struct cursor *c, struct dump *dump, struct progress *progress)
 {
     size_t begin = c->at;
-    const uint8_t *at = take(c, 88, "ring");
+    const uint8_t *at = take(c, 72, "ring");
     if (!at)
         return false;
     struct ring ring = {.number = number32_at(at), .slot = number32_at(at + 4), .level = number32_at(at + 8),
-        .tail = number32_at(at + 12), .written = number64_at(at + 16), .lacking = number64_at(at + 24),
-        .dropped = number64_at(at + 80)};
+        .written = number64_at(at + 16)};
+    progress->pages = number32_at(at + 12);
     for (size_t k = 0; k < REASONS; k++)
-        ring.refused[k] = number64_at(at + 32 + 8 * k);
-    if (!check_ring(c, dump, &ring, begin))
-        return false;
-    struct ring *kept = &dump->rings[dump->ring_count++];
-    *kept = ring;
-    dump->of_cpu[ring.number] = kept;
-    return read_leases(c, kept);
+        ring.refused[k] = number64_at(at + 24 + 8 * k);
+    if (ring.number >= RINGS)
+        return refuse(c, begin, "there is no ring %u", ring.number);
+    if (dump->of_number[ring.number])
+        return refuse(c, begin, "ring %u is there twice", ring.number);
+    return read_leases(c, dump_add_ring(dump, &ring));
 }
 
-static bool refuse_page(struct cursor *c, size_t begin, int32_t code, const struct tracering_fault_at *at)
+static bool refuse_page(struct cursor *c, size_t begin, int32_t code, const struct ring *ring,
+    const struct tracering_fault_at *at)
 {
     const char *text = tracering_text(code);
     if (code == TRACERING_CLASH || code == TRACERING_TAKEN_AND_MISSING)
-        return refuse(c, begin, "page: %s: ring %u, number %llu", text, at->cpu, (unsigned long long)at->number);
+        return refuse(c, begin, "page: %s: ring %u, number %llu", text, ring->number, (unsigned long long)at->number);
     bool within = code == TRACERING_CUT || code == TRACERING_BAD_LENGTH || code == TRACERING_TIME_OVERFLOW;
     return refuse(c, begin + (within ? TRACERING_HEADER + (size_t)at->number : 0), "page: %s", text);
 }
@@ -106,13 +139,11 @@ static bool read_page(struct cursor *c, struct dump *dump)
     size_t begin = c->at, len = c->end - c->at;
     const struct ring *ring = &dump->rings[dump->ring_count - 1];
     const uint8_t *bytes = take(c, len, "page");
-    if (len >= 8 && number64_at(bytes) != ring->number)
+    if (len >= 8 && number64_at(bytes) != ring->number % CPUS)
         return refuse(c, begin, "page: it isn't of ring %u", ring->number);
     struct tracering_fault_at at = {0, 0};
-    int32_t code = tracering_collector_add(&dump->records, bytes, len, &at);
-    if (code == TRACERING_NO_MEMORY)
-        end_without_memory();
-    return code > TRACERING_DONE ? refuse_page(c, begin, code, &at) : true;
+    int32_t code = dump_add_page(dump, ring, (struct bytes){bytes, len}, &at);
+    return code > TRACERING_DONE ? refuse_page(c, begin, code, ring, &at) : true;
 }
 
 static bool check_sites(struct cursor *c, struct dump *dump)
@@ -139,31 +170,64 @@ static bool is_kind(const struct section *section, const char *kind)
     return !memcmp(section->kind, kind, 4);
 }
 
-// Reads what a section has, if it may come now.
+// Whether a section of this kind may come now.
+static bool may_come(const struct section *section, const struct progress *progress)
+{
+    if (!progress->process || progress->pages)
+        return is_kind(section, progress->process ? "PAGE" : "PROC");
+    return (is_kind(section, "RING") && !progress->sites) || is_kind(section, "SITE") || is_kind(section, "ENDS");
+}
+
+static bool refuse_section(struct cursor *c, const struct section *section, const struct progress *progress)
+{
+    const char *wanted = !progress->process ? "PROC" : progress->pages ? "PAGE" : "RING, SITE or ENDS, in this order,";
+    return refuse(c, section->offset, "a section %s is expected", wanted);
+}
+
+// Notes that a section of this kind came, before it is read.
+static void count_section(const struct section *section, struct progress *progress)
+{
+    progress->process = true;
+    progress->pages -= is_kind(section, "PAGE");
+    progress->sites |= is_kind(section, "SITE");
+    progress->ends |= is_kind(section, "ENDS");
+}
+
+// Reads what a section has.
 static bool read_section(struct cursor *c, struct dump *dump, const struct section *section, struct progress *progress,
     size_t *room)
 {
-    if (!progress->process) {
-        progress->process = true;
-        return is_kind(section, "PROC") ? read_process(c, &dump->process)
-                                        : refuse(c, section->offset, "a section PROC is expected");
-    }
-    if (is_kind(section, "RING") && !progress->sites) {
-        progress->pages = true;
-        return read_ring(c, dump);
-    }
-    if (is_kind(section, "PAGE") && progress->pages)
+    if (is_kind(section, "PROC"))
+        return read_process(c, &dump->process);
+    if (is_kind(section, "RING"))
+        return read_ring(c, dump, progress);
+    if (is_kind(section, "PAGE"))
         return read_page(c, dump);
-    progress->pages = false;
-    if (is_kind(section, "SITE")) {
-        progress->sites = true;
-        return read_site(c, add_site(dump, room));
-    }
-    if (is_kind(section, "ENDS")) {
-        progress->ends = true;
-        return read_end(c, progress->sections);
-    }
-    return refuse(c, section->offset, "a section RING, PAGE, SITE or ENDS is expected, in this order");
+    return is_kind(section, "SITE") ? read_site(c, add_site(dump, room)) : read_end(c, progress->sections);
+}
+
+// Whether what follows a section is one, too.
+static bool is_followed(const struct cursor *c, size_t end)
+{
+    static const char kinds[] = "RINGPAGESITEENDS";
+    for (size_t kind = 0; c->end - end >= SECTION_HEAD && kind < sizeof kinds - 1; kind += 4)
+        if (!memcmp(c->file + end, kinds + kind, 4))
+            return true;
+    return false;
+}
+
+// Passes over a section whose checksum is another one: a page or a site, which costs only itself.
+static bool pass_over(struct cursor *c, struct dump *dump, const struct section *section, size_t end)
+{
+    static const char why[] = "its checksum is another one";
+    bool is_page = is_kind(section, "PAGE");
+    if (!(is_page || is_kind(section, "SITE")) || !is_followed(c, end))
+        return refuse(c, section->offset, "a section's checksum is another one");
+    struct ring *ring = is_page ? &dump->rings[dump->ring_count - 1] : NULL;
+    if (ring)
+        ring->is_damaged = true;
+    add_damage(dump, ring, is_page ? "a page" : "a site", why, section->offset);
+    return true;
 }
 
 // Reads a section's head, and then what it has.
@@ -174,17 +238,23 @@ static bool read_next(struct cursor *c, struct dump *dump, struct progress *prog
     if (!section.kind)
         return false;
     uint64_t len = number64_at(section.kind + 8);
-    if (number32_at(section.kind + 4))
-        return refuse(c, section.offset + 4, "0 is expected");
-    if (len > c->end - c->at)
-        return refuse(c, section.offset + 8, "a section of %llu bytes is stated, and %zu are left",
+    if (c->end - c->at < SUM || len > c->end - c->at - SUM)
+        return refuse(c, section.offset + 8, "a section of %llu bytes and its checksum are stated, and %zu are left",
             (unsigned long long)len, c->end - c->at);
     struct cursor within = {c->file, c->at, c->at + (size_t)len, c->fault};
-    if (!read_section(&within, dump, &section, progress, room))
+    uint32_t sum = ~checksum_add(&progress->table, CHECKSUM_BEGIN, section.kind, SECTION_HEAD + (size_t)len);
+    size_t end = within.end + SUM;
+    bool is_whole = number64_at(c->file + within.end) == sum;
+    if (!may_come(&section, progress))
+        return refuse_section(c, &section, progress);
+    if (number32_at(section.kind + 4))
+        return refuse(c, section.offset + 4, "0 is expected");
+    count_section(&section, progress);
+    if (!(is_whole ? read_section(&within, dump, &section, progress, room) : pass_over(c, dump, &section, end)))
         return false;
-    if (within.at != within.end)
+    if (is_whole && within.at != within.end)
         return refuse(c, within.at, "the section's end is expected, and it has %zu bytes more", within.end - within.at);
-    c->at = within.end;
+    c->at = end;
     progress->sections++;
     return true;
 }
@@ -206,11 +276,11 @@ static bool read_head(struct cursor *c)
 bool dump_read(struct dump *dump, struct bytes file, struct fault *fault)
 {
     struct cursor c = {file.at, 0, file.len, fault};
-    struct progress progress = {0, false, false, false, false};
+    static struct progress progress;
     size_t room = 0;
-    memset(dump, 0, sizeof *dump);
-    if (tracering_collector_new(&dump->records) != TRACERING_DONE)
-        end_without_memory();
+    dump_begin(dump);
+    memset(&progress, 0, sizeof progress);
+    checksum_make(&progress.table);
     if (!read_head(&c))
         return false;
     while (!progress.ends)
@@ -225,11 +295,14 @@ void dump_free(struct dump *dump)
 {
     for (size_t k = 0; k < dump->ring_count; k++)
         free(dump->rings[k].leases);
+    free(dump->rings);
+    free(dump->of_number);
     free(dump->sites);
     for (size_t k = 0; k < dump->damage_count; k++)
         free(dump->damages[k].why);
     free(dump->damages);
-    (void)tracering_collector_free(&dump->records);
+    for (size_t k = 0; k < COLLECTORS; k++)
+        (void)tracering_collector_free(&dump->records[k]);
 }
 
 const struct site *dump_site(const struct dump *dump, uint32_t id)

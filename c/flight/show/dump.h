@@ -4,27 +4,21 @@
 #define FLIGHT_SHOW_DUMP_H
 
 #include "bytes.h"
+#include "../layout.h"
 #include "tracering.h"
 
 enum clock_kind { CLOCK_OF_MONOTONIC, CLOCK_OF_TSC, CLOCK_OF_CALLER, CLOCK_KINDS };
 
-// What became of the newest records of a ring, which are on the page that is written.
-enum tail {
-    TAIL_READ,
-    TAIL_EMPTY,
-    TAIL_AMID_CALL,
-    TAIL_BEGUN,
-    TAIL_NO_ANSWER,
-    TAIL_GONE,
-    TAILS
-};
+enum style { STYLE_PRINTF, STYLE_BRACES, STYLE_FIELDS, STYLES };
 
-enum style { STYLE_PRINTF, STYLE_BRACES, STYLES };
+enum level { LEVEL_NONE, LEVEL_ERROR, LEVEL_WARNING, LEVEL_INFO, LEVEL_DEBUG, LEVELS };
 
 enum argument_class { CLASS_SIGNED, CLASS_UNSIGNED, CLASS_FLOATING, CLASS_ADDRESS, CLASS_TEXT, CLASSES };
 
-// Limits of what a dump states: CPUs of parcels, arguments of a site, bytes of a name, a file's name or a format.
-enum { CPUS = 256, MOST_ARGUMENTS = 64, LONGEST_TEXT = 65535, REASONS = 6 };
+// Limits of what a dump states: rings, arguments of a site, bytes of a name, a file's name or a format.
+enum { RINGS = FILE_MOST_RINGS, MOST_ARGUMENTS = 64, LONGEST_TEXT = 65535, REASONS = SLOT_REASONS };
+// The CPU of a ring's parcels is its number modulo CPUS, so the rings are of several collectors.
+enum { CPUS = FILE_CPUS, COLLECTORS = RINGS / CPUS };
 
 struct process {
     uint32_t pid, tid, signal, clock;
@@ -43,23 +37,23 @@ struct lease {
 };
 
 struct ring {
-    uint32_t number, slot, level, tail;
-    uint64_t written, lacking, dropped;
+    uint32_t number, slot, level;
+    uint64_t written;
     uint64_t refused[REASONS];
     size_t lease_count;
     struct lease *leases;
-    // Of a flight file: the number after the last record that a dump took, and whether a page is damaged, or all.
-    uint64_t taken;
-    bool is_of_file, is_damaged;
+    bool is_damaged; // a page, or all
 };
 
 struct site {
-    uint32_t id, line, style;
+    uint32_t id, line;
+    enum style style;
+    enum level level;
     struct bytes kinds, file, format;
     size_t offset; // of its section
 };
 
-// What can't be read of a flight file.
+// What can't be read.
 struct damage {
     const char *what;
     const struct ring *ring; // null: it is of no ring
@@ -68,12 +62,13 @@ struct damage {
 };
 
 struct dump {
+    const char *name; // its file, if others are listed with it, or null
     struct process process;
     size_t ring_count, site_count;
-    struct ring rings[CPUS];        // in the file's order
-    const struct ring *of_cpu[CPUS]; // null: the file has no such ring
-    struct site *sites;             // by id
-    struct tracering_collector records;
+    struct ring *rings;            // in the file's order
+    const struct ring **of_number; // null: the file has no such ring
+    struct site *sites;            // by id
+    struct tracering_collector records[COLLECTORS];
     size_t damage_count, more_damages; // more_damages: those that aren't listed
     struct damage *damages;
 };
@@ -87,6 +82,18 @@ struct fault {
 // Reads the file. False: it is refused, and `fault` says why.
 bool dump_read(struct dump *dump, struct bytes file, struct fault *fault);
 void dump_free(struct dump *dump);
+
+// A dump of nothing.
+void dump_begin(struct dump *dump);
+
+// A new ring of the dump.
+struct ring *dump_add_ring(struct dump *dump, const struct ring *ring);
+
+// Adds a page of a ring to its records, as tracering_collector_add does.
+int32_t dump_add_page(struct dump *dump, const struct ring *ring, struct bytes page, struct tracering_fault_at *at);
+
+// Notes what can't be read, and why.
+void add_damage(struct dump *dump, const struct ring *ring, const char *what, const char *why, size_t offset);
 
 // The site with this id, or null.
 const struct site *dump_site(const struct dump *dump, uint32_t id);

@@ -1,5 +1,7 @@
 #include "file.h"
 
+#include "../checksum.h"
+
 #include <stdio.h>
 #include <stdlib.h>
 #include <string.h>
@@ -8,7 +10,7 @@
 #include <x86intrin.h>
 #endif
 
-enum { WORD = 8, SECOND = 1000000000, MOST_DAMAGES = 1000, SITE_NUMBERS = 24 };
+enum { WORD = 8, SECOND = 1000000000, SITE_NUMBERS = 24 };
 
 static uint64_t word_of(struct bytes file, size_t word)
 {
@@ -18,20 +20,6 @@ static uint64_t word_of(struct bytes file, size_t word)
 bool is_flight_file(struct bytes file)
 {
     return file.len >= WORD && word_of(file, FILE_MAGIC) == FILE_MAGIC_NUMBER;
-}
-
-void add_damage(struct dump *dump, const struct ring *ring, const char *what, const char *why, size_t offset)
-{
-    if (dump->damage_count == MOST_DAMAGES) {
-        dump->more_damages++;
-        return;
-    }
-    if (!dump->damages)
-        dump->damages = allocate(MOST_DAMAGES, sizeof *dump->damages);
-    size_t len = strlen(why) + 1;
-    char *kept = allocate(len, 1);
-    memcpy(kept, why, len);
-    dump->damages[dump->damage_count++] = (struct damage){what, ring, kept, offset};
 }
 
 // ---- The header.
@@ -69,6 +57,20 @@ static bool check_limits(struct cursor *c)
         && check_number(c, FILE_PROCESS, 0, UINT32_MAX, "process") && check_number(c, FILE_ENDED, 0, 1, "end");
 }
 
+// Checks where the checksums of the blocks are, if it has any: behind the rings, whose areas begin and end with blocks.
+static bool check_sums(struct cursor *c, size_t end)
+{
+    uint64_t at = number64_at(c->file + FILE_SUMS * WORD);
+    if (!check_number(c, FILE_SUMMED, 0, at ? 1 : 0, "checksums"))
+        return false;
+    if (at && (at != end || at % FILE_BLOCK))
+        return refuse(c, FILE_SUMS * WORD, "the checksums can't begin at byte %llu", (unsigned long long)at);
+    if (at && sums_len(end) > c->end - end)
+        return refuse(c, FILE_SUMS * WORD, "%zu bytes of checksums are expected from byte %zu on, and the file has %zu",
+            sums_len(end), end, c->end);
+    return true;
+}
+
 static bool check_areas(struct cursor *c, const struct file_header *header)
 {
     size_t slots = header->threads * SLOT_BYTES;
@@ -77,7 +79,8 @@ static bool check_areas(struct cursor *c, const struct file_header *header)
         && check_number(c, FILE_SLOTS_LEN, slots, slots, "bytes of slots")
         && check_area(c, FILE_SITES, header->slots + slots, WORD, "sites")
         && check_area(c, FILE_RINGS, header->sites + header->sites_len, FILE_HEADER, "rings")
-        && check_number(c, FILE_RINGS_LEN, rings, rings, "bytes of rings");
+        && check_number(c, FILE_RINGS_LEN, rings, rings, "bytes of rings")
+        && check_sums(c, header->rings + rings);
 }
 
 bool read_file_header(struct cursor *c, struct file_header *header)
@@ -154,6 +157,14 @@ static struct bytes name_at(const uint8_t *at, size_t most)
     return (struct bytes){at, len};
 }
 
+static uint64_t count_without_ring(struct bytes file)
+{
+    uint64_t all = 0;
+    for (size_t count = 0; count < FILE_COUNTS; count++)
+        all += word_of(file, FILE_WITHOUT_RING + count * FILE_COUNT_WORDS);
+    return all;
+}
+
 static void read_process(struct process *process, struct bytes file)
 {
     uint64_t stamps = word_of(file, FILE_STAMPS);
@@ -162,8 +173,8 @@ static void read_process(struct process *process, struct bytes file)
         .clock = (uint32_t)word_of(file, FILE_CLOCK), .start_moment = word_of(file, FILE_STARTED),
         .start_time = word_of(file, FILE_STARTED_REAL),
         .dump_moment = word_of(file, pair), .dump_time = word_of(file, pair + 1),
-        .no_ring = word_of(file, FILE_WITHOUT_RING), .name = name_at(file.at + FILE_NAME * WORD, FILE_NAME_SIZE),
-        .is_file = true, .has_ended = word_of(file, FILE_ENDED) == 1};
+        .no_ring = count_without_ring(file), .name = name_at(file.at + FILE_NAME * WORD, FILE_NAME_SIZE),
+        .is_file = true, .has_ended = word_of(file, FILE_ENDED) == 1 || is_summed(file)};
     find_rate(process, file);
 }
 
@@ -201,11 +212,11 @@ static bool read_leases(struct ring *ring, const uint8_t *slot, const uint8_t *f
 // Reads a ring and its region. One that nobody had is left out.
 static void read_ring(struct dump *dump, const struct file_header *header, struct bytes file, size_t slot, size_t level)
 {
-    struct ring *ring = &dump->rings[dump->ring_count];
     const uint8_t *at = file.at + header->slots + slot * SLOT_BYTES;
     size_t offset, damages = dump->damage_count;
+    struct ring *ring = &dump->rings[dump->ring_count];
     *ring = (struct ring){.number = (uint32_t)(slot * header->levels + level), .slot = (uint32_t)slot,
-        .level = (uint32_t)level, .tail = TAIL_READ, .is_of_file = true};
+        .level = (uint32_t)level};
     for (size_t reason = 0; reason < REASONS; reason++)
         ring->refused[reason] = number64_at(at + (SLOT_REFUSED + level * REASONS + reason) * WORD);
     if (!read_leases(ring, at, file.at, &offset)) {
@@ -217,8 +228,7 @@ static void read_ring(struct dump *dump, const struct file_header *header, struc
         free(ring->leases);
         return;
     }
-    dump->of_cpu[ring->number] = ring;
-    dump->ring_count++;
+    (void)dump_add_ring(dump, ring);
 }
 
 // ---- Sites.
@@ -270,15 +280,49 @@ static void drop_doubles(struct dump *dump)
     dump->site_count = kept;
 }
 
+bool is_summed(struct bytes file)
+{
+    return word_of(file, FILE_SUMMED) == 1;
+}
+
+// The checksum of a block. That of the header is of what it says once the recorder has stopped.
+static uint32_t sum_of(const struct checksum_table *table, const uint8_t *block, bool is_header)
+{
+    uint8_t bytes[FILE_BLOCK];
+    memcpy(bytes, block, sizeof bytes);
+    if (is_header) {
+        memset(bytes + FILE_ENDED * WORD, 0, WORD);
+        bytes[FILE_ENDED * WORD] = 1;
+    }
+    return ~checksum_add(table, CHECKSUM_BEGIN, bytes, sizeof bytes);
+}
+
+// Finds the blocks of a file that was stopped which aren't as they were then.
+static void check_blocks(struct dump *dump, struct bytes file)
+{
+    static struct checksum_table table;
+    size_t end = word_of(file, FILE_SUMS);
+    if (!is_summed(file)) {
+        if (end && word_of(file, FILE_ENDED) == 1)
+            add_damage(dump, NULL, "its end", "no checksums were stored", FILE_SUMMED * WORD);
+        return;
+    }
+    checksum_make(&table);
+    for (size_t at = 0; at < end; at += FILE_BLOCK) {
+        uint32_t sum = sum_of(&table, file.at + at, at == 0);
+        if (sum != number32_at(file.at + end + at / FILE_BLOCK * sizeof sum))
+            add_damage(dump, NULL, "a block of the file", "its checksum is another one", at);
+    }
+}
+
 bool read_flight_file(struct dump *dump, struct bytes file, struct fault *fault)
 {
     struct cursor c = {file.at, 0, file.len, fault};
     struct file_header header;
-    memset(dump, 0, sizeof *dump);
-    if (tracering_collector_new(&dump->records) != TRACERING_DONE)
-        end_without_memory();
+    dump_begin(dump);
     if (!read_file_header(&c, &header))
         return false;
+    check_blocks(dump, file);
     read_process(&dump->process, file);
     for (size_t slot = 0; slot < header.threads; slot++)
         for (size_t level = 0; level < header.levels; level++)

@@ -16,6 +16,10 @@ struct file_header {
 
 bool is_flight_file(struct bytes file);
 
+// Whether a file, which has a header, was stopped, and has the checksums of its blocks: nothing is stored there any
+// more.
+bool is_summed(struct bytes file);
+
 // Reads and checks the header.
 bool read_file_header(struct cursor *c, struct file_header *header);
 
@@ -34,7 +38,5 @@ bool read_flight_file(struct dump *dump, struct bytes file, struct fault *fault)
 
 // Reads the region of a ring.
 void read_region(struct dump *dump, struct ring *ring, const struct file_header *header, struct bytes file);
-
-void add_damage(struct dump *dump, const struct ring *ring, const char *what, const char *why, size_t offset);
 
 #endif

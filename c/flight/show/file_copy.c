@@ -1,5 +1,7 @@
 // Copies a flight file that a program may be writing: first the rings, then what names their threads, then the sites,
-// then the header. So whatever is needed to read a record that was copied is copied, too.
+// then the header. So whatever is needed to read a record that was copied is copied, too: the copy of a region ends
+// with an order (docs/formats/pages.md, "While it is written"), and all else here is stored with release, and loaded
+// with acquire in the order of the words, so that each word that is found brings what was stored before it.
 #include "file.h"
 
 #include <stdlib.h>
@@ -21,19 +23,14 @@ static void copy_words(uint8_t *to, const uint8_t *mapped, size_t len)
     }
 }
 
-// Copies a region so that no page was taken meanwhile. One that can't be a region is copied as it is.
+// Copies a region. One that can't be a region is copied as it is. (Of one whose loads can't be ordered the copy isn't a
+// region, so it is shown as damaged.)
 static void copy_region(uint8_t *to, const uint8_t *mapped, size_t len)
 {
-    enum { TAKEN = 6 };
-    for (int tries = 0; tries < TRIES; tries++) {
-        uint64_t taken = load(mapped, TAKEN);
-        if (tracering_region_copy(mapped, len, to, len) != TRACERING_DONE) {
-            copy_words(to, mapped, len);
-            return;
-        }
-        if (number64_at(to + TAKEN * WORD) == taken)
-            return;
-    }
+    struct tracering_region about;
+    if (tracering_region_copy(mapped, len, to, len) != TRACERING_DONE
+        && tracering_region_about(mapped, len, &about) != TRACERING_DONE)
+        copy_words(to, mapped, len);
 }
 
 // Copies a slot so that its version was the same before and after. (If it is odd, one lease alone is changing.) If a
@@ -69,7 +66,7 @@ void copy_flight_file(const uint8_t *mapped, size_t len, struct text *copy)
     struct cursor c = {mapped, 0, len, &fault};
     uint8_t *to = allocate(len, 1);
     *copy = (struct text){(char *)to, len, len};
-    if (!read_file_header(&c, &header)) {
+    if (!read_file_header(&c, &header) || is_summed((struct bytes){mapped, len})) {
         memcpy(to, mapped, len);
         return;
     }

@@ -1,9 +1,10 @@
 // The regions of a flight file's rings.
+#include "../../region/layout.h"
 #include "file.h"
 
 #include <stdlib.h>
 
-enum { WORD = 8, SLOT_FILL = 1, SLOT_FIRST = 2, SLOT_COMMIT = 5, HEADER_SIZE = 3, HEADER_CPU = 4, HEADER_TAKEN = 6 };
+enum { WORD = 8 };
 
 // A page that its slot states, as far as it isn't damaged.
 struct page {
@@ -30,21 +31,6 @@ static void add_damaged_page(struct dump *dump, struct ring *ring, const char *w
 {
     ring->is_damaged = true;
     add_damage(dump, ring, "a page", why, offset);
-}
-
-// How many records the data of a page has, which has a reading.
-static uint64_t count_records(struct bytes data)
-{
-    uint64_t count = 0;
-    for (size_t at = 0, len; at + 4 <= data.len; at += len) {
-        uint32_t word = number32_at(data.at + at), type = word & 31;
-        if (type == 29 && word == 29)
-            break;
-        bool is_long = type == 0 || type == 29;
-        len = type > 29 ? 8 : is_long ? 4 + number32_at(data.at + at + 4) : 4 + 4 * type;
-        count += type < 29;
-    }
-    return count;
 }
 
 static int compare_pages(const void *one, const void *other)
@@ -90,16 +76,12 @@ static bool add_page(struct dump *dump, struct ring *ring, struct page *page, co
         add_damaged_page(dump, ring, "it overlaps the page before it", page->offset + word * WORD);
         return false;
     }
-    int32_t code = tracering_collector_add(&dump->records, page->parcel.at, page->parcel.len, &at);
-    if (code == TRACERING_NO_MEMORY)
-        end_without_memory();
+    int32_t code = dump_add_page(dump, ring, page->parcel, &at);
     if (code > TRACERING_DONE) {
         add_damaged_page(dump, ring, tracering_text(code), page->offset + offset_of_fault(code, &at));
         return false;
     }
-    struct bytes data = {page->parcel.at + TRACERING_HEADER, page->parcel.len - TRACERING_HEADER};
-    page->end = page->first + count_records(data);
-    return true;
+    return tracering_region_end(page->parcel.at, &page->end);
 }
 
 // Adds the pages, by their fills.
@@ -114,15 +96,17 @@ static void add_pages(struct dump *dump, struct ring *ring, struct page *pages, 
     }
 }
 
-// Where a region's header isn't as the file's says, or -1.
+// Where a region's header isn't as the file's says, or -1. (No recorder takes a page.)
 static int find_difference(struct bytes region, const struct file_header *header, const struct ring *ring)
 {
-    const uint64_t wanted[] = {0x676e697263617274, 1, ring->level ? FILE_LATER_PAGES : header->pages, header->size,
-        ring->number};
-    for (int word = 0; word <= HEADER_CPU; word++)
+    const uint64_t wanted[] = {REGION_MAGIC, REGION_VERSION, ring->level ? FILE_LATER_PAGES : header->pages,
+        header->size, ring->number % CPUS};
+    for (int word = 0; word <= CPU_WORD; word++)
         if (number64_at(region.at + word * WORD) != wanted[word])
             return word * WORD;
-    return number64_at(region.at + 7 * WORD) > 1 ? 7 * WORD : -1;
+    if (number64_at(region.at + TAKEN_WORD * WORD))
+        return TAKEN_WORD * WORD;
+    return number64_at(region.at + ENDED_WORD * WORD) > 1 ? ENDED_WORD * WORD : -1;
 }
 
 void read_region(struct dump *dump, struct ring *ring, const struct file_header *header, struct bytes file)
@@ -137,10 +121,6 @@ void read_region(struct dump *dump, struct ring *ring, const struct file_header 
     }
     struct page *pages = allocate(header->pages + FILE_LATER_PAGES + 1, sizeof *pages);
     size_t count = find_pages(dump, ring, region, offset, pages);
-    ring->taken = number64_at(region.at + HEADER_TAKEN * WORD);
     add_pages(dump, ring, pages, count);
-    // (What was taken need not be there.)
-    if (ring->written < ring->taken)
-        ring->written = ring->taken;
     free(pages);
 }

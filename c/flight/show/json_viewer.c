@@ -4,14 +4,26 @@
 #include <inttypes.h>
 #include <math.h>
 
-static void add_time(struct text *line, nanoseconds time, bool is_known)
+void add_json_date(struct text *line, const char *key, nanoseconds time, bool is_known)
 {
+    add_format(line, "\"%s\":", key);
     size_t before = line->len;
-    add_string(line, "\"time\":\"");
+    add_string(line, "\"");
     if (!is_known || !add_date(line, time, "T", "Z\"")) {
         line->len = before;
-        add_string(line, "\"time\":null");
+        add_string(line, "null");
     }
+}
+
+// What an object begins with: which of several dumps it is of.
+static void begin_object(struct text *line, const struct dump *dump)
+{
+    add_string(line, "{");
+    if (!dump->name)
+        return;
+    add_string(line, "\"dump\":");
+    add_json(line, bytes_of_string(dump->name));
+    add_string(line, ",");
 }
 
 static void add_lease(struct text *line, const struct lease *lease)
@@ -28,36 +40,37 @@ static void add_lease(struct text *line, const struct lease *lease)
 // What a file's first line has in place of the thread that dumped.
 static void add_run(struct text *line, const struct process *process)
 {
-    add_string(line, "\"tid\":null,\"signal\":0,\"started\":");
-    size_t before = line->len;
-    add_string(line, "\"");
-    if (!add_date(line, (nanoseconds)process->start_time, "T", "Z\"")) {
-        line->len = before;
-        add_string(line, "null");
-    }
+    add_string(line, "\"tid\":null,\"signal\":0,");
+    add_json_date(line, "started", (nanoseconds)process->start_time, true);
     add_format(line, ",\"stopped\":%s,\"inexact\":%s,", process->has_ended ? "true" : "false",
         process->is_inexact ? "true" : "false");
 }
 
-static void json_head(void *self, const struct dump *dump)
+void add_json_head(struct text *line, const struct dump *dump)
 {
     static const char *const clocks[CLOCK_KINDS] = {"monotonic", "tsc", "caller"};
-    struct lines *lines = self;
-    const struct process *process = lines->process = &dump->process;
-    add_string(&lines->line, "{\"program\":");
-    add_json(&lines->line, process->name);
-    add_format(&lines->line, ",\"pid\":%u,", process->pid);
+    const struct process *process = &dump->process;
+    begin_object(line, dump);
+    add_string(line, "\"program\":");
+    add_json(line, process->name);
+    add_format(line, ",\"pid\":%u,", process->pid);
     if (process->is_file)
-        add_run(&lines->line, process);
+        add_run(line, process);
     else
-        add_format(&lines->line, "\"tid\":%u,\"signal\":%u,", process->tid, process->signal);
-    add_format(&lines->line, "\"clock\":\"%s\",", clocks[process->clock]);
-    add_time(&lines->line, process->dump_time, true);
-    add_format(&lines->line, ",\"moment\":%" PRIu64 "}", process->dump_moment);
+        add_format(line, "\"tid\":%u,\"signal\":%u,", process->tid, process->signal);
+    add_format(line, "\"clock\":\"%s\",", clocks[process->clock]);
+    add_json_date(line, "time", process->dump_time, true);
+    add_format(line, ",\"moment\":%" PRIu64 "}", process->dump_moment);
+}
+
+static void json_head(void *self, const struct dump *dump)
+{
+    struct lines *lines = self;
+    add_json_head(&lines->line, dump);
     write_line(lines);
 }
 
-static void add_argument(struct text *line, const struct argument *argument)
+void add_json_argument(struct text *line, const struct argument *argument)
 {
     struct text text = {NULL, 0, 0};
     switch (argument->class) {
@@ -77,6 +90,26 @@ static void add_argument(struct text *line, const struct argument *argument)
     }
 }
 
+void add_json_arguments(struct text *line, const struct site *site, const struct arguments *arguments)
+{
+    add_string(line, "\"args\":[");
+    for (size_t k = 0; k < arguments->count; k++) {
+        add_string(line, k ? "," : "");
+        add_json_argument(line, &arguments->at[k]);
+    }
+    add_string(line, "]");
+    if (!site || site->style != STYLE_FIELDS)
+        return;
+    add_string(line, ",\"fields\":{");
+    for (size_t k = 0; k < arguments->count; k++) {
+        add_string(line, k ? "," : "");
+        add_json(line, field_name(site, k));
+        add_string(line, ":");
+        add_json_argument(line, &arguments->at[k]);
+    }
+    add_string(line, "}");
+}
+
 static void add_site(struct text *line, const struct site *site)
 {
     if (!site) {
@@ -86,14 +119,16 @@ static void add_site(struct text *line, const struct site *site)
     add_string(line, ",\"file\":");
     add_json(line, site->file);
     add_format(line, ",\"line\":%u", site->line);
+    if (site->level != LEVEL_NONE)
+        add_format(line, ",\"level\":\"%s\"", level_key(site->level));
 }
 
-static void json_record(void *self, const struct record *record)
+static void json_record(void *self, const struct dump *dump, const struct record *record)
 {
     struct lines *lines = self;
     struct text *line = &lines->line, *formatted = &lines->formatted;
-    add_string(line, "{");
-    add_time(line, time_of(lines->process, record->moment), has_time(lines->process));
+    begin_object(line, dump);
+    add_json_date(line, "time", time_of(&dump->process, record->moment), has_time(&dump->process));
     add_format(line, ",\"moment\":%" PRIu64 ",", record->moment);
     add_lease(line, record->lease);
     add_format(line, ",\"ring\":%u,\"number\":%" PRIu64, record->ring->number, record->number);
@@ -102,33 +137,29 @@ static void json_record(void *self, const struct record *record)
     format_record(formatted, record, &lines->arguments);
     add_string(line, ",\"text\":");
     add_json(line, bytes_of(formatted));
-    add_string(line, ",\"args\":[");
-    for (size_t k = 0; k < lines->arguments.count; k++) {
-        add_string(line, k ? "," : "");
-        add_argument(line, &lines->arguments.at[k]);
-    }
-    add_string(line, "]}");
+    add_string(line, ",");
+    add_json_arguments(line, record->site, &lines->arguments);
+    add_string(line, "}");
     write_line(lines);
 }
 
-static void json_gap(void *self, const struct gap *gap)
+static void json_gap(void *self, const struct dump *dump, const struct gap *gap)
 {
     struct lines *lines = self;
-    add_format(&lines->line, "{\"missing\":%" PRIu64 ",\"first\":%" PRIu64 ",\"last\":%" PRIu64 ",",
+    begin_object(&lines->line, dump);
+    add_format(&lines->line, "\"missing\":%" PRIu64 ",\"first\":%" PRIu64 ",\"last\":%" PRIu64 ",",
         gap->last - gap->first + 1, gap->first, gap->last);
     add_lease(&lines->line, gap->lease);
     add_format(&lines->line, ",\"ring\":%u}", gap->ring->number);
     write_line(lines);
 }
 
-static void json_loss(void *self, const struct loss *loss)
+void add_json_loss(struct text *line, const struct dump *dump, const struct loss *loss)
 {
-    static const char *const names[LOSS_KINDS] = {"overwritten", "dropped", "refused", "not read", "no ring", "taken",
-        "unknown", "damaged"};
-    struct lines *lines = self;
-    struct text *line = &lines->line;
+    static const char *const names[LOSS_KINDS] = {"overwritten", "refused", "no ring", "unknown", "damaged"};
     const struct ring *ring = loss->ring;
-    add_format(line, "{\"lost\":\"%s\",\"count\":%" PRIu64, names[loss->kind], loss->count);
+    begin_object(line, dump);
+    add_format(line, "\"lost\":\"%s\",\"count\":%" PRIu64, names[loss->kind], loss->count);
     if (loss->why) {
         add_string(line, ",\"why\":");
         add_json(line, bytes_of_string(loss->why));
@@ -143,6 +174,12 @@ static void json_loss(void *self, const struct loss *loss)
         add_string(line, "}");
     }
     add_string(line, ring ? "]}" : "}");
+}
+
+static void json_loss(void *self, const struct dump *dump, const struct loss *loss)
+{
+    struct lines *lines = self;
+    add_json_loss(&lines->line, dump, loss);
     write_line(lines);
 }
 

@@ -1,5 +1,7 @@
 #include "listing.h"
 #include "arguments.h"
+#include "filter.h"
+#include "moments.h"
 
 #include <stdlib.h>
 
@@ -8,36 +10,73 @@ enum { LONGEST_PAYLOAD = 65536, ID_SIZE = 4 };
 // How far the listing is, of one ring.
 struct progress {
     uint64_t listed, next; // how many records were listed; the number after the greatest of them
-    uint64_t below;        // how many of them have numbers below the one after those that dumps took
 };
 
+// The next record of a collector, if there is one.
+struct next {
+    bool is_there;
+    struct tracering_line line;
+    uint8_t *payload;
+};
+
+// The listing of one dump. `first` is the collector that has its next record, or COLLECTORS: there is none any more.
 struct listing {
     struct dump *dump;
+    struct progress *rings; // by number
+    struct next next[COLLECTORS];
+    size_t first;
+    nanoseconds time; // of the next record
+};
+
+struct listings {
+    struct listing *of;
+    size_t count;
     const struct viewer *viewer;
-    struct progress rings[CPUS]; // by CPU
+    const struct filter *filter;
 };
 
 static const char *const REFUSED[REASONS] = {"busy", "too deep", "too long", "late moment", "crowded", "worn"};
-
-static const char *const NOT_READ[TAILS] = {"read", "empty", "amid a call", "a record is begun",
-    "no answer to the signal", "its thread is gone amid a call"};
 
 void format_record(struct text *text, const struct record *record, struct arguments *arguments)
 {
     arguments->count = arguments->next = 0;
     if (!record->site) {
-        add_format(text, "<site %u isn't in the %s>", record->id, record->ring->is_of_file ? "file" : "dump");
-        for (size_t k = 0; record->ring->is_of_file && k < record->payload.len; k++)
+        add_format(text, "<site %u isn't in the file>", record->id);
+        for (size_t k = 0; k < record->payload.len; k++)
             add_format(text, " %02x", record->payload.at[k]);
         return;
     }
     read_arguments(arguments, record->site, record->payload);
-    if (record->site->style == STYLE_PRINTF)
-        format_printf(text, record->site->format, arguments);
-    else
-        format_braces(text, record->site->format, arguments);
+    switch (record->site->style) {
+    case STYLE_PRINTF: format_printf(text, record->site->format, arguments); break;
+    case STYLE_FIELDS: format_fields(text, record->site, arguments); break;
+    default: format_braces(text, record->site->format, arguments);
+    }
     if (arguments->rest >= ID_SIZE || arguments->count < record->site->kinds.len)
         add_string(text, " <the record doesn't fit its site>");
+}
+
+const char *level_name(enum level level)
+{
+    static const char *const names[LEVELS] = {"", "ERROR", "WARN", "INFO", "DEBUG"};
+    return names[level];
+}
+
+const char *level_key(enum level level)
+{
+    static const char *const keys[LEVELS] = {"", "error", "warn", "info", "debug"};
+    return keys[level];
+}
+
+void add_line_text(struct text *line, const struct record *record, struct text *formatted, struct arguments *arguments)
+{
+    enum level level = record->site ? record->site->level : LEVEL_NONE;
+    if (level != LEVEL_NONE)
+        add_format(line, "%s ", level_name(level));
+    formatted->len = 0;
+    format_record(formatted, record, arguments);
+    drop_line_end(formatted);
+    add_escaped(line, bytes_of(formatted));
 }
 
 void add_thread(struct text *text, const struct ring *ring, const struct lease *lease)
@@ -50,108 +89,151 @@ void add_thread(struct text *text, const struct ring *ring, const struct lease *
     }
 }
 
-// Gives the numbers from the ring's next one up to `end`, if there are any.
-static void give_gap(const struct listing *listing, const struct ring *ring, uint64_t end)
+// Gives the numbers from the ring's next one up to `end`, if there are any, and they may be of a thread that passes.
+static void give_gap(const struct listings *all, const struct listing *listing, const struct ring *ring, uint64_t end)
 {
     uint64_t next = listing->rings[ring->number].next;
-    if (end > next) {
-        struct gap gap = {ring, ring_lease(ring, end - 1), next, end - 1};
-        listing->viewer->gap(listing->viewer->self, &gap);
-    }
+    if (end <= next)
+        return;
+    struct gap gap = {ring, ring_lease(ring, end - 1), next, end - 1};
+    if (may_pass_thread(all->filter, gap.lease))
+        all->viewer->gap(all->viewer->self, listing->dump, &gap);
 }
 
-static void give_record(const struct listing *listing, const struct tracering_line *line, const uint8_t *payload)
+// The next record of a listing that has one.
+static struct record next_record(const struct listing *listing)
 {
-    const struct ring *ring = listing->dump->of_cpu[line->cpu];
-    struct record record = {line->moment, line->number, ring, ring_lease(ring, line->number), NULL, 0, {payload, 0}};
-    give_gap(listing, ring, line->number);
+    const struct next *next = &listing->next[listing->first];
+    const struct tracering_line *line = &next->line;
+    const struct ring *ring = listing->dump->of_number[listing->first * CPUS + line->cpu];
+    struct record record = {line->moment, line->number, ring, ring_lease(ring, line->number), NULL, 0, {NULL, 0}};
     if (line->len >= ID_SIZE) {
-        record.id = number32_at(payload);
+        record.id = number32_at(next->payload);
         record.site = dump_site(listing->dump, record.id);
-        record.payload = (struct bytes){payload + ID_SIZE, line->len - ID_SIZE};
+        record.payload = (struct bytes){next->payload + ID_SIZE, line->len - ID_SIZE};
     }
-    listing->viewer->record(listing->viewer->self, &record);
+    return record;
 }
 
-static void list_records(struct listing *listing, size_t most)
+static void go_on(struct listing *listing, size_t collector)
 {
-    struct tracering_collector *records = &listing->dump->records;
-    uint8_t *payload = allocate(LONGEST_PAYLOAD, 1);
-    struct tracering_line line;
-    size_t count;
-    if (tracering_collector_list(records, &count) != TRACERING_DONE)
-        end_without_memory();
-    for (size_t k = 0; tracering_collector_next(records, payload, LONGEST_PAYLOAD, &line) == TRACERING_DONE; k++) {
-        struct progress *progress = &listing->rings[line.cpu];
-        if (count - k <= most)
-            give_record(listing, &line, payload);
+    struct next *next = &listing->next[collector];
+    struct tracering_collector *records = &listing->dump->records[collector];
+    next->is_there = tracering_collector_next(records, next->payload, LONGEST_PAYLOAD, &next->line) == TRACERING_DONE;
+}
+
+// Finds the collector whose next record is the first by moment, ring and number. (The rings of one are below those of
+// the next one, and it has each ring's records in their order.)
+static void find_first(struct listing *listing)
+{
+    size_t first = COLLECTORS;
+    for (size_t k = 0; k < COLLECTORS; k++)
+        if (listing->next[k].is_there
+            && (first == COLLECTORS || listing->next[k].line.moment < listing->next[first].line.moment))
+            first = k;
+    listing->first = first;
+    if (first == COLLECTORS)
+        return;
+    const struct process *process = &listing->dump->process;
+    uint64_t moment = listing->next[first].line.moment;
+    listing->time = has_time(process) ? time_of(process, moment) : (nanoseconds)moment;
+}
+
+// Lists what each collector has, from the first record on, and answers how many records these are.
+static size_t list_collectors(struct listing *listing)
+{
+    size_t all = 0, count;
+    for (size_t k = 0; k < COLLECTORS; k++) {
+        int32_t code = tracering_collector_list(&listing->dump->records[k], &count);
+        if (code == TRACERING_ABSENT)
+            continue;
+        if (code != TRACERING_DONE)
+            end_without_memory();
+        if (!listing->next[k].payload)
+            listing->next[k].payload = allocate(LONGEST_PAYLOAD, 1);
+        go_on(listing, k);
+        all += count;
+    }
+    find_first(listing);
+    return all;
+}
+
+static size_t list_all(const struct listings *all)
+{
+    size_t records = 0;
+    for (size_t k = 0; k < all->count; k++)
+        records += list_collectors(&all->of[k]);
+    return records;
+}
+
+// The listing that has the next record by time, or null. (Of equal times the one of the dump that is named first.)
+static struct listing *next_of(const struct listings *all)
+{
+    struct listing *next = NULL;
+    for (size_t k = 0; k < all->count; k++)
+        if (all->of[k].first < COLLECTORS && (!next || all->of[k].time < next->time))
+            next = &all->of[k];
+    return next;
+}
+
+static void pass_over(struct listing *listing)
+{
+    go_on(listing, listing->first);
+    find_first(listing);
+}
+
+// How many records pass the filter.
+static size_t count_passing(const struct listings *all)
+{
+    size_t records = list_all(all), passing = 0;
+    if (!all->filter)
+        return records;
+    for (struct listing *listing; (listing = next_of(all)); pass_over(listing)) {
+        struct record record = next_record(listing);
+        passing += passes(all->filter, listing->dump, &record);
+    }
+    (void)list_all(all);
+    return passing;
+}
+
+static void list_records(const struct listings *all, size_t most)
+{
+    // (What passes isn't counted if all that does is given.)
+    size_t left = most == SIZE_MAX ? list_all(all) : count_passing(all);
+    for (struct listing *listing; (listing = next_of(all)); pass_over(listing)) {
+        struct record record = next_record(listing);
+        struct progress *progress = &listing->rings[record.ring->number];
+        bool is_passing = passes(all->filter, listing->dump, &record);
+        if (is_passing && left <= most) {
+            give_gap(all, listing, record.ring, record.number);
+            all->viewer->record(all->viewer->self, listing->dump, &record);
+        }
+        left -= is_passing;
         progress->listed++;
-        progress->below += line.number < listing->dump->of_cpu[line.cpu]->taken;
-        if (line.number >= progress->next)
-            progress->next = line.number + 1;
+        if (record.number >= progress->next)
+            progress->next = record.number + 1;
     }
-    free(payload);
 }
 
-// How many numbers of the ring its pages count as missing.
-static uint64_t count_missing(struct dump *dump, const struct ring *ring)
-{
-    uint64_t missing = 0;
-    size_t count, room;
-    (void)tracering_collector_missing(&dump->records, ring->number, NULL, 0, &room);
-    struct tracering_run *runs = allocate(room, sizeof *runs);
-    (void)tracering_collector_missing(&dump->records, ring->number, runs, room, &count);
-    for (size_t k = 0; k < room; k++)
-        missing += runs[k].last - runs[k].first + 1;
-    free(runs);
-    return missing;
-}
-
-static size_t give_loss(const struct viewer *viewer, struct loss loss)
+static size_t give_loss(const struct viewer *viewer, const struct dump *dump, struct loss loss)
 {
     if (!loss.count)
         return 0;
-    viewer->loss(viewer->self, &loss);
+    viewer->loss(viewer->self, dump, &loss);
     return 1;
 }
 
-// Gives what isn't there of a ring of a file.
-static size_t give_file_losses(struct listing *listing, const struct ring *ring)
+// Gives what a ring lost. How many losses these are. (What is missing was overwritten: pages have records in a row.)
+static size_t give_ring_losses(const struct viewer *viewer, const struct listing *listing, const struct ring *ring)
 {
     const struct progress *progress = &listing->rings[ring->number];
-    const struct viewer *viewer = listing->viewer;
-    uint64_t taken = ring->taken - progress->below, rest = ring->written - progress->listed - taken;
-    size_t losses = give_loss(viewer, (struct loss){LOSS_TAKEN, NULL, ring, taken, NULL, 0});
+    const struct dump *dump = listing->dump;
+    uint64_t end = ring->written > progress->next ? ring->written : progress->next;
     enum loss_kind kind = ring->is_damaged ? LOSS_UNKNOWN : LOSS_OVERWRITTEN;
-    return losses + give_loss(viewer, (struct loss){kind, NULL, ring, rest, NULL, 0});
-}
-
-// The same of a dump.
-static size_t give_dump_losses(struct listing *listing, const struct ring *ring)
-{
-    const struct progress *progress = &listing->rings[ring->number];
-    const struct viewer *viewer = listing->viewer;
-    uint64_t end = ring->written - ring->lacking;
-    if (end < progress->next)
-        end = progress->next;
-    // A page that was dropped had a count of what is missing before it, which is dropped with it. So what is missing
-    // and wasn't dropped was overwritten, though no page says so.
-    uint64_t gaps = end - progress->listed, missing = count_missing(listing->dump, ring);
-    uint64_t overwritten = gaps > ring->dropped ? gaps - ring->dropped : 0;
-    if (overwritten < missing)
-        overwritten = missing;
-    size_t losses = give_loss(viewer, (struct loss){LOSS_OVERWRITTEN, NULL, ring, overwritten, NULL, 0});
-    return losses + give_loss(viewer, (struct loss){LOSS_DROPPED, NULL, ring, ring->dropped, NULL, 0});
-}
-
-// Gives what a ring lost. How many losses these are.
-static size_t give_losses(struct listing *listing, const struct ring *ring)
-{
-    const struct viewer *viewer = listing->viewer;
-    size_t losses = ring->is_of_file ? give_file_losses(listing, ring) : give_dump_losses(listing, ring);
+    size_t losses = give_loss(viewer, dump, (struct loss){kind, NULL, ring, end - progress->listed, NULL, 0});
     for (size_t k = 0; k < REASONS; k++)
-        losses += give_loss(viewer, (struct loss){LOSS_REFUSED, REFUSED[k], ring, ring->refused[k], NULL, 0});
-    return losses + give_loss(viewer, (struct loss){LOSS_NOT_READ, NOT_READ[ring->tail], ring, ring->lacking, NULL, 0});
+        losses += give_loss(viewer, dump, (struct loss){LOSS_REFUSED, REFUSED[k], ring, ring->refused[k], NULL, 0});
+    return losses;
 }
 
 static size_t give_damages(const struct viewer *viewer, const struct dump *dump)
@@ -159,23 +241,47 @@ static size_t give_damages(const struct viewer *viewer, const struct dump *dump)
     size_t losses = 0;
     for (size_t k = 0; k < dump->damage_count; k++) {
         const struct damage *damage = &dump->damages[k];
-        losses += give_loss(viewer,
+        losses += give_loss(viewer, dump,
             (struct loss){LOSS_DAMAGED, damage->why, damage->ring, 1, damage->what, damage->offset});
     }
-    return losses + give_loss(viewer, (struct loss){LOSS_DAMAGED, NULL, NULL, dump->more_damages, NULL, 0});
+    return losses + give_loss(viewer, dump, (struct loss){LOSS_DAMAGED, NULL, NULL, dump->more_damages, NULL, 0});
 }
 
-void list_dump(struct dump *dump, size_t most, const struct viewer *viewer)
+// Gives what a dump lost.
+static size_t give_losses(const struct viewer *viewer, const struct listing *listing)
 {
-    struct listing listing = {dump, viewer, {{0, 0, 0}}};
+    const struct dump *dump = listing->dump;
     size_t losses = 0;
-    viewer->head(viewer->self, dump);
-    list_records(&listing, most);
     for (size_t k = 0; k < dump->ring_count; k++)
-        give_gap(&listing, &dump->rings[k], dump->rings[k].written - dump->rings[k].lacking);
-    for (size_t k = 0; k < dump->ring_count; k++)
-        losses += give_losses(&listing, &dump->rings[k]);
+        losses += give_ring_losses(viewer, listing, &dump->rings[k]);
     losses += give_damages(viewer, dump);
-    losses += give_loss(viewer, (struct loss){LOSS_NO_RING, NULL, NULL, dump->process.no_ring, NULL, 0});
+    return losses + give_loss(viewer, dump, (struct loss){LOSS_NO_RING, NULL, NULL, dump->process.no_ring, NULL, 0});
+}
+
+static void free_listing(struct listing *listing)
+{
+    for (size_t k = 0; k < COLLECTORS; k++)
+        free(listing->next[k].payload);
+    free(listing->rings);
+}
+
+void list_dumps(struct dump *dumps, size_t count, const struct choice *choice, const struct viewer *viewer)
+{
+    struct listings all = {allocate(count, sizeof *all.of), count, viewer, choice->filter};
+    size_t losses = 0;
+    for (size_t k = 0; k < count; k++) {
+        all.of[k].dump = &dumps[k];
+        all.of[k].rings = allocate(RINGS, sizeof *all.of[k].rings);
+        viewer->head(viewer->self, &dumps[k]);
+    }
+    list_records(&all, choice->most);
+    for (size_t k = 0; k < count; k++)
+        for (size_t ring = 0; ring < dumps[k].ring_count; ring++)
+            give_gap(&all, &all.of[k], &dumps[k].rings[ring], dumps[k].rings[ring].written);
+    for (size_t k = 0; k < count; k++)
+        losses += give_losses(viewer, &all.of[k]);
+    for (size_t k = 0; k < count; k++)
+        free_listing(&all.of[k]);
+    free(all.of);
     viewer->end(viewer->self, losses);
 }

@@ -33,8 +33,18 @@ static const char *signal_name(uint32_t signal)
     }
 }
 
-static void show_file_head(struct lines *lines, const struct process *process)
+// Adds which of several dumps a line is of.
+static void add_name(struct text *line, const struct dump *dump)
 {
+    if (!dump->name)
+        return;
+    add_escaped(line, bytes_of_string(dump->name));
+    add_string(line, ": ");
+}
+
+static void show_file_head(struct lines *lines, const struct dump *dump)
+{
+    const struct process *process = &dump->process;
     add_escaped(&lines->line, process->name);
     add_format(&lines->line, "[%u], started ", process->pid);
     (void)add_date(&lines->line, (nanoseconds)process->start_time, " ", " UTC, ");
@@ -44,6 +54,7 @@ static void show_file_head(struct lines *lines, const struct process *process)
     write_line(lines);
     if (!process->is_inexact)
         return;
+    add_name(&lines->line, dump);
     add_string(&lines->line, "times are inexact: the clocks were read once, or twice within a second, in another boot");
     write_line(lines);
 }
@@ -51,9 +62,10 @@ static void show_file_head(struct lines *lines, const struct process *process)
 static void show_head(void *self, const struct dump *dump)
 {
     struct lines *lines = self;
-    const struct process *process = lines->process = &dump->process;
+    const struct process *process = &dump->process;
+    add_name(&lines->line, dump);
     if (process->is_file) {
-        show_file_head(lines, process);
+        show_file_head(lines, dump);
         return;
     }
     add_escaped(&lines->line, process->name);
@@ -65,21 +77,19 @@ static void show_head(void *self, const struct dump *dump)
     write_line(lines);
 }
 
-static void show_record(void *self, const struct record *record)
+static void show_record(void *self, const struct dump *dump, const struct record *record)
 {
     struct lines *lines = self;
-    struct text *line = &lines->line, *formatted = &lines->formatted;
-    if (has_time(lines->process))
-        add_time_of_day(line, time_of(lines->process, record->moment));
+    struct text *line = &lines->line;
+    if (has_time(&dump->process))
+        add_time_of_day(line, time_of(&dump->process, record->moment));
     else
         add_format(line, "%*" PRIu64, TIME_WIDTH, record->moment);
     add_string(line, " ");
+    add_name(line, dump);
     add_thread(line, record->ring, record->lease);
     add_string(line, " ");
-    formatted->len = 0;
-    format_record(formatted, record, &lines->arguments);
-    drop_line_end(formatted);
-    add_escaped(line, bytes_of(formatted));
+    add_line_text(line, record, &lines->formatted, &lines->arguments);
     write_line(lines);
 }
 
@@ -88,11 +98,12 @@ static const char *plural(uint64_t count)
     return count == 1 ? "" : "s";
 }
 
-static void show_gap(void *self, const struct gap *gap)
+static void show_gap(void *self, const struct dump *dump, const struct gap *gap)
 {
     struct lines *lines = self;
     uint64_t count = gap->last - gap->first + 1;
     add_fill(&lines->line, " ", 1, TIME_WIDTH + 1);
+    add_name(&lines->line, dump);
     add_thread(&lines->line, gap->ring, gap->lease);
     add_format(&lines->line, " %" PRIu64 " record%s missing", count, plural(count));
     write_line(lines);
@@ -120,15 +131,15 @@ static void show_damage(struct lines *lines, const struct loss *loss)
     write_line(lines);
 }
 
-static void show_loss(void *self, const struct loss *loss)
+static void show_loss(void *self, const struct dump *dump, const struct loss *loss)
 {
     static const struct {
         const char *noun, *what;
-    } said[LOSS_DAMAGED] = {{"record", "overwritten"}, {"record", "dropped by the limit of what is kept"},
-        {"record", "refused"}, {"newest record", "not read"}, {"event", "without a ring"},
-        {"record", "taken by dumps, or overwritten before"}, {"record", "overwritten, or on a page that is damaged"}};
+    } said[LOSS_DAMAGED] = {{"record", "overwritten"}, {"record", "refused"}, {"event", "without a ring"},
+        {"record", "overwritten, or on a page that is damaged"}};
     struct lines *lines = self;
     add_string(&lines->line, "lost: ");
+    add_name(&lines->line, dump);
     if (loss->ring) {
         add_threads(&lines->line, loss->ring);
         add_string(&lines->line, ": ");

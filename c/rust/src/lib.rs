@@ -1,10 +1,12 @@
-//! A trace ring with a writer's end and a reader's end, each of which may go to a thread of its own; collectors of the
-//! parcels that are taken; and fleets, which collect the packed parcels of many streams.
+#![doc = include_str!("../README.md")]
 //!
-//! `./tracering-lib`, in the folder above `c`, builds the static library that this crate links, in `out`; the
-//! environment's TRACERING_LIB names another folder that has it. `tests/` shows the calls in use.
+//! ## The calls
 //!
-//! `c/include/tracering.h` says what each call does. What is a condition there is kept here by types: an end is in one
+//! [`flight`] is the recorder, and [`trace!`] an event of it. [`ring`] makes a trace ring, [`region::ring_in`] one that
+//! outlives its process; a [`Collector`] collects what is taken of rings, and a [`Fleet`] the packed parcels of many
+//! streams. `tests/` shows the calls in use.
+//!
+//! The headers in `include/` say what each call does. What is a condition there is kept here by types: an end is in one
 //! call at a time, since calls borrow it, and it is freed when it is dropped. That two ends are of one ring is looked
 //! at when they are settled: both carry its number. What a writer refuses, it answers to its caller, so nothing counts
 //! it.

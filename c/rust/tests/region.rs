@@ -11,7 +11,10 @@ fn path(name: &str) -> PathBuf {
     std::env::temp_dir().join(format!("tracering_region_{}_{name}", id()))
 }
 
-fn numbers(bytes: &[u8]) -> Result<Vec<(u64, Vec<u8>)>, Box<dyn Error>> {
+/// The numbers and payloads of records.
+type Numbered = Vec<(u64, Vec<u8>)>;
+
+fn numbers(bytes: &[u8]) -> Result<Numbered, Box<dyn Error>> {
     let mut collector = Collector::new()?;
     for slot in slots(bytes) {
         collector.add(slot?).map_err(|(fault, _)| fault)?;
