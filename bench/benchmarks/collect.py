@@ -2,10 +2,15 @@
 
 The pages are those of a kept file of trace-cmd, over and over, with times that go on. They lie in such a file, and raw
 in a file for each CPU. Instructions are counted of a file of 4 MB, with names and with fields, and of the kept one.
+Pages of one CPU are also written to pipes, as those of eight, and followed.
 """
 
 import gzip
+import os
 import struct
+import subprocess
+import threading
+import time
 
 from lib import count, tables
 from lib.programs import TOP, Failure, tracering
@@ -19,13 +24,19 @@ CPUS, PAGE, CPU_BYTES, COUNTED_BYTES, GAP = 2, 4096, 64 << 20, 2 << 20, 1000
 # listing with names takes.
 MOST_TIME, MOST_MEMORY, MOST_FIELDS = 1 / 3, 3, 1.2
 
+# What is followed: so many CPUs, and the bytes that all of them get in a second. So many seconds more than that it may
+# take at most to write them, and then to print what is left.
+FOLLOWED_CPUS, RATE, MOST_DELAY = 8, 100_000_000, 2
+# How many bytes are written at once.
+PIECE = 1 << 16
+
 # How a file of trace-cmd is listed, and the options for it.
 FORMS = {"": [], ", `--names`": ["--names"], ", `--fields`": ["--fields"]}
 
 
 def kept_pages(file, cpu):
     """The pages of a kept file, each with the time from its own to its last record's, and how many records it has."""
-    [(_, _, cpus)] = [buffer for buffer in dat_reading(file)[1] if not buffer[0]]
+    [(_, _, cpus)] = [buffer for buffer in dat_reading(file).buffers if not buffer[0]]
     data = dict(cpus)[cpu]
     for at in range(0, len(data), PAGE):
         page = data[at : at + PAGE]
@@ -47,7 +58,7 @@ def capture(file, cpu, length=CPU_BYTES // PAGE):
 def trace_dat(file, captures):
     """The file with these pages: its own are named no longer."""
     file += bytes(-len(file) % PAGE)
-    [(_, _, cpus)] = [buffer for buffer in dat_reading(file)[1] if not buffer[0]]
+    [(_, _, cpus)] = [buffer for buffer in dat_reading(file).buffers if not buffer[0]]
     end = len(file)
     for (cpu, pages), made in zip(cpus, captures):
         old = struct.pack("<IQQ", cpu, file.index(pages), len(pages))
@@ -73,6 +84,49 @@ def counted(path, file, length):
         ratio = f"{instructions / names:.2f}"
         limit = MOST_FIELDS if instructions == fields else ""
         yield tables.line([f"{what}{said}", f"{instructions / records:,.0f}", ratio, limit])
+
+
+def write_slowly(path, data, begin):
+    """Writes a CPU's part of the bytes of a second to a pipe, again and again."""
+    with open(path, "wb", buffering=0) as pipe:
+        for at in range(0, len(data), PIECE):
+            time.sleep(max(0, begin + at * FOLLOWED_CPUS / RATE - time.monotonic()))
+            pipe.write(data[at : at + PIECE])
+
+
+def followed(folder, data, records):
+    """The row of pipes that are followed: how long they were written and the listing took, and what it took."""
+    pipes = [folder / f"pipe{cpu}" for cpu in range(FOLLOWED_CPUS)]
+    for pipe in pipes:
+        os.mkfifo(pipe)
+    timing = ["/usr/bin/time", "--quiet", "-f", "%U %S %M", tracering(), "collect", "--follow", *pipes]
+    lister = subprocess.Popen(timing, stdout=subprocess.PIPE, stderr=subprocess.PIPE, text=True)
+    counter = subprocess.Popen(["grep", "-c", "^[0-9]"], stdin=lister.stdout, stdout=subprocess.PIPE, text=True)
+    lister.stdout.close()
+    begin = time.monotonic()
+    writers = [threading.Thread(target=write_slowly, args=(pipe, data, begin), daemon=True) for pipe in pipes]
+    for writer in writers:
+        writer.start()
+    for writer in writers:
+        writer.join()
+    written = time.monotonic() - begin
+    listed = int(counter.communicate()[0])
+    printed = time.monotonic() - begin
+    said = lister.stderr.read()
+    if lister.wait() or listed != records * FOLLOWED_CPUS:
+        raise Failure(f"--follow ends with status {lister.returncode} and {listed} records\n{said}")
+    user, system, most = said.split()[-3:]
+    size = len(data) * FOLLOWED_CPUS
+    if written > size / RATE + MOST_DELAY or printed > written + MOST_DELAY:
+        tables.OVER.append("`--follow`")
+    rate = f"{RATE // 1_000_000} MB a second"
+    yield f"{size >> 20} MB written to the pipes of {FOLLOWED_CPUS} CPUs, {rate}, which `--follow` lists."
+    yield ""
+    yield from tables.head("Seconds", "", "of all bytes at that rate", "Limit more")
+    yield tables.line(["until all is written", f"{written:.2f}", f"{size / RATE:.2f}", MOST_DELAY])
+    yield tables.line(["until all is printed", f"{printed:.2f}", f"{written:.2f} written", MOST_DELAY])
+    yield tables.line(["of the processor", f"{float(user) + float(system):.2f}", "", ""])
+    yield tables.line(["the most memory, MB", f"{int(most) / 1024:,.0f}", "", ""])
 
 
 def run(folder):
@@ -110,3 +164,5 @@ def run(folder):
     yield from tables.head("What", "Instructions", "of those with names", "Limit")
     for length in COUNTED_BYTES // PAGE, 0:
         yield from counted(folder / "counted.dat", file, length)
+    yield ""
+    yield from followed(folder, *made[0])

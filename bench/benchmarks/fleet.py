@@ -30,10 +30,13 @@ FORGETTING = [(parcels, 100, "rising", "forget") for parcels in (10_000, 100_000
 FORGETTING.append((1_000_000, 100_000, "rising", "forget"))
 
 
-def built(folder, name, *libraries):
-    source = SOURCES / f"{name}.c" if name != "fleet_scale" else TOP / f"tests/c/{name}.c"
+def built(folder, name):
     program = folder / name
-    call(["cc", "-O2", "-std=c11", f"-I{TOP}/c/include", source, TOP / "out/libtracering.a", *libraries, "-o", program])
+    if name == "fleet_scale":
+        source, archive = TOP / f"tests/c/{name}.c", TOP / "out/libtracering.a"
+        call(["cc", "-O2", "-std=c11", f"-I{TOP}/c/include", source, archive, "-o", program])
+    else:
+        call([SOURCES / "build", folder, name])
     return program
 
 
@@ -82,19 +85,20 @@ def through_one_node(folder, publisher, collector, size):
     try:
         wait_for(port)
         processes.append(Process(collector, *bus, "--log", log, "--copy", "bench"))
-        words = ["--cpus", 4, "--pages", 64, "--size", size, "--rate", 0, "--seconds", SECONDS, "--window", 512]
+        words = ["--rings", "--cpus", 4, "--pages", 64, "--size", size]
+        words += ["--rate", 0, "--seconds", SECONDS, "--window", 512]
         begun = time.time()
         processes.append(Process(publisher, *bus, *words))
         node, getter, sender = processes
         status, said, sending = sender.end()
-        sent = re.search(r"sent (\d+) again (\d+) bytes (\d+) writing ([\d.]+)", said)
+        sent = re.search(r"sent (\d+) again (\d+) bytes (\d+)\nwriting ([\d.]+)", said)
         if status or not sent:
             raise Failure(f"fleet: the publisher ends with status {status}: {said}")
-        while log.stat().st_size < int(sent[3]):
+        while sum(file.stat().st_size for file in log.glob("*.log")) < int(sent[3]):
             if time.time() > begun + 60:
                 raise Failure("fleet: the collector doesn't get all")
             time.sleep(0.05)
-        took = log.stat().st_mtime - begun
+        took = max(file.stat().st_mtime for file in log.glob("*.log")) - begun
         status, said, getting = getter.end(signal.SIGTERM)
         if status or f"added {sent[1]} known 0 refused 0" not in said:
             raise Failure(f"fleet: the collector ends with status {status}: {said}")
@@ -106,7 +110,7 @@ def through_one_node(folder, publisher, collector, size):
 
 
 def bus_table(folder):
-    programs = [built(folder, name, "-lnats", "-lpthread") for name in ("publisher", "collector")]
+    programs = [built(folder, name) for name in ("nats_publisher", "nats_collector")]
     yield f"Through one node, in {SECONDS} seconds of writing and until the collector has all; microseconds of"
     yield "processors a parcel:"
     yield ""

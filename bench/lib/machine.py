@@ -19,6 +19,8 @@ TOOLS = {
     "nats-server": ("the packages nats-server and libnats-dev", ["nats-server", "--version"]),
     "taskset": ("the package util-linux", None),
     "chrt": ("the package util-linux", None),
+    "chromium": ("the packages chromium and python3-selenium", ["chromium", "--version"]),
+    "chromedriver": ("the package chromium-driver", None),
     "apt-get": ("Debian's own", None),
     "dpkg-deb": ("Debian's own", None),
 }
