@@ -1,108 +1,60 @@
-"""What `test` starts: children that end with it, connections that it can cut, and the nodes of a bus."""
+"""The buses that `test` parts, freezes and kills: nodes of NATS with connections that it can cut, and mock brokers."""
 
 import asyncio
+import http.client
 import json
-import re
-import shutil
 import signal
-import socket
-import subprocess
 import urllib.request
 
-HOST = "127.0.0.1"
+from children import HOST, LONG, Failure, MockBrokers, NatsServer, check, comes
+
 BROKERS = 3
+# How many seconds nodes that were just started, or troubled, may take to agree before they are started again, and how
+# often they are.
+PATIENCE, TRIES = 150, 10
+# A port at which nobody is.
+NOWHERE = 1
 
 
-class Failure(Exception):
-    """What is otherwise than it has to be."""
+def files_of(log):
+    """The files of a collector's log, in their order."""
+    return sorted(log.glob("*.log"))
 
 
-def free_ports(count):
-    """Ports that nobody listens on, as of now."""
-    sockets = [socket.create_server((HOST, 0)) for _ in range(count)]
-    ports = [each.getsockname()[1] for each in sockets]
-    for each in sockets:
-        each.close()
-    return ports
+def size_of(log):
+    return sum(file.stat().st_size for file in files_of(log))
 
 
 async def growing(logs):
-    """Goes on until these files haven't grown for ten seconds."""
+    """Goes on until these files haven't grown for three minutes."""
     quiet, before = 0, None
-    while quiet < 40:
+    while quiet < 720:
         yield
         await asyncio.sleep(0.25)
-        sizes = [log.stat().st_size for log in logs]
+        sizes = [size_of(log) for log in logs]
         quiet, before = quiet + 1 if sizes == before else 0, sizes
 
 
-class Child:
-    """A program that can be killed, frozen and started again. It is killed when the test ends, whatever ends that."""
-
-    children = []
-
-    def __init__(self, name, folder):
-        self.name, self.output, self.process = name, folder / f"{name}.said", None
-        Child.children.append(self)
-
-    def start(self, *command, **ends):
-        with open(self.output, "ab") as output:
-            ends = {"stdin": subprocess.DEVNULL, "stdout": output, "stderr": output} | ends
-            self.process = subprocess.Popen(["setpriv", "--pdeathsig", "KILL", *map(str, command)], **ends)
-
-    def is_running(self):
-        return self.process is not None and self.process.poll() is None
-
-    def signal(self, number):
-        if self.is_running():
-            self.process.send_signal(number)
-
-    def kill(self):
-        self.signal(signal.SIGKILL)
-        self.process.wait()
-
-    async def frozen(self, seconds):
-        self.signal(signal.SIGSTOP)
-        await asyncio.sleep(seconds)
-        self.signal(signal.SIGCONT)
-
-    async def ended(self, seconds):
-        """Its status, or None if it is still running after so many seconds."""
-        for _ in range(int(seconds * 20)):
-            if not self.is_running():
-                return self.process.returncode
-            await asyncio.sleep(0.05)
-        return None
-
-    async def end_well(self, seconds):
-        status = await self.ended(seconds)
-        if status != 0:
-            raise Failure(f"{self.name} ends with status {status}: {self.output.read_text()}")
-
-    @classmethod
-    def kill_all(cls):
-        for child in cls.children:
-            if child.is_running():
-                child.kill()
-        cls.children.clear()
-
-
 class Proxy:
-    """A port whose connections go on to another one, until they are held or cut."""
+    """A port whose connections go on to another one, until they are held or cut. `target` answers which, or None. With
+    a context, clients have to speak TLS.
+    """
 
-    def __init__(self, port, target):
-        self.port, self.target, self.writers, self.is_cut = port, target, set(), False
+    def __init__(self, target, context=None):
+        self.target, self.context, self.writers, self.is_cut = target, context, set(), False
         self.flows = asyncio.Event()
         self.flows.set()
 
     async def start(self):
-        self.server = await asyncio.start_server(self.accept, HOST, self.port)
+        self.server = await asyncio.start_server(self.accept, HOST, 0, ssl=self.context)
+        self.port = self.server.sockets[0].getsockname()[1]
 
     async def accept(self, reader, writer):
         try:
-            if self.is_cut:
+            # (A connection to a port at which nobody listens may get that very port as its own, and then reach itself.)
+            if self.is_cut or self.target() is None:
                 raise OSError
-            there, here = await asyncio.open_connection(HOST, self.target)
+            there, here = await asyncio.open_connection(HOST, self.target())
         except OSError:
             writer.close()
             return
@@ -138,83 +90,134 @@ class Proxy:
 
 
 class Node:
-    """A server of NATS. Its clients, and each other node, reach it by proxies."""
+    """A server of NATS. Its clients, and each other node, reach it by proxies, whatever its own ports are."""
 
-    def __init__(self, number, folder, ports):
+    def __init__(self, number, folder):
         self.name, self.folder = f"node{number}", folder / f"node{number}"
-        self.child = Child(self.name, folder)
-        self.port, self.route_port, self.monitor, clients = ports
-        self.clients, self.routes = Proxy(clients, self.port), {}
+        self.folder.mkdir()
+        self.clients, self.routes, self.server = Proxy(lambda: self.port("clients")), {}, None
 
-    def configure(self, nodes, nowhere):
+    def port(self, of):
+        """The port of the running node, or None."""
+        return self.server.ports.get(of) if self.server and self.server.child.is_running() else None
+
+    async def know(self, others):
+        """Makes the proxies, and writes down what the node has to know."""
+        self.routes = {other.name: Proxy(lambda other=other: other.port("routes")) for other in others}
+        for proxy in [self.clients, *self.routes.values()]:
+            await proxy.start()
+        self.configure()
+
+    def configure(self):
         """It knows the others by their proxies alone, and tells them a port at which nobody is."""
-        for other, port in zip(nodes, free_ports(len(nodes))):
-            if other is not self:
-                self.routes[other.name] = Proxy(port, other.route_port)
-        conf = [f"server_name: {self.name}", f'listen: "{HOST}:{self.port}"', f'http: "{HOST}:{self.monitor}"']
-        conf += ['ping_interval: "2s"', "ping_max: 2", 'write_deadline: "2s"']
-        conf.append(f'jetstream {{ store_dir: "{self.folder}", max_mem: 64M, max_file: 2G }}')
+        lines = [f"server_name: {self.name}", f'http: "{HOST}:-1"']
+        lines += ['ping_interval: "2s"', "ping_max: 2", 'write_deadline: "2s"']
+        lines.append(f'jetstream {{ store_dir: "{self.folder}/js", max_mem: 64M, max_file: 2G }}')
         if self.routes:
             routes = ", ".join(f"nats-route://{HOST}:{proxy.port}" for proxy in self.routes.values())
-            here = f'listen: "{HOST}:{self.route_port}", advertise: "{HOST}:{nowhere}", no_advertise: true'
-            conf.append(f"cluster {{ name: fleet, {here}, routes: [{routes}] }}")
-        self.folder.mkdir()
-        (self.folder / "conf").write_text("\n".join(conf) + "\n")
+            here = f'listen: "{HOST}:-1", advertise: "{HOST}:{NOWHERE}", no_advertise: true'
+            lines.append(f"cluster {{ name: fleet, {here}, routes: [{routes}] }}")
+        listens = ["clients", "monitor"] + ["routes"] * bool(self.routes)
+        self.server = NatsServer(self.name, self.folder, lines, listens)
 
-    def start(self):
-        self.child.start(shutil.which("nats-server") or "/usr/sbin/nats-server", "-c", self.folder / "conf")
+    @property
+    def child(self):
+        return self.server.child
 
-    def proxies(self):
-        return [self.clients, *self.routes.values()]
+    async def start(self):
+        self.server.ports = {}
+        await self.server.start_beside()
 
     def asked(self):
-        """What its monitor tells of the bus's stream, or None."""
+        """What its monitor tells of JetStream, or nothing."""
         try:
-            with urllib.request.urlopen(f"http://{HOST}:{self.monitor}/jsz?streams=1&consumers=1", timeout=1) as answer:
-                [account] = json.load(answer)["account_details"]
-                [stream] = account["stream_detail"]
-                return stream
-        except (OSError, ValueError, KeyError):
-            return None
+            place = f"http://{HOST}:{self.port('monitor')}/jsz?streams=1&consumers=1"
+            with urllib.request.urlopen(place, timeout=20) as answer:
+                return json.load(answer)
+        except (OSError, ValueError, http.client.HTTPException):
+            return {}
+
+
+def stream_of(told):
+    """The bus's stream, by what a node tells of JetStream, or None."""
+    streams = [stream for account in told.get("account_details", []) for stream in account.get("stream_detail", [])]
+    return streams[0] if len(streams) == 1 else None
 
 
 class Nats:
     """So many nodes, each with a copy of the bus's stream."""
 
-    # How long a new reader may have to wait for its first message, in seconds.
-    idle = 8
+    # What isn't acknowledged comes again after so many milliseconds.
+    of_collectors = ("--retry", 1500)
+    of_hosts = ("--rate", 400)
 
     def __init__(self, folder, count):
-        ports = free_ports(4 * count + 1)
-        self.nodes = [Node(number, folder, ports[4 * number : 4 * number + 4]) for number in range(count)]
-        for node in self.nodes:
-            node.configure(self.nodes, ports[-1])
-        self.ways = []
-        servers = ",".join(f"nats://{HOST}:{node.clients.port}" for node in self.nodes)
-        self.words = ["--servers", servers, "--copies", count]
+        self.folder, self.count, self.ways = folder, count, []
 
     async def start(self):
+        """Makes the nodes, and makes them anew if they don't agree on a leader."""
+        for number in range(TRIES):
+            await self.make(self.folder / f"nodes{number}")
+            if await self.soon(self.has_leader):
+                return
+            print(f"fleet: no leader after {PATIENCE} seconds, so the nodes are made anew: {self.told}", flush=True)
+            for node in self.nodes:
+                node.child.kill()
+        raise Failure("the nodes never agree on a leader")
+
+    async def make(self, folder):
+        folder.mkdir()
+        self.nodes = [Node(number, folder) for number in range(self.count)]
         for node in self.nodes:
-            for proxy in node.proxies():
-                await proxy.start()
-        for node in self.nodes:
-            node.start()
+            await node.know([other for other in self.nodes if other is not node])
+        servers = ",".join(f"nats://{HOST}:{node.clients.port}" for node in self.nodes)
+        self.words = ["--servers", servers, "--copies", self.count]
+        await asyncio.gather(*(node.start() for node in self.nodes))
 
     async def restart(self):
         for node in self.nodes:
             node.child.signal(signal.SIGTERM)
-        for node in self.nodes:
-            await node.child.ended(30)
-            node.start()
+        if not await self.soon(self.is_down):
+            for node in self.nodes:
+                node.child.kill()
+        await asyncio.gather(*(node.start() for node in self.nodes))
+
+    async def soon(self, holds):
+        """Whether this comes about while a patient one waits."""
+        clock = asyncio.get_running_loop().time
+        end = clock() + PATIENCE
+        while not await holds():
+            if clock() > end:
+                return False
+            await asyncio.sleep(0.25)
+        return True
 
     def links(self, node):
         """The proxies between this node and the others."""
         return [*node.routes.values(), *(other.routes[node.name] for other in self.nodes if other is not node)]
 
+    async def ask(self):
+        """What each node tells of JetStream, by the node's name."""
+        answers = await asyncio.gather(*(asyncio.to_thread(node.asked) for node in self.nodes))
+        self.told = {node.name: answer for node, answer in zip(self.nodes, answers)}
+        return self.told
+
     async def streams(self):
         """What each node tells of the stream, by the node's name."""
-        answers = await asyncio.gather(*(asyncio.to_thread(node.asked) for node in self.nodes))
-        return {node.name: answer for node, answer in zip(self.nodes, answers) if answer}
+        streams = {name: stream_of(told) for name, told in (await self.ask()).items()}
+        return {name: stream for name, stream in streams.items() if stream}
+
+    async def has_leader(self):
+        """Whether all nodes know one leader, which knows them all."""
+        told = await self.ask()
+        groups = {name: answer.get("meta_cluster", {}) for name, answer in told.items()}
+        [leader, *others] = {group.get("leader") for group in groups.values()}
+        replicas = groups.get(leader, {}).get("replicas", [])
+        is_known = len(replicas) == self.count - 1 and all(each.get("current") for each in replicas)
+        return all(told.values()) and (self.count == 1 or (is_known and not others))
+
+    async def is_down(self):
+        return not any(node.child.is_running() for node in self.nodes)
 
     async def is_whole(self):
         """Whether the stream has a leader, and all of its copies are up to date."""
@@ -227,11 +230,13 @@ class Nats:
         return False
 
     async def whole(self):
-        for _ in range(240):
-            if await self.is_whole():
+        """Waits until the bus is whole. Nodes that don't come to it are started again, as whoever runs them would."""
+        for _ in range(TRIES):
+            if await self.soon(self.is_whole):
                 return
-            await asyncio.sleep(0.25)
-        raise Failure("the bus isn't whole after a minute")
+            print(f"fleet: the bus isn't whole after {PATIENCE} seconds, and is started again: {self.told}", flush=True)
+            await self.restart()
+        raise Failure("the bus isn't whole, however often it is started")
 
     async def stored(self):
         """How many messages each node has of the stream."""
@@ -248,15 +253,9 @@ class Nats:
 
     async def drained(self, readers, logs):
         """Waits until all readers have acknowledged all, or, if a node's sum is wrong, nothing comes any more."""
-        for _ in range(240):
-            if readers <= (await self.owed()).keys():
-                break
-            await asyncio.sleep(0.25)
-        else:
-            raise Failure(f"a minute later {readers - (await self.owed()).keys()} aren't consumers")
         async for _ in growing(logs):
             owed = await self.owed()
-            if readers <= owed.keys() and not any(owed.values()):
+            if readers <= owed.keys() and not any(owed[reader] for reader in readers):
                 return
 
     async def trouble(self, rng):
@@ -275,7 +274,7 @@ class Nats:
     async def kill(self, node, seconds):
         node.child.kill()
         await asyncio.sleep(seconds)
-        node.start()
+        await node.start()
         return "nodes killed"
 
     async def freeze(self, node, seconds):
@@ -312,25 +311,18 @@ class Nats:
 class Kafka:
     """Three brokers of librdkafka's mock cluster."""
 
-    # A new group is given its partitions after some seconds.
-    idle = 15
+    of_collectors = ()
+    # (A mock broker drops what is above 5 MB a partition: that is for many minutes.)
+    of_hosts = ("--rate", 100)
 
     def __init__(self, folder, program):
-        self.child, self.program, self.folder = Child("mock_kafka", folder), program, folder
+        self.brokers = MockBrokers(folder, program)
 
     async def start(self):
-        self.child.start(self.program, stdin=subprocess.PIPE)
-        for _ in range(200):
-            await asyncio.sleep(0.05)
-            # (Warnings of the library go to the same file, also before the addresses.)
-            if found := re.search("^([0-9.:,]+)\n", self.child.output.read_text(), re.M):
-                self.words = ["--servers", found[1]]
-                return
-        raise Failure("there are no brokers")
-
-    def tell(self, line):
-        self.child.process.stdin.write(f"{line}\n".encode())
-        self.child.process.stdin.flush()
+        self.brokers.begin()
+        await comes(self.brokers.is_there, "brokers are there", self.brokers.child)
+        self.words = ["--servers", self.brokers.servers, "--property", "client.id=fleet"]
+        self.words += ["--property", "metadata.max.age.ms=60000"]
 
     async def whole(self):
         pass
@@ -340,22 +332,16 @@ class Kafka:
 
     async def owed(self, reader):
         """How many messages a group hasn't committed."""
-        before = len(self.child.output.read_text())
-        self.tell(f"owed {reader}")
-        for _ in range(1200):
-            await asyncio.sleep(0.05)
-            if found := re.search(f"^owed {reader} (-?[0-9]+)\n", self.child.output.read_text()[before:], re.M):
-                return int(found[1])
-        raise Failure("the brokers don't answer what a group hasn't committed")
+        answer = self.brokers.asked(f"owed {reader}")
+        return int((await comes(answer, f"what {reader} hasn't committed", self.brokers.child))[1])
 
     async def drained(self, readers, logs):
         """Waits until all groups have committed all. One whose member was killed has to wait for its session to end."""
-        for _ in range(120):
-            owed = {reader: await self.owed(reader) for reader in sorted(readers)}
-            if not any(owed.values()):
-                return
+        clock = asyncio.get_running_loop().time
+        end = clock() + LONG
+        while any((owed := {reader: await self.owed(reader) for reader in sorted(readers)}).values()):
+            check(clock() < end, f"groups don't get what is left: {owed}")
             await asyncio.sleep(0.5)
-        raise Failure(f"groups don't get what is left: {owed}")
 
     async def trouble(self, rng):
         """One fault: a broker that is away, or answers that come late. Answers its name."""
@@ -363,8 +349,8 @@ class Kafka:
         begin, end, name = rng.choice(
             [(f"down {broker}", f"up {broker}", "brokers away"), ("delay 400", "delay 0", "answers late")]
         )
-        self.tell(begin)
+        self.brokers.tell(begin)
         await asyncio.sleep(rng.uniform(1, 4))
-        self.tell(end)
+        self.brokers.tell(end)
         await asyncio.sleep(1)
         return name

@@ -1,5 +1,4 @@
-// What the programs of this folder share: the words of a command, time, and where a piece says what it is. host.h has a
-// host, whose rings are written and taken, and log.h a collector's log, whichever bus is between them (docs/FLEET.md).
+// What the programs of this folder share: faults, time, signals, and what a piece is (docs/FLEET.md).
 #ifndef FLEET_H
 #define FLEET_H
 
@@ -9,7 +8,6 @@
 #include <errno.h>
 #include <fcntl.h>
 #include <inttypes.h>
-#include <libgen.h>
 #include <pthread.h>
 #include <stdatomic.h>
 #include <stdio.h>
@@ -20,7 +18,7 @@
 #include <time.h>
 #include <unistd.h>
 
-// ---- Words, faults, time, and the signals that end a program.
+// ---- Faults, time, and the signals that end a program.
 
 static volatile sig_atomic_t is_stopped;
 
@@ -36,19 +34,12 @@ static inline void must(int32_t code, const char *call)
         die(call, tracering_text(code));
 }
 
-// The word that follows this one in the command, or else `other`.
-static inline const char *word_after(char **words, const char *name, const char *other)
+static inline void *allocated(size_t count, size_t size)
 {
-    while (*++words)
-        if (!strcmp(*words, name) && words[1])
-            return words[1];
-    return other;
-}
-
-static inline uint64_t number_after(char **words, const char *name, uint64_t other)
-{
-    const char *word = word_after(words, name, NULL);
-    return word ? strtoull(word, NULL, 10) : other;
+    void *memory = calloc(count, size);
+    if (!memory)
+        die("calloc", strerror(errno));
+    return memory;
 }
 
 static inline uint64_t nanoseconds(clockid_t clock)
@@ -83,13 +74,17 @@ static inline void stop_at_signals(void)
 
 // ---- Pieces: the offsets at which their bytes say what they are (docs/formats/pages.md, "Streams of parcels").
 
-enum { KIND_AT = 12, CPU_AT = 32, FILL_AT = 40 };
-enum { RINGS = 64, PAGE = 65520, PARCEL = TRACERING_HEADER + PAGE };
+#define PIECE_LETTERS "TRPARCEL"
+enum { KIND_AT = 12, LENGTH_AT = 16, STREAM_AT = 24, CPU_AT = 32, FILL_AT = 40, FIRST_AT = 48, TIME_AT = 64 };
+enum { COMMIT_AT = 72, DATA_AT = 80, SUM_BYTES = 8, LEAST_PIECE = 56 };
+enum { KIND_PARCEL, KIND_END, KIND_FORGOTTEN, KIND_UNDELIVERED };
+enum { PAGE = 65520, PARCEL = TRACERING_HEADER + PAGE, MOST_PIECE = TRACERING_PIECE(PARCEL) };
 
 struct piece {
+    uint64_t stream;
     uint32_t cpu;
     size_t len;
-    uint8_t bytes[TRACERING_PIECE(PARCEL)];
+    uint8_t bytes[MOST_PIECE];
 };
 
 static inline uint64_t number_at(const void *bytes, size_t at)
@@ -97,5 +92,15 @@ static inline uint64_t number_at(const void *bytes, size_t at)
     uint64_t number;
     memcpy(&number, (const uint8_t *)bytes + at, sizeof number);
     return number;
+}
+
+static inline void put_number(void *bytes, size_t at, uint64_t number)
+{
+    memcpy((uint8_t *)bytes + at, &number, sizeof number);
+}
+
+static inline uint32_t kind_of(const void *piece)
+{
+    return (uint32_t)number_at(piece, KIND_AT);
 }
 #endif

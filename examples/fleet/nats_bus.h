@@ -2,9 +2,28 @@
 #ifndef NATS_BUS_H
 #define NATS_BUS_H
 
-#include "fleet.h"
+#include "report.h"
 
 #include <nats/nats.h>
+
+#define BUS "NATS"
+#define BUS_WORDS \
+    {"servers", TEXT, "nats://127.0.0.1:4222", "nats://HOST:PORT,.. or tls://HOST:PORT,..", NULL, 0}, \
+    {"stream", TEXT, "TRACE", "JetStream's stream", NULL, 0}, \
+    {"subject", TEXT, "trace", "what its subjects begin with: SUBJECT.STREAM-ID.CPU", NULL, 0}, \
+    {"copies", NUMBER, "1", "nodes that keep a copy, if the stream is made here", NULL, 0}, \
+    {"keep-seconds", NUMBER, "3600", "how long it keeps messages, if it is made here", NULL, 0}, \
+    {"user", TEXT, NULL, "a user's name, with --password-file", NULL, 0}, \
+    {"password-file", TEXT, NULL, "file of the user's password", NULL, 0}, \
+    {"token-file", TEXT, NULL, "file of a token", NULL, 0}, \
+    {"creds", TEXT, NULL, "file of credentials (a JWT and its seed)", NULL, 0}, \
+    {"nkey", TEXT, NULL, "a public nkey, with --seed-file", NULL, 0}, \
+    {"seed-file", TEXT, NULL, "file of the nkey's seed", NULL, 0}, \
+    {"tls", FLAG, NULL, "TLS, with the system's authorities unless --ca names others", NULL, 0}, \
+    {"ca", TEXT, NULL, "file of the authorities that servers' certificates are checked by", NULL, 0}, \
+    {"cert", TEXT, NULL, "file of this client's certificate, with --key", NULL, 0}, \
+    {"key", TEXT, NULL, "file of its key", NULL, 0}, \
+    {"host-name", TEXT, NULL, "the name in the servers' certificates, if it isn't that of --servers", NULL, 0}
 
 static inline void must_nats(natsStatus status, const char *call)
 {
@@ -12,38 +31,144 @@ static inline void must_nats(natsStatus status, const char *call)
         die(call, natsStatus_GetText(status));
 }
 
-// Servers are given as `--servers nats://HOST:PORT,..`. It is null if none of them is there yet. (The library would try
-// on by itself, natsOptions_SetRetryOnFailedConnect; but in libnats 3.4.1 it may give up for good then, if a server
-// closes a connection as soon as it has accepted it.)
-static inline natsConnection *connect_to_bus(char **words)
+// What the library says of the last call of this thread that failed.
+static inline const char *nats_cause(natsStatus status)
 {
-    char text[1024] = "";
-    const char *servers[16], *given = word_after(words, "--servers", "nats://127.0.0.1:4222");
+    natsStatus last;
+    const char *text = nats_GetLastError(&last);
+    return text && *text ? text : natsStatus_GetText(status);
+}
+
+// The first line of a file of secrets.
+static inline const char *secret_of(const char *word)
+{
+    static char secrets[2][1024];
+    static size_t next;
+    char *secret = secrets[next++ % 2];
+    FILE *from = fopen(text_of(word), "r");
+    if (!from)
+        die(text_of(word), strerror(errno));
+    if (!fgets(secret, sizeof secrets[0], from))
+        die(text_of(word), "it has no line");
+    (void)fclose(from);
+    secret[strcspn(secret, "\r\n")] = 0;
+    return secret;
+}
+
+static inline void on_fault(natsConnection *connection, natsSubscription *of, natsStatus status, void *closure)
+{
+    (void)connection;
+    (void)of;
+    (void)closure;
+    report(BUS, nats_cause(status));
+}
+
+static inline void on_disconnect(natsConnection *connection, void *closure)
+{
+    const char *text = NULL;
+    (void)closure;
+    (void)natsConnection_GetLastError(connection, &text);
+    if (!is_stopped)
+        report(BUS " is left", text && *text ? text : "the connection is cut");
+}
+
+static inline void set_secrets(natsOptions *options)
+{
+    if (is_given("user"))
+        must_nats(natsOptions_SetUserInfo(options, text_of("user"), secret_of("password-file")), "--user");
+    if (is_given("token-file"))
+        must_nats(natsOptions_SetToken(options, secret_of("token-file")), "--token-file");
+    if (is_given("creds"))
+        must_nats(natsOptions_SetUserCredentialsFromFiles(options, text_of("creds"), NULL), "--creds");
+    if (is_given("nkey"))
+        must_nats(natsOptions_SetNKeyFromSeed(options, text_of("nkey"), text_of("seed-file")), "--nkey");
+    if (!(is_given("tls") || is_given("ca") || is_given("cert")))
+        return;
+    must_nats(natsOptions_SetSecure(options, true), "--tls");
+    if (is_given("ca"))
+        must_nats(natsOptions_LoadCATrustedCertificates(options, text_of("ca")), text_of("ca"));
+    if (is_given("cert"))
+        must_nats(natsOptions_LoadCertificatesChain(options, text_of("cert"), text_of("key")), text_of("cert"));
+    if (is_given("host-name"))
+        must_nats(natsOptions_SetExpectedHostname(options, text_of("host-name")), "--host-name");
+}
+
+// Words that belong together are there together.
+static inline void check_bus_words(void)
+{
+    static const char *const pairs[][2] = {{"user", "password-file"}, {"nkey", "seed-file"}, {"cert", "key"}};
+    for (size_t k = 0; k < sizeof pairs / sizeof *pairs; k++)
+        if (is_given(pairs[k][0]) != is_given(pairs[k][1]))
+            refuse_words(pairs[k][is_given(pairs[k][0])], "it is wanted with the word that is given");
+}
+
+static inline natsOptions *bus_options(void)
+{
+    enum { MOST_SERVERS = 16 };
+    char text[4096];
+    const char *servers[MOST_SERVERS], *given = text_of("servers");
     int count = 0;
-    for (char *at = strtok(strncpy(text, given, sizeof text - 1), ","); at && count < 16; at = strtok(NULL, ","))
-        servers[count++] = at;
     natsOptions *options;
-    natsConnection *connection = NULL;
+    if (snprintf(text, sizeof text, "%s", given) >= (int)sizeof text)
+        refuse_words("--servers", "it is too long");
+    for (char *left, *at = strtok_r(text, ",", &left); at; at = strtok_r(NULL, ",", &left)) {
+        if (count == MOST_SERVERS)
+            refuse_words("--servers", "there are more than 16");
+        servers[count++] = at;
+    }
     must_nats(natsOptions_Create(&options), "natsOptions_Create");
-    must_nats(natsOptions_SetServers(options, servers, count), given);
+    natsStatus status = natsOptions_SetServers(options, servers, count);
+    if (status != NATS_OK)
+        refuse_words(given, natsStatus_GetText(status));
     natsOptions_SetMaxReconnect(options, -1);
     natsOptions_SetReconnectWait(options, 100);
     natsOptions_SetReconnectJitter(options, 50, 50);
-    // A server that says nothing for three seconds is left.
-    natsOptions_SetTimeout(options, 1000);
+    // A server that says nothing for three seconds is left; all are tried in four.
+    natsOptions_SetTimeout(options, count > 4 ? 4000 / count : 1000);
     natsOptions_SetPingInterval(options, 1000);
     natsOptions_SetMaxPingsOut(options, 2);
     natsOptions_SetWriteDeadline(options, 1000);
     natsOptions_SetIgnoreDiscoveredServers(options, true);
-    (void)natsConnection_Connect(&connection, options);
+    natsOptions_SetErrorHandler(options, on_fault, NULL);
+    natsOptions_SetDisconnectedCB(options, on_disconnect, NULL);
+    set_secrets(options);
+    return options;
+}
+
+// The connection, or null, with a report, if no server takes it yet. (The library would try on by itself,
+// natsOptions_SetRetryOnFailedConnect; but in libnats 3.4.1 it may give up for good then, if a server closes a
+// connection as soon as it has accepted it.)
+static inline natsConnection *connect_to_bus(void)
+{
+    natsOptions *options = bus_options();
+    natsConnection *connection = NULL;
+    natsStatus status = natsConnection_Connect(&connection, options);
+    if (status == NATS_INVALID_ARG)
+        refuse_words("--servers", nats_cause(status));
+    if (status != NATS_OK)
+        report(text_of("servers"), nats_cause(status));
     natsOptions_Destroy(options);
     return connection;
 }
 
+static inline jsCtx *jetstream(natsConnection *connection, jsPubAckHandler on_answer)
+{
+    jsOptions options;
+    jsCtx *js;
+    jsOptions_Init(&options);
+    options.Wait = 2000;
+    options.PublishAsync.AckHandler = on_answer;
+    must_nats(natsConnection_JetStream(&js, connection, &options), "natsConnection_JetStream");
+    return js;
+}
+
 static inline bool is_connected(natsConnection *connection)
 {
-    if (natsConnection_IsClosed(connection))
-        die("the bus", "the connection is closed for good");
+    if (natsConnection_IsClosed(connection)) {
+        const char *text = NULL;
+        (void)natsConnection_GetLastError(connection, &text);
+        die("NATS closed the connection for good", text && *text ? text : "it doesn't say why");
+    }
     return natsConnection_Status(connection) == NATS_CONN_STATUS_CONNECTED;
 }
 #endif

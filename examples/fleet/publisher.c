@@ -1,144 +1,85 @@
-// A host of the fleet on NATS JetStream: it takes the pages of its rings, packs them, and publishes each until the bus
-// has acknowledged it. It has `--window` on the way at most: if the bus is slow or away, it takes no page meanwhile,
-// and the rings overwrite their oldest pages and count what is lost. README.md here says how to compile it.
+// A host of the fleet: it sends pieces over a bus, each until the bus has acknowledged it. It has `--window` on the way
+// at most: if the bus is slow or away, it reads no page meanwhile, and the rings overwrite their oldest pages and count
+// what is lost. README.md here says how to compile it, for NATS JetStream or, with -DKAFKA, for the Kafka protocol.
 //
-//     publisher [--servers nats://HOST:PORT,..] [--copies N] [--host N] [--incarnation N] [--cpus N] [--pages N]
-//         [--size BYTES] [--rate EVENTS_A_SECOND] [--seconds N] [--window N] [--patience SECONDS] [--ledger FILE]
+//     publisher --region FILE ..    sends the pages of other processes' regions, and recorders' files, as they close
+//     publisher --kernel FOLDER     sends those of a kernel's trace_pipe_raw; the folder is of tracefs, or one instance
+//     publisher --rings             sends rings of its own, into which it writes events: a program to be copied
 //
-// After `--seconds`, or SIGTERM, it sends what is left and the mark of each CPU's end. The status is 3 if the bus
-// didn't acknowledge all of it in `--patience` seconds.
+// `publisher --help` has all words. It ends by a signal (SIGTERM, SIGINT), once what is left is sent, or when its
+// source has come to its end. The status is 3 if the bus didn't acknowledge all of it in `--patience` seconds.
+#ifdef KAFKA
+#include "kafka_sender.h"
+#else
+#include "nats_sender.h"
+#endif
 #include "host.h"
-#include "nats_bus.h"
+#include "kernel_source.h"
+#include "metrics_port.h"
+#include "region_source.h"
 
-static struct host host;
-static struct piece piece;
-static natsConnection *connection;
-static jsCtx *js;
-static uint64_t sent, resent, sent_bytes;
+static struct word words[] = {
+    {"region", TEXT, NULL, "a region's or a recorder's file; it may be given many times", NULL, 0},
+    {"kernel", TEXT, NULL, "a folder of tracefs, with per_cpu/cpuN/trace_pipe_raw", NULL, 0},
+    {"rings", FLAG, NULL, "rings of this process", NULL, 0},
+    {"window", NUMBER, "256", "pieces that are on the way at most", NULL, 0},
+    {"patience", NUMBER, "60", "seconds to wait at the end", NULL, 0},
+    STREAM_WORDS, STATE_WORDS, REGION_WORDS, KERNEL_WORDS, HOST_WORDS, BUS_WORDS, REPORT_WORDS,
+    {NULL, TEXT, NULL, NULL, NULL, 0},
+};
 
-// The pieces that are on the way, and of these the ones that are to be published again. (The library's thread gives
-// them to `on_answer`.)
-static atomic_uint on_the_way;
-static pthread_mutex_t lock = PTHREAD_MUTEX_INITIALIZER;
-static natsMsg **refused;
-static size_t refused_count;
-
-static void put_back(natsMsg *message)
+static struct source chosen_source(void)
 {
-    pthread_mutex_lock(&lock);
-    refused[refused_count++] = message;
-    pthread_mutex_unlock(&lock);
+    if (is_given("region") + is_given("kernel") + is_given("rings") != 1)
+        refuse_words("--region, --kernel, --rings", "one of them, and no more, says what is sent");
+    return is_given("region") ? region_source() : is_given("kernel") ? kernel_source() : host_source();
 }
 
-// An acknowledgment, a refusal, or neither in time.
-static void on_answer(jsCtx *of, natsMsg *message, jsPubAck *ack, jsPubAckErr *fault, void *closure)
+// Sends what there is: one piece. False: there is nothing to do for now.
+static bool send_next(const struct source *source, uint64_t window)
 {
-    (void)of;
-    (void)fault;
-    (void)closure;
-    if (!ack) {
-        put_back(message);
-        return;
-    }
-    note_acknowledged(&host, natsMsg_GetData(message));
-    natsMsg_Destroy(message);
-    on_the_way--;
-}
-
-static bool publish(natsMsg *message)
-{
-    jsPubOptions options;
-    jsPubOptions_Init(&options);
-    options.MaxWait = 2000;
-    if (js_PublishMsgAsync(js, &message, &options) == NATS_OK)
+    static struct piece piece;
+    static bool is_held; // the bus didn't take the piece, and it is the next one again
+    if (send_again())
         return true;
-    put_back(message);
-    return false;
-}
-
-// Publishes one of those that are to be published again: each tenth of a second all that are there then.
-static bool publish_again(void)
-{
-    static size_t due;
-    static double next;
-    pthread_mutex_lock(&lock);
-    if (!due && seconds_now() > next) {
-        due = refused_count;
-        next = seconds_now() + 0.1;
-    }
-    natsMsg *message = due ? refused[--refused_count] : NULL;
-    pthread_mutex_unlock(&lock);
-    due -= message != NULL;
-    resent += message != NULL;
-    return message && publish(message);
-}
-
-static bool publish_next(unsigned window)
-{
-    char subject[64];
-    natsMsg *message;
-    if (on_the_way >= window || !next_piece(&host, &piece))
+    if (metrics[ON_THE_WAY].value >= window || !(is_held || source->next(&piece)))
         return false;
-    (void)snprintf(subject, sizeof subject, "trace.%016" PRIx64 ".%" PRIu32, host.stream, piece.cpu);
-    must_nats(natsMsg_Create(&message, subject, NULL, (char *)piece.bytes, (int)piece.len), "natsMsg_Create");
-    on_the_way++;
-    sent++;
-    sent_bytes += piece.len;
-    return publish(message);
-}
-
-// Connects, and makes the bus's stream, which has the subjects of all hosts, if no other host did. False: not yet.
-static bool reach_bus(char **words)
-{
-    const char *subjects[] = {"trace.>"};
-    jsOptions options;
-    jsStreamConfig config;
-    jsErrCode fault = 0;
-    if (!connection) {
-        if (!(connection = connect_to_bus(words)))
-            return false;
-        jsOptions_Init(&options);
-        options.Wait = 2000;
-        options.PublishAsync.AckHandler = on_answer;
-        must_nats(natsConnection_JetStream(&js, connection, &options), "natsConnection_JetStream");
-    }
-    jsStreamConfig_Init(&config);
-    config.Name = "TRACE";
-    config.Subjects = subjects;
-    config.SubjectsLen = 1;
-    config.Replicas = (int64_t)number_after(words, "--copies", 1);
-    config.MaxAge = INT64_C(3600) * 1000000000; // an hour
-    // (Whoever made it may have wanted other copies.)
-    return js_AddStream(NULL, js, &config, NULL, &fault) == NATS_OK || fault == JSStreamNameExistErr;
+    is_held = !send_piece(&piece);
+    if (is_held)
+        return false;
+    count(PIECES, 1);
+    count(SENT_BYTES, piece.len);
+    return true;
 }
 
 int main(int argc, char **argv)
 {
-    unsigned window = (unsigned)number_after(argv, "--window", 256);
-    double patience = (double)number_after(argv, "--patience", 60), until = 0;
-    bool is_there = false;
-    (void)argc;
+    read_words(words, argc, argv, "publisher: sends the pages of rings over " BUS);
+    check_bus_words();
+    uint64_t window = number_of("window");
+    double until = 0;
     stop_at_signals();
-    if (!(refused = calloc(window, sizeof *refused)))
-        die("calloc", strerror(errno));
-    start_host(&host, argv); // it records from here on, whether the bus is there or not
-    while (host.ended < host.cpus || on_the_way) {
-        if (!is_there && !(is_there = reach_bus(argv)))
-            wait_milliseconds(100);
-        else if (!is_connected(connection) || !(publish_again() || publish_next(window)))
+    open_metrics_port(metrics);
+    struct source source = chosen_source(); // rings record from here on, whether the bus is there or not
+    open_bus(window, source.acknowledged);
+    while (!source.is_done() || metrics[ON_THE_WAY].value) {
+        if (!is_bus_there() || !send_next(&source, window))
             wait_milliseconds(1);
-        if (host.is_written && until <= 0)
-            until = seconds_now() + patience;
+        if (are_metrics_due())
+            write_metrics(metrics);
+        if (is_stopped && until <= 0)
+            until = seconds_now() + (double)number_of("patience");
         if (until > 0 && seconds_now() > until)
             break;
     }
-    bool is_sent = host.ended == host.cpus && !on_the_way;
-    printf("sent %" PRIu64 " again %" PRIu64 " bytes %" PRIu64 " writing %.3f\n", sent, resent, sent_bytes,
-        host.writing);
+    bool is_sent = source.is_done() && !metrics[ON_THE_WAY].value && !metrics[LOST].value;
+    printf("sent %" PRIu64 " again %" PRIu64 " bytes %" PRIu64 "\n", (uint64_t)metrics[PIECES].value,
+        (uint64_t)metrics[RESENT].value, (uint64_t)metrics[SENT_BYTES].value);
+    source.end();
+    write_metrics(metrics);
     if (!is_sent)
         fprintf(stderr, "the bus didn't acknowledge all in time\n");
-    jsCtx_Destroy(js);
-    natsConnection_Destroy(connection);
-    nats_Close();
-    return is_sent ? 0 : 3;
+    close_bus();
+    (void)fflush(NULL);
+    _Exit(is_sent ? 0 : 3); // (librdkafka's threads, and the library of NATS, may still be at work)
 }

@@ -55,6 +55,7 @@ SECOND = parcel(ONE, 0, 2, 4, 2, (140, b"\0\0\0\5\1\2\3\4"), (140, b"\0\0\0\6"))
 END = end(ONE, 0, 8)
 # Of stream TWO: CPU 255 forgot what is below 1000, and 998 was given up; 1001 comes late, and 1003 and 1004 never.
 SNAPSHOT = forgotten(TWO, 255, 1000) + undelivered(TWO, 255, 998, 999)
+BELOW = parcel(TWO, 255, 7, 990, 0, (10, b"\0\0\0\0"))
 LATE = parcel(TWO, 255, 9, 1001, 0, (140, b"\0\0\0\7"))
 THIRD = parcel(TWO, 255, 8, 1000, 0, (90, b"\0\0\0\x08"))
 LOST = undelivered(TWO, 255, 1003, 1005)
@@ -65,7 +66,9 @@ FILES = {
     "two.log": SNAPSHOT + THIRD + LATE + LOST + LAST,
     # What came twice: nothing of it is new but the second parcel, and what is below a bound.
     "again.log": FIRST + SECOND + FIRST + THIRD,
-    "below.log": SNAPSHOT + parcel(TWO, 255, 7, 990, 0, (10, b"\0\0\0\0")) + THIRD,
+    "below.log": SNAPSHOT + BELOW + THIRD,
+    # A mark alone, and parcels that it hides: all of one, and a part of another.
+    "mark.log": forgotten(ONE, 0, 5),
     "empty.log": b"",
     # Contradictions.
     "clash.log": FIRST + parcel(ONE, 0, 1, 1, 0, (130, b"\0\0\0\3")),
@@ -86,7 +89,9 @@ FILES = {
     "loose.log": sealed(0, ONE, struct.pack("<4Q", 0, 0, 0, 0) + image([(1, b"\0\0\0\0")], 0) + b"\0"),
     # What `--keep` writes of one.log and again.log, and of below.log.
     "kept.log": FIRST + SECOND + END + THIRD,
-    "kept_below.log": SNAPSHOT + THIRD,
+    "kept_below.log": SNAPSHOT + BELOW + THIRD,
+    # What it writes of mark.log and one.log.
+    "kept_hidden.log": forgotten(ONE, 0, 5) + FIRST + SECOND + END,
 }
 
 if __name__ == "__main__":

@@ -1,162 +1,9 @@
-// The checks of the flight recorder: `flight_checks FOLDER [CASE..]`. Each case runs in a process of its own, which
-// counts its events in memory that outlives it, dumps to the folder, and mostly dies; its parent reads the dump with a
-// strict reader, and compares.
+// The checks of the flight recorder: `flight_checks FOLDER SCALE [CASE..]`.
 #define _GNU_SOURCE
-#include "tracering_flight.h"
+#include "flight_cases.h"
 
-#include "flight_reader.h"
-
-#include <errno.h>
-#include <pthread.h>
 #include <semaphore.h>
-#include <signal.h>
-#include <sys/mman.h>
-#include <sys/prctl.h>
 #include <sys/resource.h>
-#include <sys/stat.h>
-#include <sys/wait.h>
-#include <time.h>
-#include <unistd.h>
-
-enum { MOST_THREADS = 16 };
-
-// What a case counts, and reports to its parent.
-static struct truth {
-    uint64_t counted[MOST_THREADS]; // how many events each thread made
-    uint64_t at_crash[MOST_THREADS];
-    uint64_t ready;
-    uint64_t number, other;
-} *truth;
-
-static char path[200], second_path[200];
-static uint64_t scale = 1; // by how much less is done where all is slow
-
-static void count(uint64_t *number)
-{
-    (void)__atomic_fetch_add(number, 1, __ATOMIC_SEQ_CST);
-}
-
-static uint64_t seen(const uint64_t *number)
-{
-    return __atomic_load_n(number, __ATOMIC_SEQ_CST);
-}
-
-static void nap(long us)
-{
-    struct timespec time = {us / 1000000, us % 1000000 * 1000};
-    while (nanosleep(&time, &time) && errno == EINTR)
-        continue;
-}
-
-static void idle(void)
-{
-    for (;;)
-        nap(1000000);
-}
-
-static void wait_for(const uint64_t *number, uint64_t most)
-{
-    while (seen(number) < most)
-        nap(100);
-}
-
-// Waits longer than usual, since a machine that is busy with other things lets a thread answer late.
-static const struct flight_config patient = {.wait_ms = 5000};
-
-static void start(const struct flight_config *config)
-{
-    want(!flight_start(config), "no start", 0);
-}
-
-static pthread_t thread(void *(*body)(void *), uint64_t which)
-{
-    pthread_t made;
-    want(!pthread_create(&made, NULL, body, (void *)(uintptr_t)which), "no thread", which);
-    return made;
-}
-
-// One that nobody waits for.
-static void let_go(void *(*body)(void *), uint64_t which)
-{
-    want(!pthread_detach(thread(body, which)), "no thread", which);
-}
-
-// Runs this in a process of its own, and answers how that ended.
-static int run(void (*body)(uint64_t), uint64_t which)
-{
-    int status;
-    memset(truth, 0, sizeof *truth);
-    (void)unlink(path);
-    (void)unlink(second_path);
-    fflush(NULL);
-    pid_t child = fork();
-    want(child >= 0, "no process", 0);
-    if (!child) {
-        (void)prctl(PR_SET_PDEATHSIG, SIGKILL); // so that one that hangs doesn't outlive the checks
-        body(which);
-        _exit(0);
-    }
-    want(waitpid(child, &status, 0) == child, "no end", 0);
-    return status;
-}
-
-static void run_well(void (*body)(uint64_t), uint64_t which)
-{
-    int status = run(body, which);
-    want(WIFEXITED(status) && WEXITSTATUS(status) == 0, "a case doesn't end well", (uint64_t)status);
-}
-
-static uint64_t sum(const uint64_t *numbers, size_t count_of)
-{
-    uint64_t all = 0;
-    for (size_t each = 0; each < count_of; each++)
-        all += numbers[each];
-    return all;
-}
-
-// The ring of this level that a thread of this name had last.
-static const struct read_ring *ring_named(const struct read_dump *dump, const char *name, uint32_t level)
-{
-    for (int each = 0; each < RINGS; each++) {
-        const struct read_ring *ring = &dump->rings[each];
-        if (ring->is_there && ring->level == level && !strcmp(ring->lease[ring->leases - 1].name, name))
-            return ring;
-    }
-    bad("no ring of this name", level);
-    return NULL;
-}
-
-static const struct read_ring *ring_of_worker(const struct read_dump *dump, uint64_t which)
-{
-    char name[32];
-    snprintf(name, sizeof name, "worker-%llu", (unsigned long long)which);
-    return ring_named(dump, name, 0);
-}
-
-static void name_worker(uint64_t which)
-{
-    char name[32];
-    snprintf(name, sizeof name, "worker-%llu", (unsigned long long)which);
-    want(!flight_name(name), "no name", which);
-}
-
-static void record(uint64_t which)
-{
-    TRACE("worker %u event %lu", (unsigned)which, (unsigned long)truth->counted[which]);
-    count(&truth->counted[which]);
-}
-
-// A ring whose events `record` made, each: its records have their own numbers, and all is accounted.
-static void check_worker(const struct read_dump *dump, const struct read_ring *ring, uint64_t which)
-{
-    for (size_t each = 0; each < ring->count; each++) {
-        const struct read_record *at = &ring->records[each];
-        want(argument_number(dump, at, 0) == which, "an event of another thread", which);
-        want(argument_number(dump, at, 1) == at->number, "an event of another number", at->number);
-        want(!strcmp(site_of(dump, at)->format, "worker %u event %lu"), "another format", which);
-    }
-    want(sum(ring->refused, 6) == 0, "an event is refused", which);
-}
 
 // ---- Four threads, and a crash by each signal. All but the one that crashes are idle by then.
 
@@ -194,7 +41,7 @@ static void *work_and_crash(void *given)
 static void crash_body(uint64_t signal)
 {
     crash_signal = (int)signal;
-    start(&patient);
+    start(NULL);
     want(!flight_dump_on_crash(path), "no handlers", 0);
     for (uint64_t which = 0; which < 4; which++)
         let_go(work_and_crash, which);
@@ -212,7 +59,7 @@ static void crashes(void)
         for (uint64_t which = 0; which < 4; which++) {
             const struct read_ring *ring = ring_of_worker(dump, which);
             check_worker(dump, ring, which);
-            want(ring->tail == 0 && !ring->lacking && ring->missed, "a tail isn't read", which);
+            want(overwritten(ring), "no event is overwritten", which);
             want(ring->written == EVENTS && truth->counted[which] == EVENTS, "an event isn't counted", which);
         }
         free_dump(dump);
@@ -232,7 +79,7 @@ static void *work_for_ever(void *given)
 
 static void busy_body(uint64_t signal)
 {
-    start(&patient);
+    start(NULL);
     want(!flight_dump_on_crash(path), "no handlers", 0);
     for (uint64_t which = 0; which < 3; which++)
         let_go(work_for_ever, which);
@@ -254,7 +101,6 @@ static void busy(void)
             check_worker(dump, ring, which);
             want(ring->written >= truth->at_crash[which], "events before the crash", ring->written);
             want(ring->written <= truth->counted[which] + 1, "events that weren't", ring->written);
-            want(ring->tail == 0, "a thread isn't found amid no call", ring->tail);
         }
         free_dump(dump);
     }
@@ -278,7 +124,7 @@ static void *hit_together(void *given)
 static void together_body(uint64_t unused)
 {
     (void)unused;
-    start(&patient);
+    start(NULL);
     want(!flight_dump_on_crash(path), "no handlers", 0);
     for (uint64_t which = 0; which < 4; which++)
         let_go(hit_together, which);
@@ -325,7 +171,7 @@ static void beside_body(uint64_t unused)
     (void)unused;
     let_die(SIGSEGV);
     want(signal(SIGSEGV, let_die) != SIG_ERR, "no handler", 0);
-    start(&patient);
+    start(NULL);
     want(!flight_dump_on_crash(path), "no handlers", 0);
     for (uint64_t which = 0; which < 8; which++)
         let_go(hit_beside, which);
@@ -400,7 +246,7 @@ static void cancelled_body(uint64_t unused)
 {
     void *end;
     (void)unused;
-    start(&patient);
+    start(NULL);
     want(!pthread_join(thread(dump_and_end, 0), &end) && end == PTHREAD_CANCELED && truth->ready == 1, "no end", 0);
     want(!flight_dump(second_path) && !flight_stop(), "no dump afterwards", 0);
 }
@@ -454,9 +300,15 @@ static void replaced(void)
 int __real_rename(const char *from, const char *to);
 int __wrap_rename(const char *from, const char *to);
 static bool is_busy;
+static _Thread_local bool is_held_in_dump;
 
 int __wrap_rename(const char *from, const char *to)
 {
+    if (is_held_in_dump) {
+        is_held_in_dump = false;
+        count(&truth->ready);
+        wait_for(&truth->other, 1);
+    }
     if (!is_busy)
         return __real_rename(from, to);
     is_busy = false;
@@ -531,7 +383,7 @@ static void moved(void)
     free_dump(dump);
 }
 
-// ---- Idle threads: each record is there. One blocks the signal, and one has ended.
+// ---- Idle threads: each record is there. One has ended.
 
 static void *work_a_little(void *given)
 {
@@ -548,7 +400,7 @@ static void *work_a_little(void *given)
 static void idle_body(uint64_t unused)
 {
     (void)unused;
-    start(&patient);
+    start(NULL);
     for (uint64_t which = 0; which < 8; which++)
         let_go(work_a_little, which);
     wait_for(&truth->ready, 8);
@@ -562,7 +414,7 @@ static void idle_threads(void)
     for (uint64_t which = 0; which < 8; which++) {
         const struct read_ring *ring = ring_of_worker(dump, which);
         check_worker(dump, ring, which);
-        want(ring->count == 3 + which && ring->tail == 0, "an idle thread's events", ring->count);
+        want(ring->count == 3 + which, "an idle thread's events", ring->count);
     }
     free_dump(dump);
 }
@@ -600,7 +452,7 @@ static void used_up_body(uint64_t size)
     pthread_attr_t attributes;
     pthread_t made;
     want(!pthread_attr_init(&attributes) && !pthread_attr_setstacksize(&attributes, 1 << 17), "no attributes", 0);
-    start(&patient);
+    start(NULL);
     let_go(work_a_little, 3);
     wait_for(&truth->ready, 1);
     want(!pthread_create(&made, &attributes, use_up_stack, (void *)(uintptr_t)size), "no thread", 0);
@@ -623,97 +475,90 @@ static void used_up(void)
     }
 }
 
-// ---- A thread that blocks the signal: what its tail has is lacking, until it no more blocks it.
+// ---- Threads that block all signals: a dump has their events at once. No thread's call is interrupted.
 
+enum { BLOCKING = 50 };
 static sem_t go_on;
 
 static void *block_and_work(void *given)
 {
-    sigset_t blocked, before;
+    sigset_t blocked;
     uint64_t which = (uintptr_t)given;
     sigfillset(&blocked);
-    want(!pthread_sigmask(SIG_SETMASK, &blocked, &before), "no mask", 0);
+    want(!pthread_sigmask(SIG_SETMASK, &blocked, NULL), "no mask", 0);
     name_worker(which);
-    for (int each = 0; each < 1000; each++)
-        record(which);
+    for (uint64_t each = 0; each < 100; each++)
+        TRACE("blocking %u event %u", (unsigned)which, (unsigned)each);
     count(&truth->ready);
     while (sem_wait(&go_on))
         continue;
-    want(!pthread_sigmask(SIG_SETMASK, &before, NULL), "no mask", 0);
+    return NULL;
+}
+
+static void *nap_long(void *unused)
+{
+    struct timespec time = {1, 0};
+    (void)unused;
+    TRACE("a thread that %s", "naps");
     count(&truth->ready);
-    idle();
+    want(!nanosleep(&time, NULL), "a call is interrupted", (uint64_t)errno);
     return NULL;
 }
 
 static void blocked_body(uint64_t unused)
 {
     (void)unused;
-    struct flight_config config = {.wait_ms = 400, .pages = 4, .size = 1024};
+    struct flight_config config = {.threads = BLOCKING + 2};
     start(&config);
     want(!sem_init(&go_on, 0, 0), "no semaphore", 0);
-    let_go(block_and_work, 1);
-    wait_for(&truth->ready, 1);
-    want(!flight_dump(path), "no dump", 0);
-    want(!sem_post(&go_on), "no post", 0);
-    wait_for(&truth->ready, 2);
-    want(!flight_dump(second_path), "no dump", 0);
+    pthread_t naps = thread(nap_long, 0);
+    for (uint64_t which = 0; which < BLOCKING; which++)
+        let_go(block_and_work, which);
+    wait_for(&truth->ready, BLOCKING + 1);
+    for (int each = 0; each < 20; each++)
+        want(!flight_dump(path), "no dump", 0);
+    want(!pthread_join(naps, NULL), "no end", 0);
 }
 
 static void blocked(void)
 {
     run_well(blocked_body, 0);
-    struct read_dump *dump = open_dump(path), *later = open_dump(second_path);
-    const struct read_ring *ring = ring_of_worker(dump, 1), *whole = ring_of_worker(later, 1);
-    check_worker(dump, ring, 1);
-    check_worker(later, whole, 1);
-    want(ring->tail == 4 && ring->written == 1000, "the tail of a thread that blocks the signal", ring->tail);
-    want(ring->lacking == 1000 - ring->next && ring->lacking && ring->count, "what is lacking", ring->lacking);
-    want(whole->tail == 0 && !whole->lacking && whole->count == ring->count + ring->lacking, "all", whole->count);
+    struct read_dump *dump = open_dump(path);
+    for (uint64_t which = 0; which < BLOCKING; which++)
+        want(ring_of_worker(dump, which)->count == 100, "events of a thread that blocks signals", which);
     free_dump(dump);
-    free_dump(later);
 }
 
-// ---- Of all dumps one signal is left at a thread that blocks it.
+// ---- A thread is hit anywhere, also where it turns a page: its newest events are there.
 
-static uint64_t queued_signals(void)
+static void hit_body(uint64_t round)
 {
-    char line[200];
-    unsigned long long queued = 0;
-    FILE *file = fopen("/proc/self/status", "r");
-    while (file && fgets(line, sizeof line, file) && sscanf(line, "SigQ: %llu/", &queued) != 1)
-        continue;
-    want(file && !fclose(file), "no status", 0);
-    return queued;
-}
-
-static void queued_body(uint64_t unused)
-{
-    (void)unused;
-    struct flight_config config = {.wait_ms = 10};
+    struct flight_config config = {.pages = 2, .size = 256};
+    struct sigevent event = {.sigev_notify = SIGEV_SIGNAL, .sigev_signo = SIGTERM};
+    struct itimerspec once = {{0, 0}, {0, 20000 + (long)round * 1310 % 60000}};
+    timer_t hit;
     start(&config);
-    want(!sem_init(&go_on, 0, 0), "no semaphore", 0);
-    let_go(block_and_work, 1);
-    wait_for(&truth->ready, 1);
-    uint64_t before = queued_signals();
-    for (int each = 0; each < 50; each++)
-        want(!flight_dump(path), "no dump", 0);
-    uint64_t after = queued_signals();
-    want(after <= before + 20, "queued signals", after - before); // (other processes have some too)
-    want(!sem_post(&go_on), "no post", 0);
-    wait_for(&truth->ready, 2);
-    uint32_t tail = 4;
-    for (int tries = 0; tail && tries < 200; tries++) { // (a machine may be busy for longer than a dump waits)
-        want(!flight_dump(path), "no dump", 0);
+    want(!flight_dump_on_crash(path), "no handlers", 0);
+    name_worker(0);
+    for (int each = 0; each < 100; each++)
+        record(0);
+    want(!timer_create(CLOCK_MONOTONIC, &event, &hit) && !timer_settime(hit, 0, &once, NULL), "no timer", 0);
+    for (;;)
+        record(0);
+}
+
+static void hit_anywhere(void)
+{
+    for (uint64_t round = 0; round < 300 / scale; round++) {
+        int status = run(hit_body, round);
+        want(WIFSIGNALED(status) && WTERMSIG(status) == SIGTERM, "another end", (uint64_t)status);
         struct read_dump *dump = open_dump(path);
-        tail = ring_of_worker(dump, 1)->tail;
+        const struct read_ring *ring = ring_of_worker(dump, 0);
+        check_worker(dump, ring, 0);
+        want(ring->count >= 3, "newest events", ring->count);
+        want(ring->written == truth->counted[0] || ring->written == truth->counted[0] + 1, "events", ring->written);
         free_dump(dump);
     }
-    want(!tail, "a tail isn't read", tail);
-}
-
-static void queued(void)
-{
-    run_well(queued_body, 0);
 }
 
 // ---- Threads that end: a slot's leases, by name.
@@ -744,7 +589,7 @@ static void ended(void)
     struct read_dump *dump = open_dump(path);
     const struct read_ring *ring = &dump->rings[0];
     want(ring->is_there && ring->leases == 8 && !dump->without_ring, "the leases", ring->leases);
-    want(ring->count == 11 * 10 + 55 && ring->tail == 0, "the events of threads that ended", ring->count);
+    want(ring->count == 11 * 10 + 55, "the events of threads that ended", ring->count);
     for (uint32_t each = 0; each < 8; each++) {
         uint64_t which = 3 + each, first = ring->lease[each].first;
         char name[32];
@@ -847,7 +692,7 @@ static void handlers(void)
             written += ring->written;
             refused += sum(ring->refused, 6);
             amid += level ? ring->written : 0;
-            want(sum(ring->refused + 1, 5) == 0 && ring->tail <= 1, "another refusal", level);
+            want(sum(ring->refused + 1, 5) == 0, "another refusal", level);
         }
         want(written + refused == truth->counted[0] + truth->other, "an event isn't counted", written);
         want(levels == 1 || !refused, "an event is refused", refused);
@@ -881,12 +726,12 @@ static void first_events(void)
     run_well(first_body, 400 / scale);
 }
 
-// ---- Two dumps, one after the other, with what is kept between them.
+// ---- Two dumps, one after the other: the second one has what the first had, as far as the rings have it.
 
-static void two_dumps_body(uint64_t keep)
+static void two_dumps_body(uint64_t unused)
 {
-    struct flight_config config = {.threads = 3, .levels = 1, .pages = 4, .size = 256, .keep = (uint32_t)keep,
-        .wait_ms = 5000};
+    struct flight_config config = {.threads = 3, .levels = 1, .pages = 4, .size = 256};
+    (void)unused;
     start(&config);
     name_worker(0);
     for (int each = 0; each < 40; each++)
@@ -894,53 +739,40 @@ static void two_dumps_body(uint64_t keep)
     let_go(work_a_little, 4);
     wait_for(&truth->ready, 1);
     want(!flight_dump(path), "no dump", 0);
-    for (int each = 0; each < 30; each++)
+    for (int each = 0; each < 5; each++)
         record(0);
     want(!flight_dump(second_path), "no dump", 0);
 }
 
-// Each record of the first dump is in the second, or was dropped since; one of the page that was written may have been
-// overwritten.
-static void check_dropped(const struct read_ring *first, const struct read_ring *second)
+// Each record that both have is the same one in both.
+static void check_same(const struct read_ring *first, const struct read_ring *second)
 {
-    uint64_t dropped = 0, taken = first->tail == 0 ? first->last_page : first->next;
-    size_t at = 0;
     for (size_t each = 0; each < first->count; each++) {
         const struct read_record *before = &first->records[each], *after;
-        while (at < second->count && second->records[at].number < before->number)
-            at++;
-        after = &second->records[at];
-        if (at < second->count && after->number == before->number) {
-            want(after->moment == before->moment && after->len == before->len
-                    && !memcmp(after->payload, before->payload, after->len),
-                "a record is another one in the second dump", before->number);
+        if (before->number < second->first || !second->count)
             continue;
-        }
-        if (before->number < taken) {
-            want(at == 0, "a record of a page that is kept isn't there", before->number);
-            dropped++;
-        }
+        after = &second->records[before->number - second->first];
+        want(after->number == before->number && after->moment == before->moment && after->len == before->len
+                && !memcmp(after->payload, before->payload, after->len),
+            "a record is another one in the second dump", before->number);
     }
-    want(first->dropped + dropped == second->dropped, "dropped records", second->dropped);
 }
 
 static void two_dumps(void)
 {
-    static const uint32_t keeps[] = {0, 1, 2, 3, FLIGHT_KEEP_NONE};
-    for (int at = 0; at < 5; at++) {
-        run_well(two_dumps_body, keeps[at]);
-        struct read_dump *dump = open_dump(path), *later = open_dump(second_path);
-        for (uint64_t which = 0; which <= 4; which += 4) {
-            check_worker(dump, ring_of_worker(dump, which), which);
-            check_worker(later, ring_of_worker(later, which), which);
-            check_dropped(ring_of_worker(dump, which), ring_of_worker(later, which));
-        }
-        const struct read_ring *ring = ring_of_worker(later, 0);
-        want(ring->written == 70 && ring->tail == 0, "the second dump", ring->written);
-        want((ring->dropped == 0) == (keeps[at] == 0 || keeps[at] == 3), "what is kept", ring->dropped);
-        free_dump(dump);
-        free_dump(later);
+    run_well(two_dumps_body, 0);
+    struct read_dump *dump = open_dump(path), *later = open_dump(second_path);
+    for (uint64_t which = 0; which <= 4; which += 4) {
+        check_worker(dump, ring_of_worker(dump, which), which);
+        check_worker(later, ring_of_worker(later, which), which);
+        check_same(ring_of_worker(dump, which), ring_of_worker(later, which));
     }
+    const struct read_ring *ring = ring_of_worker(dump, 0), *of_later = ring_of_worker(later, 0);
+    want(ring->written == 40 && of_later->written == 45, "the second dump", of_later->written);
+    want(of_later->first <= ring->first + 10, "a dump takes records away", of_later->first);
+    want(ring_of_worker(later, 4)->count == 7, "an idle thread's events in both", 4);
+    free_dump(dump);
+    free_dump(later);
 }
 
 // ---- Events that are switched on and off.
@@ -997,13 +829,132 @@ static void switches(void)
     free_dump(dump);
 }
 
+// ---- Named fields and levels.
+
+static void record_levels(void)
+{
+    TRACE_ERROR("an error", "id", -1, "name", "one");
+    TRACE_WARNING("a warning");
+    TRACE_INFO("some", "a", (unsigned char)1, "b", 2l, "c", 3.5, "d", (void *)16, "e", 'x', "f", 6u, "g", "seven", "1h",
+        8ull);
+    TRACE_DEBUG("detail", "n", 5);
+    FLIGHT_TRACE_FIELDS("none", "n", 6);
+}
+
+static void levels_body(uint64_t unused)
+{
+    (void)unused;
+    start(NULL);
+    record_levels();
+    want(!flight_switch("*:* DEBUG *", false), "no switch", 0);
+    record_levels();
+    want(!flight_switch("*:* INFO *", false) && !flight_switch("*:* WARN *", false), "no switch", 0);
+    record_levels();
+    want(!flight_dump(path), "no dump", 0);
+}
+
+// The levels of the events: of a site of fields its second four bits.
+static void levels(void)
+{
+    static const uint32_t wanted[] = {1, 2, 3, 4, 0, 1, 2, 3, 0, 1, 0};
+    static const char names[] = "some\0a\0b\0c\0d\0e\0f\0g\0001h";
+    static const uint8_t kinds[] = {0x11, 8, 0x28, 0x38, 4, 0x14, 0x40, 0x18};
+    run_well(levels_body, 0);
+    struct read_dump *dump = open_dump(path);
+    const struct read_ring *ring = &dump->rings[0];
+    want(ring->count == sizeof wanted / sizeof *wanted, "other events", ring->count);
+    for (size_t at = 0; at < ring->count; at++)
+        want(site_of(dump, &ring->records[at])->style == (wanted[at] << 4 | 2), "another level", at);
+    const struct read_site *site = site_of(dump, &ring->records[2]);
+    want(!memcmp(site->format, names, sizeof names) && !memcmp(site->kinds, kinds, sizeof kinds), "the names", 0);
+    want(site->count == 8 && argument_number(dump, &ring->records[2], 7) == 8, "the values", site->count);
+    free_dump(dump);
+}
+
+// ---- Workers that are forked: each starts a recorder as its parent's, by one call, and has files of its own.
+
+static char workers_path[208], workers_file[216];
+
+static void end_worker(int which)
+{
+    char name[32];
+    snprintf(name, sizeof name, "worker-%d", which);
+    want(!flight_start_in_child() && flight_start_in_child() == EALREADY && !flight_name(name), "no start", 0);
+    for (int each = 0; each < 10 + which; each++)
+        record((uint64_t)which);
+    (void)raise(SIGSEGV);
+}
+
+static void workers_body(uint64_t has_file)
+{
+    struct flight_config config = {.threads = 3, .file = has_file ? workers_file : NULL};
+    want(flight_start_in_child() == ENODEV, "this is no child", 0);
+    start(&config);
+    want(!flight_dump_on_crash(workers_path) && flight_start_in_child() == EALREADY, "no handlers", 0);
+    config.file = path; // which isn't what it was started with
+    for (int which = 0; which < 2; which++) {
+        int status;
+        pid_t child = fork();
+        if (!child)
+            end_worker(which);
+        want(waitpid(child, &status, 0) == child && WIFSIGNALED(status) && WTERMSIG(status) == SIGSEGV, "an end", 0);
+        truth->at_crash[which] = (uint64_t)child;
+    }
+    record(2);
+    want(!flight_dump(workers_path) && !flight_stop() && flight_start_in_child() == ENODEV, "no dump", 0);
+    truth->number = (uint64_t)getpid();
+    config.file = second_path;
+    start(&config);
+    pid_t child = fork();
+    if (!child) {
+        want(flight_start_in_child() == EEXIST, "a parent's file", 0);
+        _exit(0);
+    }
+    int status;
+    want(waitpid(child, &status, 0) == child && !status && !flight_stop(), "a child", (uint64_t)status);
+}
+
+// The dump of this process, which isn't wanted any more.
+static struct read_dump *dump_of(uint64_t process)
+{
+    char own[300];
+    snprintf(own, sizeof own, "%.*s%llu", (int)strlen(workers_path) - 2, workers_path, (unsigned long long)process);
+    struct read_dump *dump = open_dump(own);
+    want(!unlink(own) && dump->process == process, "another process", process);
+    return dump;
+}
+
+static void workers(void)
+{
+    snprintf(workers_path, sizeof workers_path, "%s.%%p", path);
+    snprintf(workers_file, sizeof workers_file, "%s.file.%%p", path);
+    for (uint64_t has_file = 0; has_file < 2; has_file++) {
+        run_well(workers_body, has_file);
+        for (uint64_t which = 0; which < 2; which++) {
+            struct read_dump *dump = dump_of(truth->at_crash[which]);
+            const struct read_ring *ring = ring_of_worker(dump, which);
+            want(ring->count == 10 + which && dump->signal == SIGSEGV, "a worker's events", ring->count);
+            free_dump(dump);
+        }
+        struct read_dump *dump = dump_of(truth->number);
+        want(dump->rings[0].count == 1 && !dump->signal, "the parent's events", dump->rings[0].count);
+        free_dump(dump);
+        uint64_t processes[] = {truth->number, truth->at_crash[0], truth->at_crash[1]};
+        for (size_t at = 0; has_file && at < 3; at++) {
+            char own[300];
+            snprintf(own, sizeof own, "%s.file.%llu", path, (unsigned long long)processes[at]);
+            want(!unlink(own), "no file of a process", at);
+        }
+    }
+}
+
 // ---- A fork: the child has no recorder, and can start one.
 
 static void fork_body(uint64_t unused)
 {
     int status;
     (void)unused;
-    start(&patient);
+    start(NULL);
     name_worker(0);
     let_go(work_a_little, 1);
     wait_for(&truth->ready, 1);
@@ -1048,20 +999,15 @@ static void want_start(struct flight_config config, int answer)
     want(got || !flight_stop(), "no stop", 0);
 }
 
-static void on_own_signal(int signal)
-{
-    (void)signal;
-}
-
 static void answers_body(uint64_t unused)
 {
     char long_path[5000];
     (void)unused;
     memset(long_path, 'x', sizeof long_path - 1);
     long_path[sizeof long_path - 1] = 0;
-    want_start((struct flight_config){.threads = 257}, EINVAL);
-    want_start((struct flight_config){.threads = 129}, EINVAL);
-    want_start((struct flight_config){.threads = 128}, 0);
+    want_start((struct flight_config){.threads = 65537, .levels = 1, .pages = 2, .size = 32}, EINVAL);
+    want_start((struct flight_config){.threads = 32769, .pages = 2, .size = 32}, EINVAL);
+    want_start((struct flight_config){.threads = 257}, 0);
     want_start((struct flight_config){.levels = 5}, EINVAL);
     want_start((struct flight_config){.pages = 1}, EINVAL);
     want_start((struct flight_config){.pages = 1025}, EINVAL);
@@ -1070,12 +1016,7 @@ static void answers_body(uint64_t unused)
     want_start((struct flight_config){.size = 65524}, EINVAL);
     want_start((struct flight_config){.clock = FLIGHT_CALLER}, EINVAL);
     want_start((struct flight_config){.now = now_and_interrupted}, EINVAL);
-    want_start((struct flight_config){.signal = SIGKILL}, EINVAL);
-    want_start((struct flight_config){.signal = 1000}, EINVAL);
-    want_start((struct flight_config){.signal = SIGTERM}, EINVAL);
-    want_start((struct flight_config){.threads = 1, .levels = 4, .pages = 2, .size = 32, .keep = 1}, 0);
-    (void)signal(SIGUSR2, on_own_signal);
-    want_start((struct flight_config){.signal = SIGUSR2}, EBUSY);
+    want_start((struct flight_config){.threads = 1, .levels = 4, .pages = 2, .size = 32, .keep = 1, .signal = 9}, 0);
     want(flight_dump(path) == ENODEV && flight_stop() == ENODEV, "no recorder runs", 0);
     TRACE("nobody has %d", 1);
     start(NULL);
@@ -1100,27 +1041,26 @@ static void answers(void)
     struct read_dump *dump = open_dump(path), *later = open_dump(second_path);
     want(dump->rings[0].count == 2 && later->rings[0].count == 1, "the events of each recorder", 0);
     want(argument_number(later, &later->rings[0].records[0], 0) == 3, "the second one's event", 0);
-    want(dump->rings[0].dropped == 0, "kept after a dump to a full disk", 0);
     free_dump(dump);
     free_dump(later);
 }
 
-// ---- It stops while threads end, and while the signals of dumps arrive late.
+// ---- It stops while threads end.
 
-// (The linker has the recorder's threads call this one when they look whether a dump asks.)
+// (The linker has the recorder's threads call this one when they give their slots back.)
 struct slot;
-void __real_flight_answer(struct slot *slot);
-void __wrap_flight_answer(struct slot *slot);
+void __real_flight_hand_back(struct slot *slot);
+void __wrap_flight_hand_back(struct slot *slot);
 static _Thread_local bool is_held;
 
-void __wrap_flight_answer(struct slot *slot)
+void __wrap_flight_hand_back(struct slot *slot)
 {
-    __real_flight_answer(slot);
-    if (!is_held)
-        return;
-    is_held = false;
-    count(&truth->ready);
-    wait_for(&truth->other, 1);
+    if (is_held) {
+        is_held = false;
+        count(&truth->ready);
+        wait_for(&truth->other, 1);
+    }
+    __real_flight_hand_back(slot);
 }
 
 static void *end_slowly(void *given)
@@ -1146,7 +1086,7 @@ static void *record_once(void *given)
 
 static void stop_in_rounds(uint64_t rounds)
 {
-    struct flight_config config = {.threads = 8, .pages = 2, .wait_ms = 1};
+    struct flight_config config = {.threads = 8, .pages = 2};
     for (uint64_t round = 0; round < rounds; round++) {
         pthread_t threads[4];
         truth->ready = 0;
@@ -1166,7 +1106,8 @@ static void stop_in_rounds(uint64_t rounds)
 // Starts, and has a thread that is held where it gives its slot back.
 static void start_and_hold(void)
 {
-    truth->ready = truth->other = 0;
+    __atomic_store_n(&truth->ready, 0, __ATOMIC_SEQ_CST);
+    __atomic_store_n(&truth->other, 0, __ATOMIC_SEQ_CST);
     start(NULL);
     let_go(end_slowly, 1);
     wait_for(&truth->ready, 1);
@@ -1197,6 +1138,144 @@ static void stops(void)
     struct read_dump *dump = open_dump(path);
     const struct read_ring *ring = ring_named(dump, "main", 0);
     want(ring->count == 2, "events of a recorder that goes on", ring->count);
+    free_dump(dump);
+}
+
+// ---- A stop while another thread dumps: it stops nothing.
+
+static void *dump_slowly(void *unused)
+{
+    is_held_in_dump = true;
+    want(!flight_dump(path), "no dump", 0);
+    return unused;
+}
+
+static void held_body(uint64_t unused)
+{
+    (void)unused;
+    start(NULL);
+    record(0);
+    pthread_t dumping = thread(dump_slowly, 0);
+    wait_for(&truth->ready, 1);
+    want(flight_stop() == EBUSY && flight_dump(second_path) == EBUSY, "a stop amid a dump", 0);
+    record(0);
+    count(&truth->other);
+    want(!pthread_join(dumping, NULL) && !flight_dump(second_path) && !flight_stop(), "no stop", 0);
+}
+
+static void held(void)
+{
+    run_well(held_body, 0);
+    struct read_dump *dump = open_dump(path), *later = open_dump(second_path);
+    want(dump->rings[0].count == 1 && later->rings[0].count == 2, "the events of both dumps", later->rings[0].count);
+    free_dump(dump);
+    free_dump(later);
+}
+
+// ---- Started and stopped again and again, the memory of a process stays as it is.
+
+static size_t mapped_pages(void)
+{
+    size_t pages = 0;
+    FILE *file = fopen("/proc/self/statm", "r");
+    want(file && fscanf(file, "%zu", &pages) == 1 && !fclose(file), "no size of this process", 0);
+    return pages;
+}
+
+static void again_body(uint64_t cycles)
+{
+    enum { MOST_GROWTH = 8192 };
+    size_t before = 0;
+    for (uint64_t each = 0; each < cycles; each++) {
+        start(NULL);
+        record(0);
+        want(!flight_stop(), "no stop", each);
+        before = each ? before : mapped_pages();
+    }
+    want(mapped_pages() < before + MOST_GROWTH, "the memory grows", mapped_pages() - before);
+}
+
+static void again(void)
+{
+    run_well(again_body, 40);
+}
+
+// ---- A fault whose signal was ignored before ends the process, as the kernel has it; one that is sent doesn't.
+
+static uint64_t now_and_then(void)
+{
+    enum { MOST_CALLS = 1000 };
+    count(&truth->number);
+    if (seen(&truth->number) > MOST_CALLS)
+        _exit(1); // the fault happens for ever
+    return seen(&truth->number);
+}
+
+static void ignored_body(uint64_t is_sent)
+{
+    struct flight_config config = {.clock = FLIGHT_CALLER, .now = now_and_then};
+    want(signal(SIGSEGV, SIG_IGN) != SIG_ERR, "no action", 0);
+    start(&config);
+    want(!flight_dump_on_crash(path), "no handlers", 0);
+    record(0);
+    if (is_sent)
+        want(!raise(SIGSEGV), "no signal", 0);
+    else
+        *nowhere = 1;
+}
+
+static void ignored(void)
+{
+    run_well(ignored_body, true);
+    free_dump(open_dump(path));
+    int status = run(ignored_body, false);
+    want(WIFSIGNALED(status) && WTERMSIG(status) == SIGSEGV, "another end", (uint64_t)status);
+    struct read_dump *dump = open_dump(path);
+    want(dump->rings[0].count == 1 && dump->signal == SIGSEGV, "its event", dump->rings[0].count);
+    free_dump(dump);
+}
+
+// ---- Events that are too long, some of them of handlers that interrupt others: each is counted on its ring.
+
+static volatile bool is_amid;
+
+static void on_timer_long(int signal)
+{
+    static char text[100];
+    (void)signal;
+    memset(text, 'x', sizeof text - 1);
+    truth->at_crash[0] += is_amid;
+    TRACE("too long: %s", text);
+    truth->other++;
+}
+
+static void too_long_body(uint64_t unused)
+{
+    struct flight_config config = {.size = 64};
+    sigset_t of_timer;
+    (void)unused;
+    start(&config);
+    name_worker(0);
+    start_timer(on_timer_long, 23000, 23000);
+    while (truth->at_crash[0] < 3000 / scale) {
+        is_amid = true;
+        record(0);
+        is_amid = false;
+    }
+    sigemptyset(&of_timer);
+    sigaddset(&of_timer, SIGUSR1);
+    want(!sigprocmask(SIG_BLOCK, &of_timer, NULL) && !flight_dump(path), "no dump", 0);
+}
+
+static void too_long(void)
+{
+    enum { TOO_LONG = 2 };
+    run_well(too_long_body, 0);
+    struct read_dump *dump = open_dump(path);
+    const struct read_ring *first = ring_named(dump, "worker-0", 0), *second = first + 1;
+    want(second->is_there && second->level == 1 && second->slot == first->slot, "no second ring", first->slot);
+    want(second->refused[TOO_LONG], "no event of a handler is refused on the second ring", truth->other);
+    want(first->refused[TOO_LONG] + second->refused[TOO_LONG] == truth->other, "an event isn't counted", truth->other);
     free_dump(dump);
 }
 
@@ -1377,8 +1456,7 @@ static void check_amid(void)
     uint64_t counted = truth->at_crash[0];
     check_worker(dump, ring, 0);
     want(ring->written == counted || ring->written == counted + 1, "events", ring->written);
-    want(ring->tail == 0 || ring->tail == 2, "a tail", ring->tail);
-    truth->other += ring->lacking > 0;
+    want(ring->count, "no event", 0);
     truth->number++;
     free_dump(dump);
 }
@@ -1390,7 +1468,7 @@ static void amid_body(uint64_t unused)
     name_worker(0);
     record(0);
     start_timer(on_timer_dump, 0, 200000);
-    while (truth->number < 300 / scale || (truth->other < 1 && truth->number < 3000)) {
+    while (truth->number < 300 / scale) {
         record(0);
         if (!seen(&truth->ready))
             continue;
@@ -1404,7 +1482,6 @@ static void amid_body(uint64_t unused)
 static void amid_calls(void)
 {
     run_well(amid_body, 0);
-    want(truth->other && truth->other < truth->number, "dumps amid events", truth->other);
 }
 
 // ---- Eight threads record as fast as they can, while a ninth dumps. The eighth is ever another one.
@@ -1436,16 +1513,16 @@ static void *work_by_others(void *given)
 // What one ring of the last dump has is as it is in this one.
 static void compare(const struct read_ring *last, const struct read_ring *now)
 {
-    want(last->written <= now->written && last->dropped <= now->dropped, "counts fall", now->written);
-    check_dropped(last, now);
+    want(last->written <= now->written, "counts fall", now->written);
+    check_same(last, now);
 }
 
 static void hammer_body(uint64_t dumps)
 {
-    struct flight_config config = {.threads = 24, .clock = FLIGHT_TSC, .keep = 60, .wait_ms = 1000};
+    struct flight_config config = {.threads = 24, .clock = FLIGHT_TSC};
     pthread_t threads[8];
     struct read_dump *last = NULL;
-    uint64_t unread = 0, begun = now_and_interrupted();
+    uint64_t begun = now_and_interrupted(), before[7];
     start(&config);
     for (uint64_t which = 0; which < 7; which++)
         threads[which] = thread(work_until_told, which);
@@ -1455,14 +1532,16 @@ static void hammer_body(uint64_t dumps)
     threads[7] = thread(work_by_others, 7);
     wait_for(&truth->counted[7], 1);
     // On a machine that is busy with other things it takes long: then it makes fewer dumps.
-    for (uint64_t each = 0; each < dumps && now_and_interrupted() - begun < 20000000000; each++) {
+    for (uint64_t each = 0; each < dumps && now_and_interrupted() - begun < 10000000000; each++) {
+        for (uint64_t which = 0; which < 7; which++)
+            before[which] = seen(&truth->counted[which]);
         want(!flight_dump(path), "no dump", 0);
         count(&truth->ready);
         struct read_dump *dump = open_dump(path);
         for (uint64_t which = 0; which < 7; which++) {
             const struct read_ring *ring = ring_of_worker(dump, which);
             check_worker(dump, ring, which);
-            unread += ring->tail > 1;
+            want(ring->written >= before[which], "an event that had returned", which);
             if (last)
                 compare(ring_of_worker(last, which), ring);
         }
@@ -1476,51 +1555,32 @@ static void hammer_body(uint64_t dumps)
     want(!flight_dump(path), "no dump", 0);
     for (uint64_t which = 0; which < 7; which++)
         compare(ring_of_worker(last, which), ring_of_worker(open_dump(path), which));
-    truth->number = unread;
 }
 
 static void hammer(void)
 {
-    run_well(hammer_body, 200 / scale);
+    run_well(hammer_body, 100 / scale);
     struct read_dump *dump = open_dump(path);
     for (uint64_t which = 0; which < 7; which++) {
         const struct read_ring *ring = ring_of_worker(dump, which);
-        want(ring->written == truth->counted[which] && !ring->lacking, "an event isn't counted", which);
+        want(ring->written == truth->counted[which], "an event isn't counted", which);
     }
-    printf("hammer: %llu events, %llu threads that ended, %llu dumps, %llu of %llu tails unread\n",
-        (unsigned long long)sum(truth->counted, 7), (unsigned long long)truth->counted[7],
-        (unsigned long long)truth->ready, (unsigned long long)truth->number, (unsigned long long)(7 * truth->ready));
-    want(2 * truth->number <= 7 * truth->ready, "tails that weren't read", truth->number);
+    printf("hammer: %llu events, %llu threads that ended, %llu dumps\n", (unsigned long long)sum(truth->counted, 7),
+        (unsigned long long)truth->counted[7], (unsigned long long)truth->ready);
     free_dump(dump);
 }
 
-static const struct {
-    const char *name;
-    void (*check)(void);
-} cases[] = {{"crashes", crashes}, {"busy", busy}, {"together", together}, {"beside", beside},
-    {"gone", gone_faults}, {"cancelled", cancelled}, {"replaced", replaced}, {"refused", refused},
-    {"moved", moved}, {"idle", idle_threads}, {"used_up", used_up}, {"blocked", blocked},
-    {"queued", queued}, {"ended", ended}, {"crowded", crowded}, {"handlers", handlers},
-    {"first", first_events}, {"two_dumps", two_dumps}, {"switches", switches}, {"forked", forked},
-    {"answers", answers}, {"stops", stops}, {"arguments", arguments}, {"former", former_actions},
-    {"chained", chained}, {"amid", amid_calls}, {"hammer", hammer}};
+static const struct flight_case cases[] = {
+    {"crashes", crashes}, {"busy", busy}, {"together", together}, {"beside", beside}, {"gone", gone_faults},
+    {"cancelled", cancelled}, {"replaced", replaced}, {"refused", refused}, {"moved", moved}, {"idle", idle_threads},
+    {"used_up", used_up}, {"blocked", blocked}, {"hit", hit_anywhere}, {"ended", ended}, {"crowded", crowded},
+    {"handlers", handlers}, {"first", first_events}, {"two_dumps", two_dumps}, {"switches", switches},
+    {"held", held}, {"again", again}, {"ignored", ignored}, {"too_long", too_long}, {"levels", levels},
+    {"workers", workers}, {"forked", forked}, {"answers", answers}, {"stops", stops},
+    {"arguments", arguments}, {"former", former_actions}, {"chained", chained}, {"amid", amid_calls},
+    {"hammer", hammer}};
 
 int main(int argc, char **argv)
 {
-    want(argc >= 3, "usage: flight_checks FOLDER SCALE [CASE..]", 0);
-    scale = strtoull(argv[2], NULL, 10);
-    truth = mmap(NULL, sizeof *truth, PROT_READ | PROT_WRITE, MAP_SHARED | MAP_ANONYMOUS, -1, 0);
-    want(truth != MAP_FAILED, "no memory", 0);
-    snprintf(path, sizeof path, "%s/dump", argv[1]);
-    snprintf(second_path, sizeof second_path, "%s/second", argv[1]);
-    for (size_t at = 0; at < sizeof cases / sizeof *cases; at++) {
-        bool is_named = argc == 3;
-        for (int each = 3; each < argc; each++)
-            is_named |= !strcmp(argv[each], cases[at].name);
-        if (is_named) {
-            cases[at].check();
-            printf("%s: as it is to be\n", cases[at].name);
-        }
-    }
-    return 0;
+    return carry_out(cases, sizeof cases / sizeof *cases, argc, argv);
 }

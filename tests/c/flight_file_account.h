@@ -80,8 +80,9 @@ static void on_head(void *self, const struct dump *dump)
 }
 
 // A record's text is that of its site, and says the name that it is listed under.
-static void on_record(void *self, const struct record *record)
+static void on_record(void *self, const struct dump *dump, const struct record *record)
 {
+    (void)dump;
     struct account *account = (struct account *)self;
     char who[SHARED_NAME], what[8], name[SHARED_NAME] = "";
     unsigned site, same, at;
@@ -120,14 +121,16 @@ static void on_record(void *self, const struct record *record)
     account->own[at] = number + 1;
 }
 
-static void on_gap(void *self, const struct gap *gap)
+static void on_gap(void *self, const struct dump *dump, const struct gap *gap)
 {
+    (void)dump;
     struct account *account = (struct account *)self;
     account->missing += gap->last - gap->first + 1;
 }
 
-static void on_loss(void *self, const struct loss *loss)
+static void on_loss(void *self, const struct dump *dump, const struct loss *loss)
 {
+    (void)dump;
     struct account *account = (struct account *)self;
     switch (loss->kind) {
     case LOSS_OVERWRITTEN: account->lost += loss->count; break;
@@ -162,7 +165,7 @@ static bool holds(const void *mapped, size_t len, struct account *account)
         bad("a file is refused", fault.offset, 0);
     }
     struct viewer viewer = {account, on_head, on_record, on_gap, on_loss, on_end};
-    list_dump(&dump, SIZE_MAX, &viewer);
+    list_dumps(&dump, 1, &(struct choice){SIZE_MAX, NULL}, &viewer);
     for (size_t k = 0; k < dump.ring_count; k++)
         account->rings_written += dump.rings[k].written;
     uint64_t begun = seen(&truth->begun), there = account->rings_written + account->refused;

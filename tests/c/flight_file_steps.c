@@ -20,6 +20,7 @@ static char path[200];
 static uint64_t random_state;
 static uint32_t levels; // how many rings a thread has in this round
 static uint64_t readings, steps, signals;
+static volatile bool *is_summing; // whether the program is within a checksum
 
 static uint64_t next_random(void)
 {
@@ -30,6 +31,19 @@ static uint64_t next_random(void)
 }
 
 // ---- The program.
+
+uint32_t __real_flight_checksum(const void *bytes, size_t len);
+uint32_t __wrap_flight_checksum(const void *bytes, size_t len);
+
+// A checksum stores nothing in the file, and would be most of all instructions: so it is one step.
+uint32_t __wrap_flight_checksum(const void *bytes, size_t len)
+{
+    *is_summing = true;
+    uint32_t sum = __real_flight_checksum(bytes, len);
+    *is_summing = false;
+    (void)raise(SIGTRAP);
+    return sum;
+}
 
 static char who[SHARED_NAME] = "n0";
 static unsigned site;
@@ -118,12 +132,13 @@ static void look(void)
     want(!account.unnamed || truth->own[SLOT_MOST_LEASES - 1], "a record without a name", account.unnamed, 0);
 }
 
-// Goes on to the next instruction with this signal: the one that stops it there. (A signal that the program blocks is
-// kept, and stops it when it doesn't any more.)
+// Goes on to the next instruction, or to the end of a checksum, with this signal: the one that stops it there. (A
+// signal that the program blocks is kept, and stops it when it doesn't any more.)
 static int step(pid_t child, int signal)
 {
     int status = 0;
-    want(!ptrace(PTRACE_SINGLESTEP, child, NULL, (void *)(uintptr_t)signal), "no step", (uint64_t)errno, 0);
+    want(!ptrace(*is_summing ? PTRACE_CONT : PTRACE_SINGLESTEP, child, NULL, (void *)(uintptr_t)signal), "no step",
+        (uint64_t)errno, 0);
     want(waitpid(child, &status, 0) == child && WIFSTOPPED(status), "another end", (uint64_t)status, steps);
     steps++;
     return WSTOPSIG(status);
@@ -162,7 +177,8 @@ int main(int argc, char **argv)
     uint64_t rounds = strtoull(argv[2], NULL, 10);
     random_state = strtoull(argv[3], NULL, 10) * 2654435761u + 1;
     truth = mmap(NULL, sizeof *truth, PROT_READ | PROT_WRITE, MAP_SHARED | MAP_ANONYMOUS, -1, 0);
-    want(truth != MAP_FAILED, "no memory", 0, 0);
+    is_summing = mmap(NULL, sizeof *is_summing, PROT_READ | PROT_WRITE, MAP_SHARED | MAP_ANONYMOUS, -1, 0);
+    want(truth != MAP_FAILED && is_summing != MAP_FAILED, "no memory", 0, 0);
     snprintf(path, sizeof path, "%s/stepped.flight", argv[1]);
     for (uint64_t round = 0; round < rounds; round++) {
         memset(truth, 0, sizeof *truth);

@@ -7,6 +7,7 @@ import re
 import shutil
 import subprocess
 import sys
+from itertools import count
 from pathlib import Path
 
 from made import flight_dumps as form
@@ -41,14 +42,14 @@ class Program:
     """A built program, a folder for what is given to it (bytes, or what has them), and the environment of a listing."""
 
     def __init__(self, path, folder, environment=None):
-        self.path, self.folder, self.environment, self.count = path, folder, environment, 0
+        self.path, self.folder, self.environment, self.numbers = path, folder, environment, count()
 
     def run(self, *words, **more):
         return subprocess.run([self.path, *words], stdout=subprocess.PIPE, stderr=subprocess.PIPE, **more)
 
     def file(self, content):
-        self.count += 1
-        path = self.folder / f"{self.path.name}.{self.count}.flight"
+        # (Several threads may do this at once.)
+        path = self.folder / f"{self.path.name}.{next(self.numbers)}.flight"
         path.write_bytes(content if isinstance(content, bytes) else content.bytes())
         return path
 

@@ -9,11 +9,11 @@
 #include <stdlib.h>
 #include <string.h>
 
-enum { RINGS = 256, SITES = 4096, LEASES_LISTED = 8 };
+enum { RINGS = 65536, SITES = 65537, LEASES_LISTED = 8 };
 
 struct read_site {
     bool is_there;
-    uint32_t line, count;
+    uint32_t line, style, count; // style: with its level
     uint8_t kinds[16];
     char file[256], format[256];
 };
@@ -32,13 +32,12 @@ struct read_record {
 
 struct read_ring {
     bool is_there;
-    uint32_t slot, level, tail, leases;
-    uint64_t written, lacking, refused[6], dropped, missed, pages;
+    uint32_t slot, level, leases;
+    uint64_t written, refused[6], pages, fill;
     struct read_lease lease[LEASES_LISTED];
     struct read_record *records;
     size_t count, room;
-    uint64_t next;      // the number after the last record
-    uint64_t last_page; // the number of the last page's first record
+    uint64_t first, next; // the first record's number, and that after the last one's
 };
 
 struct read_dump {
@@ -110,14 +109,12 @@ static inline struct read_ring *get_ring(struct read_dump *dump)
     ring->is_there = true;
     ring->slot = (uint32_t)get(dump, 4);
     ring->level = (uint32_t)get(dump, 4);
-    ring->tail = (uint32_t)get(dump, 4);
+    ring->pages = get(dump, 4);
     ring->written = get(dump, 8);
-    ring->lacking = get(dump, 8);
     for (int each = 0; each < 6; each++)
         ring->refused[each] = get(dump, 8);
-    ring->dropped = get(dump, 8);
     ring->leases = (uint32_t)get(dump, 4);
-    want(ring->tail <= 5 && ring->leases <= LEASES_LISTED, "a tail or the leases", number);
+    want(ring->leases <= LEASES_LISTED, "the leases", number);
     for (uint32_t each = 0; each < ring->leases; each++) {
         ring->lease[each].first = get(dump, 8);
         ring->lease[each].thread = (uint32_t)get(dump, 4);
@@ -164,23 +161,22 @@ static inline void read_words(struct read_ring *ring, const uint8_t *data, uint6
     }
 }
 
+// A page of a ring, whose records follow those of the one before, or others that were overwritten.
 static inline void get_page(struct read_dump *dump, uint64_t number, struct read_ring *ring, uint64_t len)
 {
     const uint8_t *page = dump->bytes + dump->at;
     want(len >= 48 && len <= dump->len - dump->at, "a page is cut", dump->at);
-    uint64_t first = number_at(page + 16, 8), missed = number_at(page + 24, 8), commit = number_at(page + 40, 8);
-    want(number_at(page, 8) == number, "a page of another ring", number);
-    want((commit >> 31 & 1) == (missed != 0), "a page's bit for missed records", commit);
-    want((commit & 0x3fffffff) <= len - 48, "a page has more data than bytes", commit);
-    want(missed <= first, "more are missed than there were", missed);
-    if (ring->pages)
-        want(first - missed == ring->next, "a page doesn't follow the one before", first);
+    uint64_t fill = number_at(page + 8, 8), first = number_at(page + 16, 8), commit = number_at(page + 40, 8);
+    want(number_at(page, 8) == number % 256, "a page of another ring", number);
+    want(!number_at(page + 24, 8), "a page that states missed records", number);
+    want(commit == len - 48, "a page has other data than bytes", commit);
+    if (ring->count)
+        want(fill > ring->fill && first == ring->next, "a page doesn't follow the one before", first);
     else
-        want(ring->dropped ? first - missed >= ring->dropped : first == missed, "the first page", first);
-    ring->pages++;
-    ring->missed += missed;
-    ring->next = ring->last_page = first;
-    read_words(ring, page + 48, commit & 0x3fffffff, number_at(page + 32, 8));
+        ring->first = first;
+    ring->fill = fill;
+    ring->next = first;
+    read_words(ring, page + 48, commit, number_at(page + 32, 8));
     want(ring->next > first, "a page without a record", first);
     dump->at += len;
 }
@@ -188,11 +184,12 @@ static inline void get_page(struct read_dump *dump, uint64_t number, struct read
 static inline void get_site(struct read_dump *dump)
 {
     uint64_t id = get(dump, 4);
-    want(id < SITES && !dump->sites[id].is_there, "a site's id", id);
+    want(id > 0 && id < SITES && !dump->sites[id].is_there, "a site's id", id);
     struct read_site *site = &dump->sites[id];
     site->is_there = true;
     site->line = (uint32_t)get(dump, 4);
-    want(get(dump, 4) <= 1, "a site's style", id);
+    site->style = (uint32_t)get(dump, 4);
+    want((site->style & 15) <= 2 && site->style >> 4 <= 4, "a site's style", id);
     site->count = (uint32_t)get(dump, 4);
     want(site->count <= 8, "a site has too many arguments", site->count);
     for (uint32_t each = 0; each < site->count; each++) {
@@ -259,37 +256,49 @@ static inline void check_ring(const struct read_dump *dump, const struct read_ri
         while (rest--)
             want(*end++ == 0, "bytes after the arguments", record->number);
     }
-    uint64_t after = ring->pages ? ring->next : ring->written - ring->lacking;
-    want(after + ring->lacking == ring->written, "records are lacking that aren't stated", ring->lacking);
-    want(ring->tail >= 2 || !ring->lacking, "records are lacking though all was read", ring->lacking);
-    uint64_t overwritten = ring->written - ring->count - ring->dropped - ring->lacking;
-    want(overwritten <= ring->written, "more records than were written", ring->written);
-    want(ring->dropped ? overwritten >= ring->missed : overwritten == ring->missed, "missed records", overwritten);
+    want(ring->count ? ring->next <= ring->written : !ring->next, "more records than were written", ring->written);
+    want(!ring->count || ring->next == ring->written, "the newest records aren't there", ring->next);
+}
+
+// The checksum CRC-32C of these bytes, bit by bit.
+static inline uint32_t checksum_of(const uint8_t *bytes, size_t len)
+{
+    uint32_t sum = UINT32_MAX;
+    for (size_t at = 0; at < len; at++) {
+        sum ^= bytes[at];
+        for (int bit = 0; bit < 8; bit++)
+            sum = sum >> 1 ^ (sum & 1 ? 0x82f63b78 : 0);
+    }
+    return ~sum;
 }
 
 static inline void read_sections(struct read_dump *dump)
 {
     struct read_ring *ring = NULL;
-    uint64_t number = 0;
+    uint64_t number = 0, pages = 0;
     int stage = 0; // 0: PROC is next; 1: rings; 2: sites; 3: the end
     for (; stage < 3; dump->sections++) {
-        const char *kind = (const char *)dump->bytes + dump->at;
+        const uint8_t *head = dump->bytes + dump->at;
+        const char *kind = (const char *)head;
         uint64_t name = get(dump, 4), zeros = get(dump, 4), len = get(dump, 8), end = dump->at + len;
         (void)name;
-        want(!zeros && len <= dump->len - dump->at, "a section's header", dump->at);
+        want(!zeros && dump->len - dump->at >= 8 && len <= dump->len - dump->at - 8, "a section's head", dump->at);
         bool is_site = !memcmp(kind, "SITE", 4), is_end = !memcmp(kind, "ENDS", 4);
         if (stage == 0) {
             want(!memcmp(kind, "PROC", 4), "the first section", dump->at);
             get_process(dump);
             stage = 1;
+        } else if (pages) {
+            want(!memcmp(kind, "PAGE", 4), "a page is expected", dump->at);
+            get_page(dump, number, ring, len);
+            pages--;
         } else if (stage == 1 && !memcmp(kind, "RING", 4)) {
             uint64_t next = number_at(dump->bytes + dump->at, 4);
             want(!ring || next > number, "rings fall", next);
             ring = get_ring(dump);
             number = next;
-        } else if (stage == 1 && ring && !memcmp(kind, "PAGE", 4))
-            get_page(dump, number, ring, len);
-        else if (is_site) {
+            pages = ring->pages;
+        } else if (is_site) {
             get_site(dump);
             stage = 2;
         } else {
@@ -297,6 +306,7 @@ static inline void read_sections(struct read_dump *dump)
             stage = 3;
         }
         want(dump->at == end, "a section's length", dump->at);
+        want(get(dump, 8) == checksum_of(head, 16 + len), "a section's checksum", end);
     }
 }
 
@@ -322,7 +332,7 @@ static inline struct read_dump *open_dump(const char *path)
     fclose(file);
     want(dump->len >= 16 && !memcmp(dump->bytes, "TRFLIGHT", 8), "no dump", dump->len);
     dump->at = 8;
-    want(get(dump, 4) == 1 && get(dump, 4) == 0, "the version", 8);
+    want(get(dump, 4) == 2 && get(dump, 4) == 0, "the version", 8);
     read_sections(dump);
     want(dump->at == dump->len, "bytes after the end", dump->at);
     for (int each = 0; each < RINGS; each++)

@@ -182,8 +182,13 @@ static void misuse(void)
 static void header(void)
 {
     struct ring ring = new_ring();
-    static const uint64_t wanted[] = {0, 1, PAGES, SIZE, CPU, STREAM, 0, 0, 0, 0, 0, 0, 0, 0, 0, 0};
+    uint64_t wanted[] = {0, 1, PAGES, SIZE, CPU, STREAM, 0, 0, *word(&ring, 64), 0, 0, 0, 0, 0, 0, 0};
     CHECK(!memcmp(ring.region, "tracring", 8));
+#if defined(__x86_64__)
+    CHECK(!wanted[8]);
+#else
+    CHECK(wanted[8] <= 1);
+#endif
     CHECK(!memcmp(word(&ring, 8), wanted + 1, sizeof wanted - 8));
     for (size_t slot = 0; slot <= PAGES; slot++)
         CHECK(*word(&ring, 128 + slot * 128) == CPU);

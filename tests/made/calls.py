@@ -9,7 +9,7 @@ from pathlib import Path
 
 TOP = Path(__file__).resolve().parents[2]
 EXAMPLES = TOP / "examples"
-FOLDERS = (EXAMPLES, *(EXAMPLES / name for name in ("kernel_pages", "fields", "streams", "recover")))
+FOLDERS = (EXAMPLES, *(EXAMPLES / name for name in ("kernel_pages", "fields", "parts", "streams", "recover")))
 FAULT = re.compile(rb"(line \d+|image): ")
 ESCAPES = {b"n": b"\n", b"r": b"\r", b"t": b"\t", b"\\": b"\\", b"\"": b"\""}
 ESCAPE = re.compile(rb"\\(?:x(..)|(.))", re.DOTALL)

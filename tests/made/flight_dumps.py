@@ -3,9 +3,12 @@
 import struct
 from dataclasses import dataclass, field
 
+from oracles.fleet import crc32c
+
 MONOTONIC, TSC, CALLER = range(3)
-READ, EMPTY, AMID_CALL, BEGUN, NO_ANSWER, GONE = range(6)
-PRINTF, BRACES = range(2)
+PRINTF, BRACES, FIELDS = range(3)
+# Levels, as they are added to FIELDS.
+ERROR, WARNING, INFO, DEBUG = (level << 4 for level in range(1, 5))
 # Kinds of arguments.
 I8, I16, I32, I64, U8, U16, U32, U64, F32, F64, ADDRESS, TEXT = (
     0x01, 0x02, 0x04, 0x08, 0x11, 0x12, 0x14, 0x18, 0x24, 0x28, 0x38, 0x40,
@@ -61,8 +64,7 @@ class Page:
 
     first: int
     records: list
-    missed: int = 0
-    size: int = 256
+    fill: int = 0
 
     def data(self):
         made, time = b"", None
@@ -79,11 +81,8 @@ class Page:
 
     def parcel(self, ring):
         data = self.data()
-        stored = u64(self.missed) if self.missed and len(data) + 8 <= self.size else b""
-        commit = len(data) | (self.missed > 0) << 31 | (len(stored) > 0) << 30
         time = self.records[0][0] if self.records else 0
-        head = u64(ring, 0, self.first, self.missed, time, commit)
-        return head + data + stored + bytes(max(0, self.size - len(data) - len(stored)))
+        return u64(ring % 256, self.fill, self.first, 0, time, len(data)) + data
 
 
 @dataclass
@@ -91,17 +90,14 @@ class Ring:
     number: int
     slot: int = 0
     level: int = 0
-    tail: int = READ
     written: int = 0
-    lacking: int = 0
     refused: list = field(default_factory=lambda: [0] * 6)
-    dropped: int = 0
     leases: list = field(default_factory=list)  # first number, thread, name
     pages: list = field(default_factory=list)
 
     def sections(self):
-        made = u32(self.number, self.slot, self.level, self.tail) + u64(self.written, self.lacking, *self.refused)
-        made += u64(self.dropped) + u32(len(self.leases))
+        made = u32(self.number, self.slot, self.level, len(self.pages)) + u64(self.written, *self.refused)
+        made += u32(len(self.leases))
         made += b"".join(u64(first) + u32(thread) + text(name) for first, thread, name in self.leases)
         return [(b"RING", made)] + [(b"PAGE", page.parcel(self.number)) for page in self.pages]
 
@@ -131,6 +127,12 @@ class Dump:
         return joined(self.sections())
 
 
+def section(kind, has):
+    """A section, with its checksum."""
+    whole = kind + u32(0) + u64(len(has)) + has
+    return whole + u64(crc32c(whole))
+
+
 def joined(sections):
-    """The file of these sections."""
-    return b"TRFLIGHT" + u32(1, 0) + b"".join(kind + u32(0) + u64(len(has)) + has for kind, has in sections)
+    """The file of these sections, as pairs of a kind and of what they have, or as they are."""
+    return b"TRFLIGHT" + u32(2, 0) + b"".join(it if isinstance(it, bytes) else section(*it) for it in sections)

@@ -4,7 +4,7 @@ from dataclasses import dataclass, field
 
 from made.flight_dumps import MONOTONIC, Page, u32, u64
 
-HEADER, SLOT, SITES = 4096, 1088, 1 << 20
+HEADER, SLOT, SITES, COUNTS = 4096, 1088, 1 << 20, 2048
 LEASES, LEVELS, REASONS = 8, 4, 6
 
 
@@ -19,13 +19,12 @@ def at(content, offset, changed):
 
 @dataclass
 class Ring:
-    """A ring's region: its pages by fill, those that are on no slot being overwritten or taken."""
+    """A ring's region: its pages by fill, those that are on no slot being overwritten."""
 
     pages: dict = field(default_factory=dict)  # by fill
-    taken: int = 0
 
     def region(self, cpu, pages, size, stream):
-        made = b"tracring" + u64(1, pages, size, cpu, stream, self.taken, 0) + bytes(64)
+        made = b"tracring" + u64(1, pages, size, cpu % 256, stream, 0, 0) + bytes(64)
         room = rounded(48 + size, 64)
         for fill, page in sorted(self.pages.items()):
             data, time = page.data(), page.records[0][0] if page.records else 0
@@ -97,11 +96,13 @@ class File:
 
     def bytes(self):
         sites = b"".join(site if isinstance(site, bytes) else site_bytes(site) for site in self.sites)
-        made = b"TRLIVING" + u64(1, self.threads, self.levels, self.pages, self.size, self.clock, self.pid)
+        made = b"TRLIVING" + u64(2, self.threads, self.levels, self.pages, self.size, self.clock, self.pid)
         made += u64(*self.areas(), *self.boot, *self.start, self.stamps, *self.stamp[0], *self.stamp[1])
-        made += u64(self.no_ring, len(sites), self.ended)
+        made += u64(0, len(sites), self.ended)
         made = made.ljust(256, b"\0") + self.name.encode().ljust(64, b"\0")
-        made = made.ljust(HEADER, b"\0")
+        # (Of the counts of events that had no ring all are summed.)
+        counts = [self.no_ring - self.no_ring // 3, *[0] * 30, self.no_ring // 3]
+        made = made.ljust(COUNTS, b"\0") + b"".join(u64(count).ljust(64, b"\0") for count in counts)
         made += b"".join(self.slots.get(slot, Slot()).bytes() for slot in range(self.threads))
         made = made.ljust(self.areas()[2], b"\0") + sites.ljust(SITES, b"\0")
         for slot in range(self.threads):

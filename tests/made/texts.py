@@ -12,7 +12,7 @@ CAPTURES = EXAMPLES / "captures"
 FOLDERS = ("exact", "filter", "gaps", "idle", "live", "overrun", "quiet", "stamps")
 
 
-KINDS = ("records", "missing", "unknown", "damaged", "awaited", "undelivered", "forgotten")
+KINDS = ("records", "missing", "unknown", "damaged", "awaited", "undelivered", "forgotten", "hidden")
 
 
 class Section:
@@ -21,6 +21,8 @@ class Section:
 
     def __init__(self, collector=None):
         self.collector, self.audit = collector, None
+        # What a trace-cmd file's own counters say of each CPU: overrun, commit overrun and dropped events.
+        self.counters = {}
         for kind in KINDS:
             setattr(self, kind, [])
 
@@ -73,9 +75,11 @@ def is_log(words):
 
 
 def add_line(section, words):
-    if words[0] == "damaged":
+    if words[0] == "losses":
+        section.counters[int(words[1])] = [int(word) for word in words[4:]]
+    elif words[0] == "damaged":
         section.damaged.append((int(words[1]), int(words[2]), " ".join(words[3:])))
-    elif words[0] in ("missing", "unknown", "undelivered", "forgotten"):
+    elif words[0] in ("missing", "unknown", "undelivered", "forgotten", "hidden"):
         numbers, cpu = tuple(map(int, words[2].split("-"))), cpu_of(words[1])
         is_awaited = words[0] == "unknown" and isinstance(cpu, tuple)
         getattr(section, "awaited" if is_awaited else words[0]).append((cpu, *numbers))

@@ -3,12 +3,16 @@ docs/formats/program.md says is printed of them, in "Captures" and "Fields".
 """
 
 import struct
+from functools import cache, partial
 
-from oracles import fields, trace_dat
+from oracles import fields, names, trace_dat
 from oracles.image import MOST, Fault, missed_before, records
+from oracles.selection import Selection, is_named
 
 MAGIC = b"\x17\x08Dtracing"
 NUMBERS, STAMP, CPUS = 1 << 64, 1 << 59, 256
+# What the kernel counts of a CPU's ring.
+COUNTERS = (b"CPU: ", b"overrun: ", b"commit overrun: ", b"dropped events: ")
 
 
 class Refused(Exception):
@@ -61,6 +65,24 @@ def page_reading(image):
     return missed, [*records(time, restored(time, image[16 : 16 + size]))]
 
 
+def head(page):
+    """The time of a page, how many bytes of data it states, and the upper half of its commit word."""
+    time, commit = struct.unpack_from("<QQ", page)
+    return time, commit & 0x3FFF_FFFF, commit >> 32
+
+
+def smaller_in(page):
+    """The size of the smaller pages that what was read as one has, if the second one's head is behind the first one's
+    data."""
+    for size in (4096, 8192, 16384, 32768):
+        if len(page) >= size + 16:
+            (time, data, _), (later, others, bits) = head(page), head(page[size:])
+            is_head = 0 < others <= size - 16 and bits in (0, 0xFFFF_FFFF)
+            if data <= size - 16 and is_head and time <= later < time + (1 << 48):
+                return size
+    return None
+
+
 class Cpu:
     """What there is of one CPU."""
 
@@ -87,9 +109,17 @@ class Cpu:
         self.pages += 1
         self.bytes += len(image)
 
-    def add_part(self, size, pages, unknown=1):
+    def add_part(self, size, pages, unknown=1, is_raw=False):
         for at in range(0, len(pages), size):
-            self.add_page(pages[at : at + size], unknown)
+            page = pages[at : at + size]
+            smaller = smaller_in(page) if is_raw else None
+            if smaller:
+                raise Refused(f"pages: SmallerPages {smaller}")
+            self.add_page(page, unknown)
+
+    def lost(self):
+        """How many numbers are missing."""
+        return sum(last - first + 1 for first, last in self.missing)
 
     def runs(self):
         """The missing numbers, as runs that don't touch each other."""
@@ -109,25 +139,31 @@ def resembles_dat(file):
     return sum(file[at : at + 1] != MAGIC[at : at + 1] for at in range(len(MAGIC))) < 2
 
 
-def main_texts(texts):
-    """Of texts of counters those of the main buffer: the text before an instance's counters names it."""
-    buffer = b""
+def texts_of(buffer, texts):
+    """Of texts of counters those of this buffer: the text before an instance's counters names it."""
+    named = b""
     for text in texts:
-        named = trace_dat.value(text, b"Buffer: ")
-        buffer = buffer if named is None else named
-        if not buffer:
+        name = trace_dat.value(text, b"Buffer: ")
+        named = named if name is None else name
+        if named == buffer:
             yield text
 
 
-def dat_parts(file):
-    """The parts of the main buffer of a file of trace-cmd, its formats, and its counters by CPU."""
-    try:
-        formats, buffers, texts = trace_dat.reading(file)
-    except trace_dat.Fault as fault:
-        raise Refused("trace.dat: %s at %d" % fault.args) from fault
+def counters_of(texts):
+    """The counters of CPUs: how many records were overwritten, lost by a commit, and dropped."""
+    counters = {}
+    for text in texts:
+        numbers = [trace_dat.number(trace_dat.value(text, key), NUMBERS) for key in COUNTERS]
+        if None not in numbers[:2]:
+            counters.setdefault(numbers[0], [number or 0 for number in numbers[1:]])
+    return counters
+
+
+def parts_of(dat, buffer, length):
+    """The parts of this buffer in a file of trace-cmd that has so many bytes."""
     parts = []
-    for name, page_size, cpus in buffers:
-        if name:
+    for name, page_size, cpus in dat.buffers:
+        if name != buffer:
             continue
         if not 4096 <= page_size <= 65536:
             raise Refused(f"trace.dat: BadPage {page_size}")
@@ -135,24 +171,19 @@ def dat_parts(file):
             if cpu >= CPUS:
                 raise Refused(f"trace.dat: BadCpu {cpu}")
             parts.append((cpu, page_size, pages))
-    if sum(len(pages) for _, _, pages in parts) > len(file):
+    if sum(len(pages) for _, _, pages in parts) > length:
         raise Refused("trace.dat: Overlap")
-    counters = {}
-    for text in main_texts(texts):
-        cpu = trace_dat.number(trace_dat.value(text, b"CPU: "), NUMBERS)
-        overrun = trace_dat.number(trace_dat.value(text, b"overrun: "), NUMBERS)
-        if None not in (cpu, overrun):
-            counters.setdefault(cpu, overrun)
-    return parts, formats, counters
+    return parts
 
 
-def settled(cpu, parts, overrun):
+def settled(cpu, parts, counters, is_raw):
     """The CPU, with the number of its only loss of unknown number, if its counters have it."""
     found = Cpu(cpu)
     for size, pages in parts:
-        found.add_part(size, pages)
-    lost = sum(last - first + 1 for first, last in found.missing) - len(found.unknown)
-    if overrun is None or len(found.unknown) != 1 or found.damaged or overrun <= lost:
+        found.add_part(size, pages, is_raw=is_raw)
+    lost = found.lost() - len(found.unknown)
+    overrun = counters[0] if counters else 0
+    if len(found.unknown) != 1 or found.damaged or overrun <= lost:
         return found
     told = Cpu(cpu)
     for size, pages in parts:
@@ -161,26 +192,49 @@ def settled(cpu, parts, overrun):
     return told
 
 
-def read_files(files, page):
-    """The CPUs that the files have, and the formats of events."""
-    cpus, formats = {}, []
-    for cpu, file in files:
-        parts, counters = [(cpu, page, file)], {}
-        if resembles_dat(file):
-            parts, found, counters = dat_parts(file)
-            formats += found
-        if len(files) > 1:
-            counters = {}
+class Files:
+    """What files have: the CPUs of a buffer, in pages of this size if they are raw, the counters of these, if there is
+    one file alone, and texts of the kernel: formats of events, and lists of processes and of symbols. Of instances
+    those that aren't listed are known by their names."""
+
+    def __init__(self, files, page, buffer):
+        self.buffer, self.is_alone, self.machine, self.has_buffer = buffer, len(files) == 1, None, False
+        self.cpus, self.counters, self.formats, self.tasks, self.symbols, self.others = {}, {}, [], [], [], []
+        for cpu, file in files:
+            if buffer or resembles_dat(file):
+                self.add_dat(file)
+            else:
+                self.add_parts([(cpu, page, file)], True)
+
+    def add_dat(self, file):
+        try:
+            dat = trace_dat.reading(file)
+        except trace_dat.Fault as fault:
+            raise Refused("trace.dat: %s at %d" % fault.args) from fault
+        parts = parts_of(dat, self.buffer, len(file))
+        if None not in (self.machine, dat.machine) and self.machine != dat.machine:
+            raise Refused("trace.dat: OtherHost")
+        self.machine = dat.machine if self.machine is None else self.machine
+        names = [name for name, _, _ in dat.buffers]
+        self.has_buffer = self.has_buffer or self.buffer in names
+        self.others += [name for name in names if name not in (b"", self.buffer)]
+        self.formats += dat.formats
+        self.tasks += dat.tasks
+        self.symbols += dat.symbols
+        if self.is_alone:
+            self.counters = counters_of(texts_of(self.buffer, dat.counters))
+        self.add_parts(parts, False)
+
+    def add_parts(self, parts, is_raw):
         of_cpu = {}
         for number, size, pages in parts:
             of_cpu.setdefault(number, []).append((size, pages))
         for number, own in of_cpu.items():
-            if len(files) == 1:
-                cpus[number] = settled(number, own, counters.get(number))
+            if self.is_alone:
+                self.cpus[number] = settled(number, own, self.counters.get(number), is_raw)
                 continue
             for size, pages in own:
-                cpus.setdefault(number, Cpu(number)).add_part(size, pages)
-    return cpus, formats
+                self.cpus.setdefault(number, Cpu(number)).add_part(size, pages, is_raw=is_raw)
 
 
 # ---- texts
@@ -188,10 +242,11 @@ def read_files(files, page):
 
 class Format:
     """What the last format of an event's number says: its system and its name, and its fields, or at which offset it is
-    malformed."""
+    malformed; and the tables of these."""
 
     def __init__(self, system, name, text):
         self.system, self.name, self.fields, self.malformed = system, name, None, None
+        self.table = cache(partial(names.table_of, text))
         try:
             self.fields = fields.fields_of(text)
         except fields.Malformed as malformed:
@@ -234,18 +289,43 @@ def quoted(text):
     return bytes(out) + b'"'
 
 
-class Event:
-    """The event of a record, with its process, and its text if it is a marker; or with the values of its fields."""
+class Known:
+    """What is known of events, by these formats, and what names numbers: the names of processes, if they are asked for,
+    and the functions of the kernel."""
 
-    def __init__(self, data, events, has_fields):
-        self.pid = self.name = self.text = self.values = None
+    def __init__(self, formats, has_fields, tasks, symbols):
+        self.events, self.has_fields = events_of(formats), has_fields
+        self.tasks = {} if tasks is None else names.tasks_of(tasks)
+        self.symbols = None if symbols is None else names.Symbols(symbols)
+
+    def malformed(self):
+        """What is said of formats that are malformed."""
+        for event in self.events.values():
+            if event.malformed is not None:
+                yield f"the format of {event.shown()} is malformed at byte {event.malformed}".encode()
+
+    def names(self, event, field, number):
+        """The names of a field's number."""
+        if self.symbols and event.system == b"ftrace" and field.name in names.ADDRESSES:
+            return self.symbols.names(number)
+        table = event.table(field.name)
+        return table.names(number) if table else []
+
+
+class Event:
+    """The event of a record, with its process and the name of that, and its text if it is a marker; or with the values
+    of its fields."""
+
+    def __init__(self, data, known):
+        self.pid = self.task = self.name = self.text = self.values = None
         if len(data) >= 8:
             kind, self.pid = struct.unpack_from("<H2xi", data)
-            found = events.get(kind)
+            found, task = known.events.get(kind), known.tasks.get(self.pid)
+            self.task = None if task is None else quoted(task)
             self.name = found.shown() if found else kind
-            if has_fields:
-                self.values = fields.Values(found.fields, data) if found and found.fields is not None else None
-            elif found and (found.system, found.name) == (b"ftrace", b"print"):
+            if known.has_fields and found and found.fields is not None:
+                self.values = fields.Values(found.fields, data, partial(known.names, found))
+            elif not known.has_fields and found and (found.system, found.name) == (b"ftrace", b"print"):
                 self.text = quoted(data[16:].split(b"\0")[0])
 
     def is_whole(self):
@@ -254,25 +334,26 @@ class Event:
 
 
 class Lines:
-    """How records are listed: as text or JSON, with names or fields by these events, or without."""
+    """How records are listed: as text or JSON, with what is known of their events, or without."""
 
-    def __init__(self, json, events, has_fields):
-        self.of = self.json_line if json else self.text_line
-        self.events, self.has_fields = events, has_fields
+    def __init__(self, json, known):
+        self.of, self.known = self.json_line if json else self.text_line, known
         # Of how many records not all fields were there.
         self.cut = 0
 
     def event(self, data):
-        event = Event(data, self.events or {}, self.has_fields)
+        event = Event(data, self.known)
         self.cut += event.values is not None and not event.is_whole()
         return event
 
     def text_line(self, record):
         moment, cpu, number, data = record
         words, payload = [b"%d %d %d" % (cpu, number, moment)], [data.hex().encode() or b"-"]
-        if self.events is not None:
+        if self.known:
             event = self.event(data)
-            words.append(b"- -" if event.pid is None else f"{event.pid} {event.name}".encode())
+            words.append(b"-" if event.pid is None else b"%d" % event.pid)
+            words += [event.task] if event.task is not None else []
+            words.append(b"-" if event.pid is None else str(event.name).encode())
             words += [event.text] if event.text is not None else []
             words += event.values.text(quoted) if event.values else []
             payload = [] if event.is_whole() else payload
@@ -282,11 +363,13 @@ class Lines:
         moment, cpu, number, data = record
         keys = [b'"cpu":%d,"number":%d,"time":%d' % (cpu, number, moment)]
         payload = [b'"data":"%s"' % data.hex().encode()]
-        if self.events is not None:
+        if self.known:
             event = self.event(data)
             if event.pid is not None:
                 name = event.name if isinstance(event.name, int) else f'"{event.name}"'
-                keys.append(f'"pid":{event.pid},"event":{name}'.encode())
+                keys.append(b'"pid":%d' % event.pid)
+                keys += [b'"task":' + event.task] if event.task is not None else []
+                keys.append(f'"event":{name}'.encode())
             keys += [b'"text":' + event.text] if event.text is not None else []
             keys += event.values.json(quoted) if event.values else []
             payload = [] if event.is_whole() else payload
@@ -295,29 +378,48 @@ class Lines:
 
 class Collected:
     """What is listed of files, each with the CPU that it is of if it is raw: the exit status, the output, and what is
-    said of fields on standard error."""
+    said of instances, events and fields on standard error.
 
-    def __init__(self, files, page=4096, json=False, names=False, formats=(), has_fields=False):
+    `formats` are those of a folder, `tasks` and `symbols` texts of files in which the names of processes and of
+    functions are, or None if these names aren't asked for. The buffer that is listed is `instance`; of it the CPUs and
+    processes of these sets, the moments from `since` to `until`, and the events that the pattern `event` names.
+    """
+
+    def __init__(self, files, page=4096, json=False, names=False, formats=(), has_fields=False, *, tasks=None,
+                 symbols=None, instance=b"", event=None, **part):
         self.status, self.output, self.errors = 1, b"", b""
+        has_fields = has_fields or symbols is not None
         try:
-            cpus, found = read_files(files, page)
+            found = Files(files, page, instance)
         except Refused as refused:
             self.output = f"{refused}\n".encode()
             return
-        events = events_of([*found, *formats]) if names or has_fields else None
-        order = [cpus[number] for number in sorted(cpus)]
-        lines = Lines(json, events, has_fields)
-        self.output = b"".join(lines.of(record) for record in sorted(each for cpu in order for each in cpu.records))
-        self.output += lines_below(order, json)
-        said = [f"the format of {event.shown()} is malformed at byte {event.malformed}" for event in
-                (events if has_fields else {}).values() if event.malformed is not None]
-        said += [f"records with a field that is not whole: {lines.cut}"] * bool(lines.cut)
-        self.errors = "".join(f"tracering: {each}\n" for each in said).encode()
-        self.status = int(bool(said) or any(cpu.damaged for cpu in order))
+        known = Known(
+            [*found.formats, *formats],
+            has_fields,
+            None if tasks is None else [*found.tasks, *tasks],
+            None if symbols is None else [*found.symbols, *symbols],
+        )
+        if event is not None:
+            part["events"] = {kind for kind, own in known.events.items() if is_named(event, own.system, own.name)}
+        selection = Selection(**part)
+        order = [found.cpus[number] for number in sorted(found.cpus)]
+        lines = Lines(json, known if names or has_fields or tasks is not None else None)
+        records = sorted(each for cpu in order for each in cpu.records)
+        self.output = b"".join(lines.of(record) for record in records if selection.has(record))
+        self.output += lines_below(order, json, selection) + loss_sums(found, json, selection)
+        lacking = [b"no event is named by " + event] if event is not None and not selection.events else []
+        lacking += known.malformed() if has_fields else []
+        lacking += [b"records with a field that is not whole: %d" % lines.cut] * bool(lines.cut)
+        missing = [b"there is no instance " + instance] if instance and not found.has_buffer else []
+        others = b" ".join(shown(name).encode() for name in found.others)
+        instances = [b"instances that are not listed: %d %s" % (len(found.others), others)] if found.others else []
+        self.errors = b"".join(b"tracering: %s\n" % each for each in [*missing, *instances, *lacking])
+        self.status = int(bool(missing or lacking) or any(cpu.damaged for cpu in order))
 
 
-def lines_below(order, json):
-    """The lines of what is missing, unknown and damaged."""
+def lines_below(order, json, selection):
+    """The lines of what is missing, unknown and damaged, as far as it may be of what is selected."""
     kinds = {
         "missing": ('{"cpu":%d,"missing":[%d,%d]}' if json else "missing %d %d-%d"),
         "unknown": ('{"cpu":%d,"unknown":%d}' if json else "unknown %d %d"),
@@ -325,7 +427,22 @@ def lines_below(order, json):
             '{"cpu":%d,"damaged":%d,"page":%d,"byte":%d,"fault":"%s"}' if json else "damaged %d %d page %d byte %d: %s"
         ),
     }
-    rows = [("missing", run) for cpu in order for run in ((cpu.cpu, *run) for run in cpu.runs())]
-    rows += [("unknown", (cpu.cpu, number)) for cpu in order for number in cpu.unknown]
-    rows += [("damaged", (cpu.cpu, *page)) for cpu in order for page in cpu.damaged]
+    windows = [(cpu, selection.window(cpu.records)) for cpu in order if selection.has_cpu(cpu.cpu)]
+    rows = [("missing", (cpu.cpu, *run)) for cpu, own in windows for run in cpu.runs() if own.has_run(run)]
+    rows += [("unknown", (cpu.cpu, place)) for cpu, own in windows for place in cpu.unknown if own.has_place(place)]
+    rows += [("damaged", (cpu.cpu, *page)) for cpu, own in windows for page in cpu.damaged if own.has_place(page[0])]
     return b"".join((kinds[kind] % row).encode() + b"\n" for kind, row in rows)
+
+
+def loss_sums(found, json, selection):
+    """A line for each CPU that lost records, with what is missing and unknown of it, and what the kernel counted: of
+    the whole, so it isn't there if moments are selected."""
+    object_form = '{"losses":{"cpu":%d,"missing":%d,"unknown":%d,"overrun":%d,"commit_overrun":%d,"dropped":%d}}'
+    form = object_form if json else "losses %d %d %d %d %d %d"
+    rows = []
+    for cpu, counted in sorted(found.counters.items()):
+        own = found.cpus.get(cpu, Cpu(cpu))
+        row = cpu, own.lost(), len(own.unknown), *counted
+        if cpu < CPUS and selection.has_cpu(cpu) and selection.has_all_moments() and any(row[1:]):
+            rows.append(row)
+    return b"".join((form % row).encode() + b"\n" for row in rows)

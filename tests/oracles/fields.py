@@ -158,9 +158,10 @@ def fields_of(text):
 
 
 class Values:
-    """The fields of a payload that are shown, in their order, each with its value or None."""
+    """The fields of a payload that are shown, in their order, each with its value or None, and with the names of its
+    number: those that `named` gives, each with a method `shown`."""
 
-    def __init__(self, fields, payload):
+    def __init__(self, fields, payload, named):
         self.found = []
         for field in fields:
             if field.is_shown():
@@ -168,24 +169,33 @@ class Values:
                     value = field.value_of(payload)
                 except Uncut:
                     value = None
-                self.found.append((field, value))
+                has_number = field.kind == "number" and value is not None
+                self.found.append((field, value, named(field, value) if has_number else []))
 
     def is_whole(self):
-        return all(value is not None for _, value in self.found)
+        return all(value is not None for _, value, _ in self.found)
 
     def text(self, quoted):
         """The words of a line."""
         return [
             b"%s=%s" % (field.name, b"!" if value is None else field.shown(value, False, quoted))
-            for field, value in self.found
+            + (b":" + b"|".join(name.shown(False, quoted) for name in names) if names else b"")
+            for field, value, names in self.found
         ]
 
     def json(self, quoted):
         """The members of a line."""
         members = [
             b'"%s":%s' % (field.name, field.shown(value, True, quoted))
-            for field, value in self.found
+            for field, value, _ in self.found
             if value is not None
         ]
-        uncut = [b'"%s"' % field.name for field, value in self.found if value is None]
-        return [b'"fields":{%s}' % b",".join(members)] + [b'"uncut":[%s]' % b",".join(uncut)] * bool(uncut)
+        named = [
+            b'"%s":[%s]' % (field.name, b",".join(name.shown(True, quoted) for name in names))
+            for field, _, names in self.found
+            if names
+        ]
+        uncut = [b'"%s"' % field.name for field, value, _ in self.found if value is None]
+        parts = [b'"fields":{%s}' % b",".join(members)]
+        parts += [b'"names":{%s}' % b",".join(named)] * bool(named)
+        return parts + [b'"uncut":[%s]' % b",".join(uncut)] * bool(uncut)

@@ -4,7 +4,7 @@ docs/formats says is printed of them, in "Streams of parcels" and "Fleets".
     PYTHONPATH=tests python3 -m oracles.fleet [--json] [--parcels | --keep FILE] FILE..     - is standard input
 
 What a fleet has, misses and lacks is worked out from the set of its pieces alone, whatever their order and however
-often each is there. The order decides which piece is new, and which one contradicts those before it.
+often each is there. The order decides which piece is kept, and which one contradicts those before it.
 """
 
 import json
@@ -20,7 +20,7 @@ MAGIC, VERSION = b"TRPARCEL", 1
 HEAD, SUM, LEAST, MOST = 32, 8, 56, 65_608
 KINDS = ("parcel", "end", "forgotten", "undelivered")
 # The lines below the records, kind by kind.
-BELOW = ("missing", "unknown", "undelivered", "forgotten")
+BELOW = ("missing", "unknown", "undelivered", "forgotten", "hidden")
 
 
 # ---- the checksum
@@ -36,8 +36,9 @@ def by_bits(byte):
 TABLE = [by_bits(byte) for byte in range(256)]
 
 
-def crc32c(data):
-    remainder = 0xFFFF_FFFF
+def crc32c(data, before=0):
+    """The checksum of these bytes after others that have that one."""
+    remainder = before ^ 0xFFFF_FFFF
     for byte in data:
         remainder = remainder >> 8 ^ TABLE[(remainder ^ byte) & 255]
     return remainder ^ 0xFFFF_FFFF
@@ -161,14 +162,14 @@ class Kept:
         self.parcels, self.bound, self.end, self.given_up = Collector(), 0, None, []
 
     def add(self, piece):
-        """Adds what a piece says. The answer is whether it is new."""
+        """Adds what a piece says. The answer is whether its bytes are kept."""
         if piece.parcel:
             return self.add_parcel(piece.parcel)
         return getattr(self, f"add_{piece.kind}")(*piece.numbers)
 
     def add_parcel(self, parcel):
         if self.bound and parcel.past <= self.bound:
-            return False
+            return True
         if self.end is not None and max(self.end, parcel.low) < parcel.past:
             raise Refused("BeyondEnd", max(self.end, parcel.low))
         odds = min(self.parcels.odds(parcel), default=None)
@@ -253,6 +254,10 @@ class Told:
     def is_forgotten(self, number):
         return number < self.bound
 
+    def is_hidden(self, number):
+        """A parcel has its record, which the bound alone keeps out of the listing."""
+        return number < self.bound and is_in(self.had, number)
+
     def runs(self, kind):
         borders = [0, self.bound, self.expected, *borders_of(self.had + self.missed + self.given_up)]
         return runs_where(getattr(self, f"is_{kind}"), borders)
@@ -289,9 +294,13 @@ def run_line(is_json, kind, stream, cpu, first, last):
     return f"{kind} {name_of(stream, cpu)} {first}-{last}"
 
 
-def listing(pieces, is_json):
-    """The lines of pieces that don't contradict each other."""
-    told = told_of(pieces)
+def hides(told):
+    """Whether a mark hides a record."""
+    return any(found.runs("hidden") for found in told.values())
+
+
+def listing(told, is_json):
+    """The lines of pieces that don't contradict each other, of which this is told."""
     records = sorted(
         (moment, *place, number, payload)
         for place, found in told.items()
@@ -349,18 +358,19 @@ def all_pieces(inputs):
             index, offset = index + 1, offset + len(piece.data)
 
 
-def new_pieces(inputs, taken):
-    """Puts all pieces into `taken`, and gives the bytes of each one that is new when it comes."""
+def kept_pieces(inputs, taken):
+    """Puts all pieces into `taken`, and gives the bytes of each one that is new when it comes, or ends below the bound of
+    its CPU."""
     places = {}
     for at, index, offset, piece in all_pieces(inputs):
         try:
-            is_new = places.setdefault(piece.place, Kept()).add(piece)
+            is_kept = places.setdefault(piece.place, Kept()).add(piece)
         except Refused as refused:
             cause, number = refused.args
             name = name_of(*piece.place)
             raise Stopped(f"stream: {cause} {name} {number} at {offset} piece {index}", at) from refused
         taken.append(piece)
-        if is_new:
+        if is_kept:
             yield piece.data
 
 
@@ -375,9 +385,10 @@ class Collected:
                 for at, _, offset, piece in all_pieces(inputs):
                     self.lines.append(piece_line(is_json, at, offset, piece))
             else:
-                for data in new_pieces(inputs, taken):
+                for data in kept_pieces(inputs, taken):
                     self.kept += data
-                self.lines = listing(taken, is_json)
+                told = told_of(taken)
+                self.status, self.lines = int(hides(told)), listing(told, is_json)
         except Stopped as stopped:
             line, self.faulty = stopped.args
             self.status, self.lines = 1, [*self.lines, line]

@@ -1,9 +1,30 @@
 """A plain reader of the files of trace-cmd, to compare with `rows`: it steps through the bytes by offsets, as
 docs/formats/files.md says, and says what a file holds in the same words."""
 
+from dataclasses import dataclass, field
+
 
 class Fault(Exception):
     """The first thing that is wrong with a file, and its offset."""
+
+
+@dataclass
+class Contents:
+    """What a file holds: formats of events, each with its system; trace buffers; texts of counters, of processes and of
+    symbols; and what the machine is."""
+
+    formats: list
+    buffers: list = field(default_factory=list)
+    counters: list = field(default_factory=list)
+    tasks: list = field(default_factory=list)
+    symbols: list = field(default_factory=list)
+    machine: bytes | None = None
+
+    def add_options(self, chosen):
+        self.counters += [body.value() for kind, body in chosen if kind == 2]
+        for kind, body in chosen:
+            if kind == 5:
+                self.machine = body.value().split(b"\0")[0]
 
 
 class Bytes:
@@ -92,21 +113,23 @@ def version_six(part, page_size):
     for title in b"header_page\0", b"header_event\0":
         part.expect(title, "Misplaced")
         part.block(8)
-    found = formats(part, b"ftrace")
-    found += systems(part)
-    for length in 4, 4, 8:
-        part.block(length)
+    found = Contents(formats(part, b"ftrace"))
+    found.formats += systems(part)
+    found.symbols.append(part.block(4).value())
+    part.block(4)
+    found.tasks.append(part.block(8).value())
     count = part.number(4)
     chosen = []
     if part.file[part.at : part.end].startswith(b"options  \0"):
         part.take(10)
         chosen = options(part)
-    buffers = [ranges(part, b"", page_size, count)]
+    found.buffers.append(ranges(part, b"", page_size, count))
     for kind, body in chosen:
         if kind == 3:
             there = body.pointed()
-            buffers.append(ranges(there, body.text(), page_size, count))
-    return found, buffers, chosen
+            found.buffers.append(ranges(there, body.text(), page_size, count))
+    found.add_options(chosen)
+    return found
 
 
 def chain(pointer):
@@ -141,17 +164,21 @@ def version_seven(part):
     part.expect(b"none\0", "Compressed")
     part.text()
     chosen = chain(part)
-    found = []
+    found = Contents([])
     for kind, body in chosen:
         if kind == 17:
-            found += formats(section(body.pointed(), 17), b"ftrace")
+            found.formats += formats(section(body.pointed(), 17), b"ftrace")
         elif kind == 18:
-            found += systems(section(body.pointed(), 18))
-    return found, [stated_buffer(body) for kind, body in chosen if kind == 3], chosen
+            found.formats += systems(section(body.pointed(), 18))
+    found.buffers += [stated_buffer(body) for kind, body in chosen if kind == 3]
+    found.symbols += [section(body.pointed(), 19).block(4).value() for kind, body in chosen if kind == 19]
+    found.tasks += [section(body.pointed(), 21).block(8).value() for kind, body in chosen if kind == 21]
+    found.add_options(chosen)
+    return found
 
 
 def reading(file):
-    """The formats, the buffers and the counters of a file."""
+    """What a file holds."""
     part = Bytes(file, 0, len(file))
     part.expect(b"\x17\x08Dtracing", "NotTraceDat")
     version = file[part.at : part.at + 2]
@@ -160,8 +187,7 @@ def reading(file):
     part.at += 2
     part.expect(b"\0\x08", "OtherMachine")
     page_size = part.number(4)
-    found, buffers, chosen = version_six(part, page_size) if version == b"6\0" else version_seven(part)
-    return found, buffers, [body.value() for kind, body in chosen if kind == 2]
+    return version_six(part, page_size) if version == b"6\0" else version_seven(part)
 
 
 def value(text, key):
@@ -185,20 +211,20 @@ def spelled(text):
 def answer(file):
     """The lines that `rows` writes of a file."""
     try:
-        found, buffers, counters = reading(file)
+        found = reading(file)
     except Fault as fault:
         return ["  fault %s %d" % fault.args]
-    lines = [f"  format {spelled(system)} {spelled(text)}" for system, text in found]
+    lines = [f"  format {spelled(system)} {spelled(text)}" for system, text in found.formats]
     events = {}
-    for system, text in found:
+    for system, text in found.formats:
         kind, name = number(value(text, b"ID: "), 1 << 16), value(text, b"name: ")
         if kind is not None and name is not None:
             events[kind] = (system, name)
     lines += [f"  event {kind} {spelled(events[kind][0])} {spelled(events[kind][1])}" for kind in sorted(events)]
-    for name, page_size, cpus in buffers:
+    for name, page_size, cpus in found.buffers:
         lines.append(f"  buffer {spelled(name)} {page_size}")
         lines += [f"  pages {cpu} {spelled(pages)}" for cpu, pages in cpus]
-    for text in counters:
+    for text in found.counters:
         stated = number(value(text, b"CPU: "), 1 << 64), number(value(text, b"overrun: "), 1 << 64)
         lines.append(f"  counters {spelled(text)} " + ("none" if None in stated else "%d %d" % stated))
     return lines

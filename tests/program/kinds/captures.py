@@ -1,4 +1,5 @@
-"""Captures, which `collect` reads: raw pages, those of running kernels, and files of trace-cmd, in one to three files."""
+"""Captures, which `collect` lists, all or a part: raw pages, those of running kernels, and files of trace-cmd, in one to
+three files."""
 
 import random
 from itertools import count
@@ -6,7 +7,8 @@ from itertools import count
 from made.captures import Case, Source, write_formats
 
 # How often each of these is printed at least, in every thousand captures.
-OFTEN = {"records": 200, "missing": 100, "unknown": 80, "damaged": 150, "numbers": 10, "trace.dat:": 30}
+OFTEN = {"records": 120, "missing": 100, "unknown": 80, "damaged": 150, "numbers": 10, "trace.dat:": 30, "losses": 5}
+OFTEN |= {"pages:": 10, "OtherHost": 5}
 ALSO = ()
 
 

@@ -11,7 +11,7 @@ from oracles.fleet import Collected, all_pieces, crc32c, mark_bytes, name_of, se
 
 FORMS = ([], [], ["--keep"], ["--keep"], ["--json"], ["--json"], ["--parcels"], ["--parcels", "--json"])
 # How often each of these is printed at least, in every thousand streams.
-OFTEN = {"records": 100, "missing": 100, "unknown": 100, "undelivered": 50, "forgotten": 50, "Clash": 8, "Cut": 8}
+OFTEN = {"records": 100, "missing": 100, "unknown": 100, "undelivered": 50, "forgotten": 50, "hidden": 20, "Clash": 8, "Cut": 8}
 OFTEN |= {"BadSum": 20, "TakenAndMissing": 3, "BeyondEnd": 20, "OtherEnd": 2, "NotPacked": 2, "BadVersion": 2}
 OFTEN |= {"BadLength": 3, "BadKind": 2, "BadMark": 10, "Loose": 2, "Parcel": 10}
 
@@ -48,19 +48,20 @@ def check_laws(source, inputs, is_true):
     """What the plain program says of the same pieces otherwise, and of what it keeps."""
     wanted = Collected(inputs)
     if is_true:
-        check(wanted.status == 0, f"true pieces: {wanted.text}", inputs)
+        check(wanted.faulty is None, f"true pieces: {wanted.text}", inputs)
         shares = Collected([Collected([data]).kept for data in inputs])
         check(shares.text == wanted.text, "what is kept of each file prints otherwise", inputs)
     elif any(Collected([data], parcels=True).status for data in inputs):
         return
     for what, given in others(source, inputs):
         found = Collected(given)
-        if found.status == wanted.status:
-            check(found.status or found.text == wanted.text, f"{what} changes what is printed", inputs)
+        if (found.faulty is None) == (wanted.faulty is None):
+            is_same = (found.status, found.text) == (wanted.status, wanted.text)
+            check(is_same or found.faulty is not None, f"{what} changes what is printed", inputs)
         else:
-            faulty = found if found.status else wanted
+            faulty = wanted if found.faulty is None else found
             check(is_below_bound(inputs, faulty.text), f"{what} decides on a fault", inputs)
-    if wanted.status == 0:
+    if wanted.faulty is None:
         again = Collected([wanted.kept])
         check(again.text == wanted.text and again.kept == wanted.kept, "what is kept prints otherwise", inputs)
 
@@ -117,10 +118,17 @@ HAND = [
     ([parcel(7, 0, 0, 4) + mark_bytes("undelivered", 7, 0, 1, 3) + mark_bytes("forgotten", 7, 0, 2)
       + mark_bytes("undelivered", 7, 0, 6, 9)],
      [f"{A} 2 102 02020202", f"{A} 3 103 03030303", f"undelivered {A} 1-1", f"undelivered {A} 6-8",
-      f"forgotten {A} 0-1"]),
-    # A parcel below a bound isn't looked at; one at the bound is.
+      f"forgotten {A} 0-1", f"hidden {A} 0-1"]),
+    # What a parcel below a bound says isn't looked at, but its numbers are hidden; one at the bound is looked at.
     ([mark_bytes("end", 7, 0, 3) + mark_bytes("forgotten", 7, 0, 3) + parcel(7, 0, 0, 3, moment=5)],
-     [f"forgotten {A} 0-2"]),
+     [f"forgotten {A} 0-2", f"hidden {A} 0-2"]),
+    # The mark may come after the parcels; two that touch are one run. What the bound leaves, and what isn't had, isn't
+    # hidden.
+    ([parcel(7, 0, 4, 6) + parcel(7, 0, 2, 4, missed=1) + parcel(3, 1, 0, 2) + mark_bytes("forgotten", 7, 0, 5)],
+     [f"{B} 0 100 00000000", f"{B} 1 101 01010101", f"{A} 5 105 05050505", f"forgotten {A} 0-4", f"hidden {A} 2-4"]),
+    ([mark_bytes("forgotten", 7, 0, 1 << 63), parcel(7, 0, 0, 2) + parcel(7, 0, 5, 5, missed=2)
+      + parcel(7, 0, 7, 8)],
+     [f"forgotten {A} 0-{(1 << 63) - 1}", f"hidden {A} 0-1", f"hidden {A} 7-7"]),
     ([mark_bytes("forgotten", 7, 0, 3), parcel(7, 0, 0, 4) + parcel(7, 0, 0, 4, moment=5)],
      [f"stream: Clash {A} 0 at 120 piece 1"]),
     ([parcel(7, 0, 1, 5), parcel(7, 0, 3, 4, missed=1)], [f"stream: TakenAndMissing {A} 2 at 0 piece 0"]),
