@@ -1,7 +1,8 @@
 """Reads what `tracering replay`, `run` and `collect` print, for the programs here that write it in other forms.
 
-`Reader` reads the lines, in the order in which they have to be, and gives each to the trace that it is of. A trace is
-made by `make(kind, name)`: ("captures", None), ("collector", K) or ("stream", ID). It has `first`, the moment of its
+`Reader` reads the lines, in the order in which they have to be, and gives each to the trace that it is of. What
+`collect --follow` printed is given as `collect` prints it: a record that comes late is put at its place by time, and
+what was lost comes below all records. A trace is made by `make(kind, name)`: ("captures", None), ("collector", K) or ("stream", ID). It has `first`, the moment of its
 first record or None, and these methods; CPUs and numbers are within their bounds.
 
     put_record(cpu, number, moment, event, payload)   event is an `Event`, or None; payload is bytes
@@ -16,6 +17,8 @@ first record or None, and these methods; CPUs and numbers are within their bound
 import json
 import re
 from enum import IntEnum
+
+import late
 
 CPUS, NUMBERS, PROCESSES = 256, 1 << 64, 1 << 31
 # The name of an event; a text with its escapes; the value of a field, with the names behind it. Of an alternative that
@@ -36,6 +39,9 @@ RECORD = re.compile(
 FIELDS = re.compile(rb"([A-Za-z_]\w*)=(" + VALUE + rb")")
 # A line with the three numbers of a record; most of what is behind these comes again and again.
 NUMBERED = re.compile(rb"^(\d{1,3}) (\d{1,20}) (\d{1,20})((?: .*)?)\n", re.MULTILINE)
+# A line that begins with no digit, and any line.
+OTHER = re.compile(rb"^[^\d\n].*\n", re.MULTILINE)
+LINE = re.compile(rb".*\n")
 BYTES = re.compile(PAYLOAD)
 # How that begins if the process has a name: behind this is the name of the event.
 TASK_AND_EVENT = re.compile(rb' -?\d{1,10} "' + TEXT + rb'" (' + NAME + rb") ")
@@ -60,6 +66,7 @@ LOSSES = re.compile(rb"losses (\d{1,3})" + rb" (\d{1,20})" * len(COUNTERS) + rb"
 LOSSES_JSON = re.compile(
     rb'\{"losses":\{"cpu":(\d{1,3})' + b"".join(b',"%s":(\\d{1,20})' % name.encode() for name in COUNTERS) + rb"\}\}\n"
 )
+LATE, LATE_JSON = re.compile(late.LATE), re.compile(late.LATE_JSON)
 COLLECTOR = re.compile(rb"collector (\d{1,2})\n")
 MISSING = re.compile(rb"missing (\d{1,3}) (\d{1,20})-(\d{1,20})\n")
 UNKNOWN = re.compile(rb"unknown (\d{1,3}) (\d{1,20})\n")
@@ -126,6 +133,15 @@ class ShapedEvent:
         return tuple(zip(self.shape.names, self.values))
 
 
+class Record:
+    """A record: its place by time, and what a trace is given of it."""
+
+    __slots__ = ("place", "words")
+
+    def __init__(self, cpu, number, moment, event, payload):
+        self.place, self.words = (moment, cpu, number), (cpu, number, moment, event, payload)
+
+
 class Shape:
     """What some records of one event have in common: the event's name, whether their task has one, the names of their
     fields, and the kinds of these, "q" of whole numbers of up to 18 digits, "x" of addresses, None of other values. One
@@ -170,6 +186,11 @@ class Reader:
 
     def __init__(self, make):
         self.make, self.trace, self.line = make, None, 0
+        # The late records that aren't at their place yet, the last one by time first; and of which CPU and number the
+        # next line has to be, and what line says so, if one does.
+        self.late, self.awaited = [], None
+        # What captures have lost, by the kind of its line; and of each kind and CPU the last key.
+        self.losses, self.last_losses = [], {}
         # The traces of a fleet, by the ids of their streams.
         self.streams = {}
         # The collector whose lines are read, if these are a collector's.
@@ -182,7 +203,8 @@ class Reader:
         self.shapes, self.task_shapes = {}, {}
 
     def read(self, file):
-        rest = b""
+        file, rest = late.readable_twice(file), b""
+        self.find_late(file)
         while data := file.read(PIECE):
             data = rest + data
             end = data.rfind(b"\n") + 1
@@ -190,21 +212,52 @@ class Reader:
             self.read_lines(data[:end])
         if rest:
             self.read_line(rest)
+        self.end_awaited(None)
         self.end_trace()
         self.end_streams()
         if self.trace is None and not self.streams:
             raise Bad("the text has no record, nor the line of a collector")
 
+    def find_late(self, file):
+        """Finds the records that come late. What isn't one is refused when its line is read."""
+        for line, place, below in late.announced(file):
+            try:
+                record = self.record_of(below)
+            except Bad:
+                continue
+            if record and record.place[1:] == place:
+                self.late.append((record.place, line, record))
+        self.late.sort(key=lambda found: found[0], reverse=True)
+
     def read_lines(self, data):
-        """Reads whole lines: all at once if each is a record's."""
+        """Reads whole lines: those of records that are one below the other at once."""
+        records, at = NUMBERED.findall(data), 0
+        if len(records) == data.count(b"\n") and not self.awaited:
+            self.put_records(records)
+            return
+        for other in OTHER.finditer(data):
+            self.read_numbered(data[at : other.start()])
+            self.read_line(other[0])
+            at = other.end()
+        self.read_numbered(data[at:])
+
+    def read_numbered(self, data):
+        """Reads whole lines that begin as those of records."""
+        if self.awaited and data:
+            end = data.index(b"\n") + 1
+            self.read_line(data[:end])
+            data = data[end:]
         records = NUMBERED.findall(data)
         if len(records) == data.count(b"\n"):
             self.put_records(records)
             return
-        for line in data.splitlines(keepends=True) if b"\r" not in data else re.findall(rb"[^\n]*\n", data):
+        for line in LINE.findall(data):
             self.read_line(line)
 
     def read_line(self, line):
+        if self.awaited:
+            self.end_awaited(line)
+            return
         found = NUMBERED.fullmatch(line)
         if found:
             self.put_records([found.groups()])
@@ -234,6 +287,42 @@ class Reader:
     def is_listing(self):
         return self.trace is not None and self.collector is None
 
+    def come_late(self, cpu, number):
+        """The next line is that of a late record."""
+        if self.collector is not None:
+            raise Bad("a line of captures below a collector")
+        self.own_trace()
+        self.awaited = self.line, (int(cpu), int(number))
+
+    def end_awaited(self, line):
+        """Looks at the line that has to be that of a late record, which was found before."""
+        if not self.awaited:
+            return
+        (said, place), self.awaited, record = self.awaited, None, None
+        if line and line.endswith(b"\n"):
+            self.line += 1
+            record = self.record_of(line)
+        if not record or record.place[1:] != place:
+            raise Bad(said, "below this line isn't the record that comes late")
+
+    def record_of(self, line):
+        """The record of a line, if this has one."""
+        found = NUMBERED.fullmatch(line)
+        if found:
+            cpu, number, moment, rest = found.groups()
+            return record_at(cpu, number, moment, *self.said_by(rest))
+        found = RECORD_JSON.fullmatch(line)
+        return record_of_json(*found.groups()) if found else None
+
+    def put_late(self, place=None):
+        """Gives the late records that are before a place; all of them, if there is none."""
+        while self.late and (place is None or self.late[-1][0] < place):
+            own, line, record = self.late.pop()
+            if self.last is not None and own <= self.last:
+                raise Bad(line, "not in the order in which such lines are printed")
+            self.rank, self.last = Rank.RECORD, own
+            self.own_trace().put_record(*record.words)
+
     def own_trace(self):
         """The trace of a line that isn't a stream's."""
         if self.streams:
@@ -251,8 +340,12 @@ class Reader:
         return self.streams[name]
 
     def end_trace(self):
-        if self.trace:
-            self.trace.close()
+        if self.trace is None:
+            return
+        self.put_late()
+        for rank, key, more in sorted(self.losses):
+            LOSS_PUTS[rank](self.trace, *key, *more)
+        self.trace.close()
 
     def end_streams(self):
         """Ends the traces of a fleet. That of a stream without a record has the first moment of all."""
@@ -273,7 +366,7 @@ class Reader:
     def put_records(self, records):
         """Records that stand one after the other, as `NUMBERED` finds them."""
         # Members of an enum are looked up by a function, so this one is looked up once.
-        whole, rank = self.whole, Rank.RECORD
+        whole, rank, late = self.whole, Rank.RECORD, self.late
         for cpu, number, moment, rest in records:
             self.line += 1
             cpu, number, moment = int(cpu), int(number), int(moment)
@@ -284,6 +377,8 @@ class Reader:
             if trace is None or self.streams:
                 trace = self.own_trace()
             place = moment, cpu, number
+            if late and late[-1][0] < place:
+                self.put_late(place)
             if self.rank is rank and (self.last is None or self.last < place):
                 self.last = place
             else:
@@ -343,54 +438,58 @@ class Reader:
         known.append(Shape(event))
         return known[-1]
 
-    def put_record_json(self, cpu, number, moment, process, task, name, text, more, payload):
-        cpu, number, moment = int(cpu), int(number), int(moment)
-        check_record(cpu, number, moment)
-        event = None
-        if process is not None:
-            fields = fields_of_json(b"{%s}" % more[1:]) if more else None
-            if fields is None and payload is None:
-                raise Bad("no line of records: it has neither fields nor a payload")
-            event = event_of(process, task, name.strip(b'"'), text, more, fields)
-        elif payload is None:
-            raise Bad("no line of records: it has no payload")
-        trace = self.own_trace()
-        self.come_to(Rank.RECORD, (moment, cpu, number))
-        trace.put_record(cpu, number, moment, event, bytes.fromhex((payload or b"").decode()))
+    def put_record_json(self, *words):
+        record, trace = record_of_json(*words), self.own_trace()
+        self.put_late(record.place)
+        self.come_to(Rank.RECORD, record.place)
+        trace.put_record(*record.words)
 
     def put_missing(self, cpu, first, last):
         cpu, first, last = int(cpu), int(first), int(last)
         if cpu >= CPUS or not first <= last < NUMBERS:
             raise Bad("these are no numbers of a CPU")
-        trace = self.own_trace()
-        if self.rank == Rank.MISSING and self.last[0] == cpu and first <= self.last[2]:
+        if self.collector is None:
+            before = self.last_losses.get((Rank.MISSING, cpu))
+            self.lose(Rank.MISSING, (cpu, first, last), self.line)
+        else:
+            before = self.last if self.rank == Rank.MISSING and self.last[0] == cpu else None
+            self.come_to(Rank.MISSING, (cpu, first, last))
+            self.trace.put_missing(cpu, first, last, self.line)
+        if before and first <= before[2]:
             raise Bad("a number is missing twice")
-        self.come_to(Rank.MISSING, (cpu, first, last))
-        trace.put_missing(cpu, first, last, self.line)
 
     def put_unknown(self, cpu, number):
-        self.loss_trace(Rank.UNKNOWN, int(cpu), int(number)).put_unknown(int(cpu), int(number))
+        self.lose(Rank.UNKNOWN, (int(cpu), int(number)))
 
     def put_damaged(self, cpu, number, page, byte, fault):
         page, byte = int(page), int(byte)
         if max(page, byte) >= NUMBERS:
             raise Bad("a page's number or place doesn't fit 64 bits")
-        trace = self.loss_trace(Rank.DAMAGED, int(cpu), int(number), page)
-        trace.put_damaged(int(cpu), int(number), page, byte, fault.decode())
+        self.lose(Rank.DAMAGED, (int(cpu), int(number), page), byte, fault.decode())
 
-    def loss_trace(self, rank, cpu, number, page=0):
+    def lose(self, rank, key, *more):
+        """Keeps what captures have lost until all records are there. It may stand between records, and its lines are in
+        order for each kind and CPU."""
+        self.check_capture(key[0], key[1])
+        self.own_trace()
+        before = self.last_losses.get((rank, key[0]))
+        if self.rank == Rank.LOSSES or before is not None and key <= before:
+            raise Bad("not in the order in which such lines are printed")
+        self.last_losses[rank, key[0]] = key
+        self.losses.append((rank, key, more))
+
+    def check_capture(self, cpu, number):
         if self.collector is not None:
             raise Bad("a line of captures below a collector")
         if cpu >= CPUS or number >= NUMBERS:
             raise Bad("this is no number of a CPU")
-        trace = self.own_trace()
-        self.come_to(rank, (cpu, number, page))
-        return trace
 
     def put_counters(self, cpu, *numbers):
         if max(map(int, numbers)) >= NUMBERS:
             raise Bad("a counter doesn't fit 64 bits")
-        trace = self.loss_trace(Rank.LOSSES, int(cpu), 0)
+        self.check_capture(int(cpu), 0)
+        trace = self.own_trace()
+        self.come_to(Rank.LOSSES, (int(cpu),))
         trace.put_counters(int(cpu), dict(zip(COUNTERS, map(int, numbers))))
 
     def put_audit(self, found):
@@ -437,12 +536,20 @@ class Reader:
         (UNKNOWN_JSON, put_unknown),
         (DAMAGED, put_damaged),
         (DAMAGED_JSON, put_damaged),
+        (LATE, come_late),
+        (LATE_JSON, come_late),
         (LOSSES, put_counters),
         (LOSSES_JSON, put_counters),
         (AUDIT, put_audit),
     )
 
 
+# How a trace is given what captures have lost.
+LOSS_PUTS = {
+    Rank.MISSING: lambda trace, *words: trace.put_missing(*words),
+    Rank.UNKNOWN: lambda trace, *words: trace.put_unknown(*words),
+    Rank.DAMAGED: lambda trace, *words: trace.put_damaged(*words),
+}
 # What a record says between its three numbers and its payload: process, task, event, text, fields. An event without a
 # field has no payload either.
 NUMBERS_OF, NAME_AT, TEXT_AT, FIELDS_AT, NO_FIELDS = 3, 2, 3, 4, b" "
@@ -463,6 +570,25 @@ def payload_of(word):
         return b"" if word == b"-" else bytes.fromhex(word.decode())
     except ValueError as fault:
         raise Bad("no line of records: half a byte in its payload") from fault
+
+
+def record_at(cpu, number, moment, event, payload):
+    """A record whose numbers are given by their digits."""
+    cpu, number, moment = int(cpu), int(number), int(moment)
+    check_record(cpu, number, moment)
+    return Record(cpu, number, moment, event, payload)
+
+
+def record_of_json(cpu, number, moment, process, task, name, text, more, payload):
+    event = None
+    if process is not None:
+        fields = fields_of_json(b"{%s}" % more[1:]) if more else None
+        if fields is None and payload is None:
+            raise Bad("no line of records: it has neither fields nor a payload")
+        event = event_of(process, task, name.strip(b'"'), text, more, fields)
+    elif payload is None:
+        raise Bad("no line of records: it has no payload")
+    return record_at(cpu, number, moment, event, bytes.fromhex((payload or b"").decode()))
 
 
 def event_of_words(words):
