@@ -2,8 +2,9 @@
 
 `Reader` reads the lines, in the order in which they have to be, and gives each to the trace that it is of. What
 `collect --follow` printed is given as `collect` prints it: a record that comes late is put at its place by time, and
-what was lost comes below all records. A trace is made by `make(kind, name)`: ("captures", None), ("collector", K) or ("stream", ID). It has `first`, the moment of its
-first record or None, and these methods; CPUs and numbers are within their bounds.
+what was lost comes below all records. A trace is made by `make(kind, name)`: ("captures", None), ("collector", K) or
+("stream", ID). It has `first`, the moment of its first record or None, and these methods; CPUs and numbers are within
+their bounds.
 
     put_record(cpu, number, moment, event, payload)   event is an `Event`, or None; payload is bytes
     put_missing(cpu, first, last, line)
