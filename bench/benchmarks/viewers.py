@@ -116,10 +116,19 @@ def chain_of(process):
 
 
 def redraws(driver):
-    """Of each way to draw lanes how long a redraw takes in milliseconds: mostly, and at most."""
+    """Of each way to draw lanes how many milliseconds of the processor a redraw takes of the whole browser, and how
+    many of the clock: mostly, and at most."""
     for name, (mode, coloring) in LANES.items():
         driver.execute_script("setMode(arguments[0]); setColoring(arguments[1]); draw()", mode, coloring)
-        yield name, min((driver.execute_script(browser.REDRAWS) for _ in range(3)), key=median)
+        before = browser_seconds(driver)
+        times = [driver.execute_script(browser.REDRAWS) for _ in range(3)]
+        spent = (browser_seconds(driver) - before) * 1000 / sum(map(len, times))
+        yield name, spent, min(times, key=median)
+
+
+def browser_seconds(driver):
+    """The time of the processor of all processes of a browser."""
+    return sum(processor_seconds(process / "stat") for process in below(Path("/proc", str(driver.service.process.pid))))
 
 
 def in_a_browser(folder):
@@ -134,8 +143,10 @@ def in_a_browser(folder):
         yield tables.compared("opened, seconds of the clock", opened(driver, path, records), digits=1)
         chain = longest_chain(driver)
         yield tables.compared("opened, seconds of the processor", chain, limit=OPEN_SECONDS, digits=1)
-        for name, times in redraws(driver):
-            yield tables.compared(f"a redraw, {name}, milliseconds", median(times), limit=REDRAW_MILLISECONDS, digits=1)
+        for name, spent, times in redraws(driver):
+            what = f"a redraw, {name}, milliseconds of the processor"
+            yield tables.compared(what, spent, limit=REDRAW_MILLISECONDS, digits=1)
+            yield tables.compared(f"the same, {name}, of the clock", median(times), digits=1)
             yield tables.compared(f"the longest of 40, {name}", max(times), digits=1)
     finally:
         driver.quit()
