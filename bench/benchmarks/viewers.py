@@ -100,35 +100,41 @@ def below(process):
             yield from below(Path("/proc", child))
 
 
+def page_processes(driver):
+    """The processes of a browser that have pages."""
+    own = below(Path("/proc", str(driver.service.process.pid)))
+    return [process for process in own if b"--type=renderer" in (process / "cmdline").read_bytes()]
+
+
+def thread_of_page(process):
+    return processor_seconds(process / "task" / process.name / "stat")
+
+
+def page_seconds(driver):
+    """The time of the processor of the thread that draws."""
+    return max(map(thread_of_page, page_processes(driver)))
+
+
 def longest_chain(driver):
     """How many seconds of the processor the page and the worker that joins what others have read took."""
-    pages = [process for process in below(Path("/proc", str(driver.service.process.pid)))
-             if b"--type=renderer" in (process / "cmdline").read_bytes()]
-    return max(chain_of(process) for process in pages)
+    return max(map(chain_of, page_processes(driver)))
 
 
 def chain_of(process):
-    times = {"DedicatedWorker": 0.0}
-    for thread in process.glob("task/*"):
-        name = (thread / "comm").read_text().strip()
-        times[name] = max(times.get(name, 0.0), processor_seconds(thread / "stat"))
-    return times["DedicatedWorker"] + processor_seconds(process / "task" / process.name / "stat")
+    workers = [processor_seconds(thread / "stat") for thread in process.glob("task/*")
+               if (thread / "comm").read_text().startswith("DedicatedWorker")]
+    return max(workers, default=0.0) + thread_of_page(process)
 
 
 def redraws(driver):
-    """Of each way to draw lanes how many milliseconds of the processor a redraw takes of the whole browser, and how
-    many of the clock: mostly, and at most."""
+    """Of each way to draw lanes how many milliseconds of the processor a redraw takes of the page, and each of some
+    redraws of the clock."""
     for name, (mode, coloring) in LANES.items():
         driver.execute_script("setMode(arguments[0]); setColoring(arguments[1]); draw()", mode, coloring)
-        before = browser_seconds(driver)
-        times = [driver.execute_script(browser.REDRAWS) for _ in range(3)]
-        spent = (browser_seconds(driver) - before) * 1000 / sum(map(len, times))
+        before = page_seconds(driver)
+        times = [driver.execute_script(browser.REDRAWS) for _ in range(2)]
+        spent = (page_seconds(driver) - before) * 1000 / sum(map(len, times))
         yield name, spent, min(times, key=median)
-
-
-def browser_seconds(driver):
-    """The time of the processor of all processes of a browser."""
-    return sum(processor_seconds(process / "stat") for process in below(Path("/proc", str(driver.service.process.pid))))
 
 
 def in_a_browser(folder):
