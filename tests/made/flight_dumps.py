@@ -7,8 +7,8 @@ from oracles.fleet import crc32c
 
 MONOTONIC, TSC, CALLER = range(3)
 PRINTF, BRACES, FIELDS = range(3)
-# Levels, as they are added to FIELDS.
-ERROR, WARNING, INFO, DEBUG = (level << 4 for level in range(1, 5))
+# Levels, as they are added to a style.
+ERROR, WARNING, INFO, DEBUG, TRACE = (level << 4 for level in range(1, 6))
 # Kinds of arguments.
 I8, I16, I32, I64, U8, U16, U32, U64, F32, F64, ADDRESS, TEXT = (
     0x01, 0x02, 0x04, 0x08, 0x11, 0x12, 0x14, 0x18, 0x24, 0x28, 0x38, 0x40,

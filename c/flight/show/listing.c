@@ -58,13 +58,13 @@ void format_record(struct text *text, const struct record *record, struct argume
 
 const char *level_name(enum level level)
 {
-    static const char *const names[LEVELS] = {"", "ERROR", "WARN", "INFO", "DEBUG"};
+    static const char *const names[LEVELS] = {"", "ERROR", "WARN", "INFO", "DEBUG", "TRACE"};
     return names[level];
 }
 
 const char *level_key(enum level level)
 {
-    static const char *const keys[LEVELS] = {"", "error", "warn", "info", "debug"};
+    static const char *const keys[LEVELS] = {"", "error", "warn", "info", "debug", "trace"};
     return keys[level];
 }
 
