@@ -32,6 +32,14 @@
 // is reached.
 // A thread whose cancel type is asynchronous must make no call of these, and no TRACE.
 //
+// Rings per CPU. With `per_cpu` there are rings for each CPU that the system is configured for, `levels` of them, and
+// for as many spare places, eight at most, however many threads record: so memory doesn't grow with threads, and the
+// newest events of all that ran on a CPU are kept together. An event goes to the rings of the CPU that its thread is
+// on. If another thread was interrupted amid its own event there, it goes to spare ones, or to those of another CPU;
+// only if all are in use it is counted as one without a ring. Each event has its thread's number, four bytes more, and
+// takes some 40 instructions more. `threads` is then how many threads are named at once: of a further one the number
+// alone is shown, until a thread ends. `threads` and those places, times levels, are 65,536 at most.
+//
 // Signals. A handler may call TRACE, flight_dump and flight_name, which take no memory and no lock, and no other call
 // of these. What interrupts a TRACE writes to the thread's next ring (`levels`); an event for which no ring is left is
 // counted. A handler that doesn't return while it holds an interrupted TRACE leaves that ring in use.
@@ -108,6 +116,7 @@ struct flight_config {
     int signal;              // nothing: no thread is sent a signal
     uint32_t wait_ms;        // nothing: no thread is waited for
     const char *file;        // a file that has all events from the start on, after a kill, too: "Files" (none)
+    bool per_cpu;            // whether rings are those of CPUs, and not those of threads: "Rings per CPU" (false)
 };
 
 // Starts the recorder: all its memory is taken here. Null stands for all defaults.
@@ -116,9 +125,10 @@ struct flight_config {
 // run at once, a forked child and its parent too, need paths of their own. The new file is readable by its owner alone,
 // and its blocks are allocated. It may not be called in handlers.
 // EALREADY: it runs already. EINVAL: a number is out of its range (a ring has 67 megabytes at most: 1,024 pages of
-// 65,520 bytes), this machine has no such clock, or `now` is null with FLIGHT_CALLER or given without it. EEXIST: what is at the path of `file` is no regular file. ENOMEM. And what
-// open and others answer. If there is no start, there is no new file, but the former one may be PATH~. (LeakSanitizer
-// doesn't look into all of this memory: unless flight_stop is called, it reports the rings as lost.)
+// 65,520 bytes), this machine has no such clock, or `now` is null with FLIGHT_CALLER or given without it. EEXIST: what
+// is at the path of `file` is no regular file. ENOMEM. And what open and others answer. If there is no start, there is
+// no new file, but the former one may be PATH~. (LeakSanitizer doesn't look into all of this memory: unless flight_stop
+// is called, it reports the rings as lost.)
 int flight_start(const struct flight_config *config);
 
 // In a forked child: starts a recorder with all that its parent's was started with. In the path of `file` there has to
@@ -221,7 +231,8 @@ extern uint32_t flight_turn;
 // Makes a site known to the recorder, and answers whether it is on in this turn; it is not if no recorder runs.
 bool flight_register(struct flight_site *site);
 
-// Records an event: `len` bytes, of which the first four are the recorder's and the others are the arguments.
+// Records an event: `len` bytes, 2,060 at most, of which the first four are the recorder's and the others are the
+// arguments.
 void flight_record(const struct flight_site *site, uint8_t *event, size_t len);
 
 // ThreadSanitizer takes for races what the library does, which isn't compiled for it: it passes over an event's

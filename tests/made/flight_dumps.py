@@ -114,17 +114,27 @@ class Dump:
     end: tuple = (0, 0)
     no_ring: int = 0
     name: str = "program"
+    names: list = field(default_factory=list)  # of each slot without rings: moments, threads and their names
 
     def sections(self):
         process = u32(self.pid, self.tid, self.signal, self.clock) + u64(*self.start, *self.end, self.no_ring)
         made = [(b"PROC", process + text(self.name))]
         for ring in self.rings:
             made += ring.sections()
+        for slot in self.names:
+            leases = [u64(moment) + u32(thread) + text(name) for moment, thread, name in slot]
+            made.append((b"NAME", u32(len(leases)) + b"".join(leases)))
         made += [site.section() for site in self.sites]
         return made + [(b"ENDS", u32(len(made), 0))]
 
     def bytes(self):
         return joined(self.sections())
+
+
+def of_thread(thread, payload):
+    """The payload of a record that has its thread's number."""
+    [id] = struct.unpack_from("<I", payload)
+    return u32(id | 1 << 31, thread) + payload[4:]
 
 
 def section(kind, has):

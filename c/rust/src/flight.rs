@@ -76,6 +76,9 @@ pub struct Config<'path> {
     pub wait_ms: u32,
     /// The file in which all events are from the start on (none). What was there is named `PATH~`.
     pub file: Option<&'path Path>,
+    /// Whether rings are those of CPUs, and some spare ones, and not those of threads (false): so their number doesn't
+    /// depend on that of threads, of which `threads` are named at once. An event takes some 40 instructions more.
+    pub per_cpu: bool,
 }
 
 #[repr(C)]
@@ -90,6 +93,7 @@ struct RawConfig {
     signal: c_int,
     wait_ms: u32,
     file: *const c_char,
+    per_cpu: bool,
 }
 
 extern "C" {
@@ -118,7 +122,7 @@ fn text(bytes: &[u8]) -> io::Result<CString> {
 
 /// Starts the recorder. All its memory is taken here.
 pub fn start(config: &Config) -> io::Result<()> {
-    let Config { threads, levels, pages, size, keep, clock, signal, wait_ms, file } = *config;
+    let Config { threads, levels, pages, size, keep, clock, signal, wait_ms, file, per_cpu } = *config;
     let (clock, now) = match clock {
         Clock::Monotonic => (0, None),
         Clock::Tsc => (1, None),
@@ -126,7 +130,8 @@ pub fn start(config: &Config) -> io::Result<()> {
     };
     let path = file.map(|file| text(file.as_os_str().as_bytes())).transpose()?;
     let file = path.as_ref().map_or(null(), |path| path.as_ptr());
-    done(unsafe { flight_start(&RawConfig { threads, levels, pages, size, keep, clock, now, signal, wait_ms, file }) })
+    let raw = RawConfig { threads, levels, pages, size, keep, clock, now, signal, wait_ms, file, per_cpu };
+    done(unsafe { flight_start(&raw) })
 }
 
 /// In a forked child: starts a recorder with all that its parent's was started with. In the path of `file` there has to
