@@ -75,8 +75,9 @@ static void add_one(uint64_t *number)
 
 static void begin(struct made *mine)
 {
-    own = mine;
     mine->tid = (uint64_t)syscall(SYS_gettid);
+    __atomic_signal_fence(__ATOMIC_SEQ_CST);
+    own = mine;
 }
 
 static void record(void)
@@ -133,12 +134,17 @@ static void *move(void *given)
 static void move_all(void)
 {
     pthread_t threads[THREADS];
+    sigset_t alarms;
     struct sigaction action = {.sa_handler = on_timer, .sa_flags = SA_RESTART};
     struct itimerval often = {{0, 500}, {0, 500}}, never = {{0, 0}, {0, 0}};
     (void)cpu_of(0);
     ensure(!sigaction(SIGALRM, &action, NULL) && !setitimer(ITIMER_REAL, &often, NULL), "no timer");
     for (size_t each = 0; each < THREADS; each++)
         ensure(!pthread_create(&threads[each], NULL, move, &made[each]), "no thread");
+    // (The signals are for those.)
+    sigemptyset(&alarms);
+    sigaddset(&alarms, SIGALRM);
+    (void)pthread_sigmask(SIG_BLOCK, &alarms, NULL);
     for (size_t each = 0; each < THREADS; each++)
         (void)pthread_join(threads[each], NULL);
     (void)setitimer(ITIMER_REAL, &never, NULL);
@@ -179,6 +185,7 @@ static uint64_t now(void)
     int wanted = at_clock;
     at_clock = GO_ON;
     if (wanted == HOLD) {
+        (void)raise(SIGUSR1);
         add_one(&held);
         while (!seen(&released))
             nap();
@@ -190,8 +197,17 @@ static uint64_t now(void)
     return __atomic_add_fetch(&moments, 1, __ATOMIC_SEQ_CST);
 }
 
+static void on_signal(int number)
+{
+    (void)number;
+    TRACE("handled %lu of %lu", own->handled, own->tid);
+    add_one(&own->handled);
+}
+
 static void start_by_clock(uint32_t threads)
 {
+    struct sigaction action = {.sa_handler = on_signal};
+    ensure(!sigaction(SIGUSR1, &action, NULL), "no handler");
     pin(cpu_of(0));
     start((struct flight_config){.threads = threads, .pages = 64, .clock = FLIGHT_CALLER, .now = now});
     begin(&made[THREADS]);
@@ -216,7 +232,7 @@ static size_t count_slots(void)
     return cpus + (cpus < 8 ? cpus : 8);
 }
 
-// All slots are held: an event has none. Then they are free again.
+// All slots are held, each after an event of a handler in it: a further event has none. Then they are free again.
 static void run_held(const char *file)
 {
     static pthread_t threads[MOST_HELD];
@@ -262,13 +278,6 @@ static void run_left(const char *file)
 
 // ---- Handlers that interrupt an event at each of its instructions.
 
-static void on_step(int number)
-{
-    (void)number;
-    TRACE("handled %lu of %lu", own->handled, own->tid);
-    add_one(&own->handled);
-}
-
 static void set_steps(bool are_wanted)
 {
 #if defined(__x86_64__)
@@ -283,10 +292,10 @@ static void set_steps(bool are_wanted)
 
 static void run_stepped(const char *file)
 {
-    struct sigaction step = {.sa_handler = on_step}, nest = {.sa_handler = on_step};
-    start((struct flight_config){.pages = 1024, .threads = 4});
+    struct sigaction step = {.sa_handler = on_signal};
+    start((struct flight_config){.pages = 64, .size = 65520, .threads = 4});
     begin(&made[0]);
-    ensure(!sigaction(SIGTRAP, &step, NULL) && !sigaction(SIGUSR1, &nest, NULL), "no handler");
+    ensure(!sigaction(SIGTRAP, &step, NULL), "no handler");
     record();
     for (size_t each = 0; each < 20; each++) {
         set_steps(true);
@@ -299,9 +308,7 @@ static void run_stepped(const char *file)
 // A handler within the clock, where the slot is taken and no ring is in a call.
 static void run_nested(const char *file)
 {
-    struct sigaction nest = {.sa_handler = on_step};
     start_by_clock(4);
-    ensure(!sigaction(SIGUSR1, &nest, NULL), "no handler");
     for (size_t each = 0; each < 100; each++) {
         at_clock = NEST;
         record();
