@@ -1,4 +1,4 @@
-//! The recorder of a child that is forked.
+//! The recorder of a child that is forked, with rings per CPU as that of its parent has them.
 use std::env::{temp_dir, var};
 use std::ffi::c_int;
 use std::fs::remove_file;
@@ -35,7 +35,7 @@ fn a_child_has_a_recorder_of_its_own() {
     assert!(flight::start_in_child().is_err());
     let path = |name: &str| temp_dir().join(format!("tracering-child-{}-{name}.flight", id()));
     let given = path("%p");
-    flight::start(&Config { threads: 2, file: Some(&given), ..Default::default() }).unwrap();
+    flight::start(&Config { threads: 2, file: Some(&given), per_cpu: true, ..Default::default() }).unwrap();
     assert!(flight::start_in_child().is_err());
     trace!("recorded in {}", id());
 
