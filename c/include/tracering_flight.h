@@ -37,7 +37,7 @@
 // newest events of all that ran on a CPU are kept together. An event goes to the rings of the CPU that its thread is
 // on. If another thread was interrupted amid its own event there, it goes to spare ones, or to those of another CPU;
 // only if all are in use it is counted as one without a ring. Each event has its thread's number, four bytes more, and
-// takes some 110 instructions more. `threads` is then how many threads are named at once: of a further one the number
+// takes some 120 instructions more. `threads` is then how many threads are named at once: of a further one the number
 // alone is shown, until a thread ends. `threads` and those places, times levels, are 65,536 at most.
 //
 // Signals. A handler may call TRACE, flight_dump and flight_name, which take no memory and no lock, and no other call

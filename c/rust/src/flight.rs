@@ -77,7 +77,7 @@ pub struct Config<'path> {
     /// The file in which all events are from the start on (none). What was there is named `PATH~`.
     pub file: Option<&'path Path>,
     /// Whether rings are those of CPUs, and some spare ones, and not those of threads (false): so their number doesn't
-    /// depend on that of threads, of which `threads` are named at once. An event takes some 110 instructions more.
+    /// depend on that of threads, of which `threads` are named at once. An event takes some 120 instructions more.
     pub per_cpu: bool,
 }
 
