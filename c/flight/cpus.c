@@ -12,7 +12,7 @@
 
 enum {
     MOST_SPARE = 8,
-    EVENTS_BETWEEN = 1024 // how many events of a thread don't get their CPU's slot before it looks at who has it
+    EVENTS_BETWEEN = 1024 // how many events of a thread don't get their CPU's slot before it looks who has slots
 };
 
 uint32_t flight_cpu_slots(uint32_t *cpus)
@@ -32,35 +32,40 @@ static bool take(struct slot *slot, uint32_t thread)
 static bool take_left(struct slot *slot, uint32_t thread)
 {
     uint32_t owner = load(&slot->owner);
-    if (owner == NOBODY || owner == NOBODY_ANY_MORE || !flight_is_gone(owner))
+    int before = errno;
+    bool is_left = owner != NOBODY && owner != NOBODY_ANY_MORE && flight_is_gone(owner);
+    errno = before;
+    if (!is_left)
         return false;
     bool is_usable = flight_has_ring(slot);
     return exchange_if(&slot->owner, owner, is_usable ? thread : NOBODY_ANY_MORE) && is_usable;
 }
 
-// Which slot is tried after that of the CPU: the spare ones come first.
-static struct slot *slot_after(uint32_t tries)
+// Whether the thread has a slot.
+static bool has(struct slot *slot, uint32_t thread)
 {
-    return &flight_recorder.slots[(flight_recorder.cpus + tries) % flight_recorder.ring_slots];
+    return load(&slot->owner) == thread;
 }
 
-// A slot for a thread that doesn't get that of its CPU. (It has at most one, if it interrupts an event of its own.)
-static __attribute__((noinline, cold)) struct slot *take_other(struct slot *first, uint32_t thread, bool *is_nested)
+// The first slot with which this succeeds, or null. The spare ones come first.
+static struct slot *first_that(bool (*try)(struct slot *slot, uint32_t thread), uint32_t thread)
 {
-    int before = errno;
-    struct slot *found = NULL;
-    for (uint32_t tries = 0; !*is_nested && tries < flight_recorder.ring_slots; tries++)
-        if (load(&slot_after(tries)->owner) == thread) {
-            *is_nested = true;
-            found = slot_after(tries);
-        }
-    if (!found && flight_mine.refusals++ % EVENTS_BETWEEN == 0 && take_left(first, thread))
-        found = first;
-    for (uint32_t tries = 0; !found && tries < flight_recorder.ring_slots; tries++)
-        if (take(slot_after(tries), thread))
-            found = slot_after(tries);
-    errno = before;
-    return found;
+    for (uint32_t tries = 0; tries < flight_recorder.ring_slots; tries++) {
+        struct slot *slot = &flight_recorder.slots[(flight_recorder.cpus + tries) % flight_recorder.ring_slots];
+        if (try(slot, thread))
+            return slot;
+    }
+    return NULL;
+}
+
+// A slot for a thread that doesn't get that of its CPU. (It has one, if it interrupts an event of its own.)
+static __attribute__((noinline, cold)) struct slot *take_other(uint32_t thread, bool *is_nested)
+{
+    struct slot *found = first_that(has, thread);
+    *is_nested = found != NULL;
+    if (!found && flight_mine.refusals++ % EVENTS_BETWEEN == 0)
+        found = first_that(take_left, thread);
+    return found ? found : first_that(take, thread);
 }
 
 struct slot *flight_take_cpu(bool *is_nested)
@@ -71,7 +76,7 @@ struct slot *flight_take_cpu(bool *is_nested)
     *is_nested = false;
     if (__builtin_expect(take(slot, thread), true))
         return slot;
-    return take_other(slot, thread, is_nested);
+    return take_other(thread, is_nested);
 }
 
 void flight_give_cpu(struct slot *slot)

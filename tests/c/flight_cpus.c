@@ -262,17 +262,39 @@ static void *leave(void *given)
     return NULL;
 }
 
-// A thread ends amid an event: its slot is found again.
-static void run_left(const char *file)
+// Has a thread end amid an event, and waits until the kernel says so.
+static void end_amid_event(void)
 {
     pthread_t thread;
-    start_by_clock(4);
     ensure(!pthread_create(&thread, NULL, leave, &made[0]), "no thread");
     (void)pthread_join(thread, NULL);
     while (!syscall(SYS_tgkill, getpid(), made[0].tid, 0))
         nap();
+}
+
+// The slot of a thread that ended amid an event is found again.
+static void run_left(const char *file)
+{
+    start_by_clock(4);
+    end_amid_event();
     for (size_t each = 0; each < 3000; each++)
         record();
+    report(file);
+}
+
+// The same of a spare slot, while that of the CPU is held.
+static void run_left_spare(const char *file)
+{
+    pthread_t holds;
+    start_by_clock(4);
+    ensure(!pthread_create(&holds, NULL, hold, NULL), "no thread");
+    while (!seen(&held))
+        nap();
+    end_amid_event();
+    for (size_t each = 0; each < 10; each++)
+        record();
+    __atomic_store_n(&released, 1, __ATOMIC_SEQ_CST);
+    (void)pthread_join(holds, NULL);
     report(file);
 }
 
@@ -342,7 +364,7 @@ int main(int count, char **words)
         const char *name;
         void (*run)(const char *file);
     } cases[] = {{"moved", run_moved}, {"small", run_small}, {"held", run_held}, {"left", run_left},
-        {"stepped", run_stepped}, {"nested", run_nested}, {"named", run_named}};
+        {"left_spare", run_left_spare}, {"stepped", run_stepped}, {"nested", run_nested}, {"named", run_named}};
     ensure(count >= 3, "a case and a file are expected");
     if (count == 4)
         run_killed(words[2], words[3]);
