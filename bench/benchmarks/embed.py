@@ -21,7 +21,7 @@ ROUND = 8_400
 # What `flight_speed` measures, in which function, and how many instructions it may take.
 EVENTS = (
     ("write", "`tracering_write` of 16 bytes, a counter as its moment", "write_events", None),
-    ("counter", "`TRACE` with two numbers, a counter as its clock", "trace_events", 130),
+    ("counter", "`TRACE` with two numbers, a counter as its clock", "trace_events", None),
     ("tsc", "`TRACE` with two numbers, the processor's counter", "trace_events", 130),
     ("cpu", "the same, in rings per CPU", "trace_events", None),
     ("monotonic", "`TRACE` with two numbers, CLOCK_MONOTONIC", "trace_events", None),

@@ -89,14 +89,13 @@ static inline uint32_t id_of(const struct flight_site *site)
     return __atomic_load_n(&site->id, __ATOMIC_ACQUIRE);
 }
 
-// Writes an event to the first ring of a slot that isn't in a call.
-static inline void write_event(struct slot *slot, const uint8_t *event, size_t len)
+// Writes an event to the first ring of a slot that isn't in a call. False: it is refused.
+static inline bool write_event(struct slot *slot, const uint8_t *event, size_t len)
 {
     struct tracering_writer *ring = slot->rings;
     for (uint32_t level = 1; ring->in_call && level < flight_recorder.config.levels; level++)
         ring++;
-    if (__builtin_expect(tracering_write(ring, flight_moment(), event, len) != TRACERING_DONE, false))
-        flight_note_refused(slot);
+    return __builtin_expect(tracering_write(ring, flight_moment(), event, len) == TRACERING_DONE, true);
 }
 
 // Writes an event to a ring of the CPU, with the number of the calling thread behind the site's.
@@ -115,7 +114,8 @@ static __attribute__((noinline)) void record_on_cpu(const struct flight_site *si
     size_t values = (len < LONGEST_EVENT ? len : LONGEST_EVENT) - ID_SIZE;
     memcpy(whole, head, sizeof head);
     memcpy(whole + sizeof head, event + ID_SIZE, values);
-    write_event(slot, whole, sizeof head + values);
+    if (!write_event(slot, whole, sizeof head + values))
+        flight_note_refused(slot);
     if (!is_nested)
         flight_give_cpu(slot);
 }
@@ -130,7 +130,9 @@ void flight_record(const struct flight_site *site, uint8_t *event, size_t len)
     }
     uint32_t id = id_of(site);
     memcpy(event, &id, sizeof id);
-    write_event(slot, event, len);
+    // (The slot is looked up once more, so that no event pays for keeping it.)
+    if (!write_event(slot, event, len))
+        flight_note_refused(flight_mine.slot);
 }
 
 // Gives back the slot of a thread that ends.

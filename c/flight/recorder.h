@@ -156,7 +156,7 @@ bool flight_is_gone(uint32_t thread);
 void flight_begin_lease(struct slot *slot);
 // Copies the leases of a slot.
 void flight_copy_leases(struct leases *to, const struct slot *slot);
-// Notes how many events the rings of a slot refused, which the calling thread has.
+// Notes how many events the rings of a slot refused, which the calling thread has, unless it is null.
 void flight_note_refused(const struct slot *slot);
 
 // ---- Rings per CPU (cpus.c).

@@ -93,7 +93,7 @@ static void note_refused_by(const struct tracering_writer *ring, uint64_t *noted
 
 void flight_note_refused(const struct slot *slot)
 {
-    for (uint32_t level = 0; level < flight_recorder.config.levels; level++)
+    for (uint32_t level = 0; slot && level < flight_recorder.config.levels; level++)
         note_refused_by(&slot->rings[level], slot->noted->refused[level]);
 }
 
