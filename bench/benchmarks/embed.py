@@ -18,15 +18,18 @@ from lib.programs import BENCH, TOP, Failure, call, tried
 NEEDS = ("rt", "cc", "valgrind")
 # How many records the program writes in a round.
 ROUND = 8_400
-# What `flight_speed` measures.
+# What `flight_speed` measures, in which function, and how many instructions it may take.
 EVENTS = (
-    ("write", "`tracering_write` of 16 bytes, a counter as its moment"),
-    ("counter", "`TRACE` with two numbers, a counter as its clock"),
-    ("tsc", "`TRACE` with two numbers, the processor's counter"),
-    ("monotonic", "`TRACE` with two numbers, CLOCK_MONOTONIC"),
-    ("text", "`TRACE` with a text of 24 bytes and a number, the processor's counter"),
-    ("off", "`TRACE` that is switched off"),
+    ("write", "`tracering_write` of 16 bytes, a counter as its moment", "write_events", None),
+    ("counter", "`TRACE` with two numbers, a counter as its clock", "trace_events", None),
+    ("tsc", "`TRACE` with two numbers, the processor's counter", "trace_events", 130),
+    ("cpu", "the same, in rings per CPU", "trace_events", None),
+    ("monotonic", "`TRACE` with two numbers, CLOCK_MONOTONIC", "trace_events", None),
+    ("text", "`TRACE` with a text of 24 bytes and a number, the processor's counter", "trace_texts", None),
+    ("off", "`TRACE` that is switched off", "trace_nothing", None),
 )
+# How many of them it makes if it is called for one kind.
+EVENTS_AT_ONCE = 100_000
 WAYS = (
     ("library", "`tracering_write`"),
     ("plain", "plain ring in C"),
@@ -148,10 +151,19 @@ def events(folder):
     call(["cc", "-O2", f"-I{TOP}/c/include", "-o", program, source, TOP / "out/libtracering.a", "-lpthread"])
     lines = count.output([program]).decode().splitlines()
     took = {name: float(nanoseconds) for name, nanoseconds, _ in map(str.split, lines)}
+    yield "Instructions an event, with what is done once for 100,000 of them."
+    yield ""
+    yield from tables.head("What", "Instructions", "Limit")
+    for name, what, function, limit in EVENTS:
+        counted = count.callgrind([program, name], function=function) / EVENTS_AT_ONCE
+        yield tables.line([what, f"{counted:.1f}", str(limit or "")])
+        if limit and counted > limit:
+            tables.OVER.append(f"instructions of {what}")
+    yield ""
     yield "Nanoseconds an event, the least of 200 runs, and how many times those of the record."
     yield ""
     yield from tables.head("What", "Nanoseconds", "Times")
-    for name, what in EVENTS:
+    for name, what, _, _ in EVENTS:
         yield tables.line([what, f"{took[name]:.1f}", f"{took[name] / took['write']:.2f}"])
     if took["tsc"] > MOST_OF_EVENT * took["write"]:
         tables.OVER.append("an event, by the processor's counter")

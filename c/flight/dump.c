@@ -158,6 +158,17 @@ static size_t parcel_len(const uint8_t *page)
     return TRACERING_HEADER + (size_t)commit;
 }
 
+static void put_leases(const struct leases *leases, const struct copied *ring, uint32_t count)
+{
+    put_32(count);
+    for (uint32_t at = 0; at < count; at++) {
+        const struct lease *lease = lease_at(leases, ring, at);
+        put_64(lease->first[ring->level]);
+        put_32((uint32_t)lease->thread);
+        put_text((const char *)lease->name, name_len(lease));
+    }
+}
+
 static void put_ring(const struct slot *slot, const struct copied *ring, const struct leases *leases)
 {
     uint64_t len = 4 * 4 + 8 + SLOT_REASONS * 8 + 4;
@@ -170,13 +181,7 @@ static void put_ring(const struct slot *slot, const struct copied *ring, const s
     put_64(ring->written);
     for (size_t reason = 0; reason < SLOT_REASONS; reason++)
         put_64(__atomic_load_n(&slot->noted->refused[ring->level][reason], __ATOMIC_RELAXED));
-    put_32(count);
-    for (uint32_t at = 0; at < count; at++) {
-        const struct lease *lease = lease_at(leases, ring, at);
-        put_64(lease->first[ring->level]);
-        put_32((uint32_t)lease->thread);
-        put_text((const char *)lease->name, name_len(lease));
-    }
+    put_leases(leases, ring, count);
     end_section();
     for (size_t at = 0; at < ring->pages; at++) {
         const uint8_t *page = flight_recorder.pages[at];
@@ -213,7 +218,7 @@ static void put_slot(const struct slot *slot)
         flight_fail_output(EIO);
         return;
     }
-    if (!__atomic_load_n(&slot->noted->leases.count, __ATOMIC_SEQ_CST))
+    if (!flight_recorder.cpus && !__atomic_load_n(&slot->noted->leases.count, __ATOMIC_SEQ_CST))
         return;
     for (uint32_t level = 0; level < levels; level++)
         if (!copy_ring(slot, level, &written[level])) {
@@ -226,6 +231,25 @@ static void put_slot(const struct slot *slot)
         find_pages(&ring, copy_of(level), ring_room(flight_recorder.config.pages, flight_recorder.config.size, level));
         put_ring(slot, &ring, &leases);
     }
+}
+
+// Puts what names the threads that had a slot without rings, if there was one.
+static void put_names(const struct slot *slot)
+{
+    static const struct copied none = {.written = UINT64_MAX};
+    struct leases leases;
+    uint64_t len = 4;
+    if (!flight_is_readable(slot->noted, sizeof *slot->noted)) {
+        flight_fail_output(EIO);
+        return;
+    }
+    flight_copy_leases(&leases, slot);
+    uint32_t count = count_leases(&leases, &none, &len);
+    if (!count)
+        return;
+    begin_section("NAME", len);
+    put_leases(&leases, &none, count);
+    end_section();
 }
 
 // ---- The whole.
@@ -256,8 +280,8 @@ static void put_all(int signal)
     put_32(2);
     put_32(0);
     put_process(signal);
-    for (uint32_t at = 0; at < flight_recorder.config.threads && !flight_has_output_fault(); at++)
-        put_slot(&flight_recorder.slots[at]);
+    for (uint32_t at = 0; at < flight_recorder.slot_count && !flight_has_output_fault(); at++)
+        (at < flight_recorder.ring_slots ? put_slot : put_names)(&flight_recorder.slots[at]);
     put_sites();
     uint32_t before = sections;
     begin_section("ENDS", 8);

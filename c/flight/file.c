@@ -44,14 +44,14 @@ static void store_boot(void)
 // Where the three areas are, and how long; how long the image is, too. (A file has its checksums behind them.)
 static size_t lay_out(uint64_t *areas, bool has_file)
 {
-    const struct flight_config *config = &flight_recorder.config;
-    size_t slots = (config->threads * (size_t)SLOT_BYTES + FILE_HEADER - 1) / FILE_HEADER * FILE_HEADER;
+    const struct recorder *it = &flight_recorder;
+    size_t slots = (it->slot_count * (size_t)SLOT_BYTES + FILE_HEADER - 1) / FILE_HEADER * FILE_HEADER;
     areas[0] = FILE_HEADER;
-    areas[1] = config->threads * (size_t)SLOT_BYTES;
+    areas[1] = it->slot_count * (size_t)SLOT_BYTES;
     areas[2] = FILE_HEADER + slots;
     areas[3] = has_file ? FILE_SITES_ROOM : 0;
     areas[4] = areas[2] + areas[3];
-    areas[5] = config->threads * ring_offset(config->pages, config->size, config->levels);
+    areas[5] = it->ring_slots * ring_offset(it->config.pages, it->config.size, it->config.levels);
     return areas[4] + areas[5] + (has_file ? sums_len(areas[4] + areas[5]) : 0);
 }
 
@@ -88,7 +88,7 @@ int flight_make_image(const char *path)
         store(FILE_SLOTS + at, areas[at]);
     if (path)
         store(FILE_SUMS, areas[4] + areas[5]);
-    for (uint32_t slot = 0; slot < it->config.threads; slot++)
+    for (uint32_t slot = 0; slot < it->slot_count; slot++)
         it->slots[slot].noted = (struct noted *)((uint8_t *)it->image + areas[0]) + slot;
     return 0;
 }
@@ -106,7 +106,8 @@ void flight_begin_image(void)
 {
     const struct recorder *it = &flight_recorder;
     store(FILE_VERSION, FILE_VERSION_NUMBER);
-    store(FILE_THREADS, it->config.threads);
+    store(FILE_SLOT_COUNT, it->slot_count);
+    store(FILE_RING_SLOTS, it->cpus ? it->ring_slots : 0);
     store(FILE_LEVELS, it->config.levels);
     store(FILE_PAGES, it->config.pages);
     store(FILE_SIZE, it->config.size);

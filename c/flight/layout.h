@@ -9,7 +9,7 @@
 enum {
     FILE_MAGIC,
     FILE_VERSION,
-    FILE_THREADS,
+    FILE_SLOT_COUNT,
     FILE_LEVELS,
     FILE_PAGES,
     FILE_SIZE,
@@ -30,6 +30,7 @@ enum {
     FILE_ENDED,
     FILE_SUMS,
     FILE_SUMMED,
+    FILE_RING_SLOTS, // how many slots have rings: the first ones; 0: all
     FILE_NAME = 32,         // 64 bytes
     FILE_WITHOUT_RING = 256 // several counts
 };
@@ -59,6 +60,8 @@ enum {
     SLOT_REFUSED = SLOT_LEASES + SLOT_MOST_LEASES * SLOT_LEASE_WORDS,
     SLOT_REASONS = 6,
     SLOT_BYTES = 1088,
+    // Where in the first word of an event it is said that its thread's number follows.
+    EVENT_HAS_THREAD = 31,
     // What a site begins with: its room and its length, of four bytes each.
     SITE_HEAD = 8,
     // Where in a site's style its level is.

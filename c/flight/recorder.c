@@ -8,7 +8,11 @@
 
 #include <sys/mman.h>
 
-enum { STOP_WAIT_MS = 5000 }; // how long flight_stop waits for threads
+enum {
+    STOP_WAIT_MS = 5000, // how long flight_stop waits for threads
+    ID_SIZE = 4,         // of an event's site
+    LONGEST_EVENT = ID_SIZE + FLIGHT_ARGUMENTS * (2 + FLIGHT_TEXT)
+};
 
 struct recorder flight_recorder;
 uint32_t flight_running;
@@ -29,43 +33,50 @@ static _Thread_local __attribute__((tls_model("initial-exec"))) sigset_t unforke
 
 // ---- Events.
 
+static void forget_slot(void)
+{
+    flight_mine.slot = flight_mine.named = NULL;
+    flight_mine.running = 0;
+}
+
 // Gets a slot of this recorder for this thread, unless a handler has got it one meanwhile.
 static struct slot *get_slot(uint32_t number)
 {
     sigset_t signals;
     block_signals(&signals);
     bool has_slot = flight_mine.running == number;
-    struct slot *slot = has_slot ? flight_mine.slot : flight_claim();
+    struct slot *slot = has_slot ? flight_mine.named : flight_claim();
     if (slot && !has_slot && pthread_setspecific(key, slot)) {
         flight_hand_back(slot); // since this thread's end wouldn't
         slot = NULL;
     }
     if (slot && !has_slot) {
         flight_begin_lease(slot);
-        flight_mine.slot = slot;
+        flight_mine.slot = flight_recorder.cpus ? NULL : slot;
+        flight_mine.named = slot;
         flight_mine.running = number;
     }
     unblock_signals(&signals);
     return slot;
 }
 
-// The slot of a thread that had none of this recorder. If there is none, its event is counted.
+// The slot of a thread that had none of this recorder. If there is none, its event is counted. If rings are those of
+// CPUs, the slot only names the thread.
 static __attribute__((noinline, cold)) struct slot *enter(void)
 {
     int before = errno;
     uint32_t number = load(&flight_running);
     if (!number) {
-        flight_mine.slot = NULL;
-        flight_mine.running = 0;
+        forget_slot();
         return NULL;
     }
     flight_hide();
     struct slot *slot = flight_may_claim(number) ? get_slot(number) : NULL;
-    if (!slot)
+    if (!slot && !flight_recorder.cpus)
         flight_count_without_ring();
     flight_show();
     errno = before;
-    return slot;
+    return flight_recorder.cpus ? NULL : slot;
 }
 
 static inline struct slot *own_slot(void)
@@ -73,18 +84,55 @@ static inline struct slot *own_slot(void)
     return flight_mine.running == __atomic_load_n(&flight_running, __ATOMIC_ACQUIRE) ? flight_mine.slot : enter();
 }
 
-void flight_record(const struct flight_site *site, uint8_t *event, size_t len)
+static inline uint32_t id_of(const struct flight_site *site)
 {
-    struct slot *slot = own_slot();
-    if (!slot)
-        return;
-    uint32_t id = __atomic_load_n(&site->id, __ATOMIC_ACQUIRE);
-    memcpy(event, &id, sizeof id);
+    return __atomic_load_n(&site->id, __ATOMIC_ACQUIRE);
+}
+
+// Writes an event to the first ring of a slot that isn't in a call. False: it is refused.
+static inline bool write_event(struct slot *slot, const uint8_t *event, size_t len)
+{
     struct tracering_writer *ring = slot->rings;
     for (uint32_t level = 1; ring->in_call && level < flight_recorder.config.levels; level++)
         ring++;
-    if (__builtin_expect(tracering_write(ring, flight_moment(), event, len) != TRACERING_DONE, false))
-        flight_note_refused();
+    return __builtin_expect(tracering_write(ring, flight_moment(), event, len) == TRACERING_DONE, true);
+}
+
+// Writes an event to a ring of the CPU, with the number of the calling thread behind the site's.
+static __attribute__((noinline)) void record_on_cpu(const struct flight_site *site, const uint8_t *event, size_t len)
+{
+    uint8_t whole[LONGEST_EVENT + sizeof(uint32_t)];
+    bool is_nested;
+    if (!flight_mine.thread)
+        flight_mine.thread = this_thread();
+    struct slot *slot = flight_take_cpu(&is_nested);
+    if (!slot) {
+        flight_count_without_ring();
+        return;
+    }
+    uint32_t head[] = {id_of(site) | 1u << EVENT_HAS_THREAD, flight_mine.thread};
+    size_t values = (len < LONGEST_EVENT ? len : LONGEST_EVENT) - ID_SIZE;
+    memcpy(whole, head, sizeof head);
+    memcpy(whole + sizeof head, event + ID_SIZE, values);
+    if (!write_event(slot, whole, sizeof head + values))
+        flight_note_refused(slot);
+    if (!is_nested)
+        flight_give_cpu(slot);
+}
+
+void flight_record(const struct flight_site *site, uint8_t *event, size_t len)
+{
+    struct slot *slot = own_slot();
+    if (__builtin_expect(!slot, false)) {
+        if (flight_recorder.cpus && load(&flight_running))
+            record_on_cpu(site, event, len);
+        return;
+    }
+    uint32_t id = id_of(site);
+    memcpy(event, &id, sizeof id);
+    // (The slot is looked up once more, so that no event pays for keeping it.)
+    if (!write_event(slot, event, len))
+        flight_note_refused(flight_mine.slot);
 }
 
 // Gives back the slot of a thread that ends.
@@ -94,8 +142,7 @@ static void leave(void *given)
     struct slot *slot = given;
     block_signals(&signals);
     if (go_in() == slot) {
-        flight_mine.slot = NULL;
-        flight_mine.running = 0;
+        forget_slot();
         flight_hand_back(slot);
     }
     go_out();
@@ -140,8 +187,8 @@ static void after_fork(void)
 // The child of a fork has this thread alone, which has no slot: the rings may be in calls of threads that are gone.
 static void start_child(void)
 {
-    flight_mine.slot = NULL;
-    flight_mine.running = 0;
+    forget_slot();
+    flight_mine.thread = 0;
     is_of_parent |= load(&flight_running) != 0;
     __atomic_store_n(&flight_running, 0, __ATOMIC_SEQ_CST);
     __atomic_store_n(&flight_is_dumping, 0, __ATOMIC_SEQ_CST);
@@ -185,11 +232,13 @@ static struct flight_config with_defaults(const struct flight_config *given)
 
 static bool is_in_range(const struct flight_config *config)
 {
+    uint32_t cpus, cpu_slots = config->per_cpu ? flight_cpu_slots(&cpus) : 0;
     bool has_clock = config->clock == FLIGHT_MONOTONIC || config->clock == FLIGHT_CALLER;
 #if defined(__x86_64__) || defined(__aarch64__)
     has_clock |= config->clock == FLIGHT_TSC;
 #endif
-    return config->levels <= MOST_LEVELS && config->threads <= FILE_MOST_RINGS / config->levels && config->pages >= 2
+    return config->levels <= MOST_LEVELS
+        && (uint64_t)config->threads + cpu_slots <= FILE_MOST_RINGS / config->levels && config->pages >= 2
         && config->pages <= 1024 && config->size >= 32 && config->size <= 65520 && config->size % 4 == 0 && has_clock
         && (config->clock == FLIGHT_CALLER) == (config->now != NULL);
 }
@@ -199,12 +248,20 @@ static size_t in_pages(size_t len)
     return (len + FILE_HEADER - 1) / FILE_HEADER * FILE_HEADER;
 }
 
+// Counts the slots of a recorder.
+static void count_slots(void)
+{
+    struct recorder *it = &flight_recorder;
+    it->ring_slots = it->config.per_cpu ? flight_cpu_slots(&it->cpus) : it->config.threads;
+    it->slot_count = it->ring_slots + (it->config.per_cpu ? it->config.threads : 0);
+}
+
 // Lays out the memory of a recorder: the slots, the nodes of their queue, and what a dump copies to.
 static int get_memory(void)
 {
     struct recorder *it = &flight_recorder;
-    size_t threads = it->config.threads, slots = in_pages(threads * sizeof *it->slots);
-    size_t nodes = in_pages((threads + 1) * sizeof *it->queue.nodes);
+    size_t slots = in_pages(it->slot_count * sizeof *it->slots);
+    size_t nodes = in_pages((it->config.threads + 1) * sizeof *it->queue.nodes);
     size_t copies = ring_offset(it->config.pages, it->config.size, it->config.levels);
     it->memory_len = slots + nodes + copies + (it->config.pages + 2) * sizeof *it->pages;
     void *memory = mmap(NULL, it->memory_len, PROT_READ | PROT_WRITE, MAP_PRIVATE | MAP_ANONYMOUS, -1, 0);
@@ -221,7 +278,7 @@ static int get_memory(void)
 static void release_memory(void)
 {
     struct recorder *it = &flight_recorder;
-    for (uint32_t slot = 0; slot < it->config.threads; slot++)
+    for (uint32_t slot = 0; slot < it->ring_slots; slot++)
         for (uint32_t level = 0; level < it->config.levels; level++)
             (void)tracering_writer_free(&it->slots[slot].rings[level], NULL);
     (void)munmap(it->memory, it->memory_len);
@@ -244,7 +301,7 @@ static int32_t make_ring(uint32_t slot, uint32_t level)
 // Makes the rings of all slots. What was made before one that isn't is released with the memory.
 static int make_rings(void)
 {
-    for (uint32_t slot = 0; slot < flight_recorder.config.threads; slot++)
+    for (uint32_t slot = 0; slot < flight_recorder.ring_slots; slot++)
         for (uint32_t level = 0; level < flight_recorder.config.levels; level++)
             if (make_ring(slot, level) != TRACERING_DONE)
                 return ENOMEM;
@@ -273,6 +330,7 @@ static int start(const struct flight_config *config)
     strncpy(flight_recorder.program, program_invocation_short_name, sizeof flight_recorder.program - 1);
     flight_recorder.started = flight_moment();
     flight_recorder.started_real = nanoseconds(CLOCK_REALTIME);
+    count_slots();
     int fault = flight_make_sites();
     if (!fault)
         fault = get_memory();

@@ -5,6 +5,10 @@
 // flight_record (recorder.c), which writes them to the first ring of the thread's slot that isn't in a call. A thread
 // gets a slot from the queue of free ones (slots.c), and notes a lease in it.
 //
+// With rings per CPU the first slots have the rings, one for each CPU, and some spare ones. Who writes an event takes
+// one for so long (cpus.c); the event has its thread's number. The other slots have no rings: a thread gets one of them
+// for its leases, which have a moment in place of the numbers of records, and name the thread from then on.
+//
 // All rings, leases, and counts of refusals lie in one memory, the image: the recorder's file, or memory of the process
 // in the same form (file.c). A dump (dump.c) copies the region of each ring while its thread goes on, whatever that is
 // doing: no thread is asked, nothing is locked, and what was copied stays where it is. So a dump that fails loses
@@ -42,7 +46,7 @@ enum {
 
 // The time in which one thread has a slot: words, since a dump may read them while the thread changes them.
 struct lease {
-    uint64_t first[MOST_LEVELS]; // the number of its first record on each ring
+    uint64_t first[MOST_LEVELS]; // the number of its first record on each ring; of a slot without rings: its moment
     uint64_t thread;
     uint64_t name[NAME_SIZE / 8];
 };
@@ -64,7 +68,7 @@ struct noted {
 
 _Static_assert(sizeof(struct noted) == SLOT_BYTES, "a slot of a flight file has another length");
 
-// What a thread has while it records.
+// What a thread has while it records, or while it writes an event.
 struct slot {
     struct tracering_writer rings[MOST_LEVELS];
     struct noted *noted;
@@ -93,6 +97,9 @@ struct recorder {
     void *memory; // the slots, the queue's nodes, and what a dump copies to
     size_t memory_len;
     struct slot *slots;
+    uint32_t slot_count;
+    uint32_t ring_slots; // how many of them have rings: the first ones
+    uint32_t cpus;       // how many of these are for one CPU each; 0: rings are those of threads
     struct queue queue;
     uint32_t looked; // the slot of which it is looked next whether its thread lives
     uint64_t *image; // the header of its file, or of memory in that form
@@ -116,8 +123,10 @@ extern pthread_mutex_t flight_lock;
 
 // The slot of this thread, if it is one of the recorder that runs; and the name that it gave itself.
 struct mine {
-    struct slot *slot;
+    struct slot *slot;  // that it writes to; null, if rings are those of CPUs
+    struct slot *named; // that has its leases
     uint32_t running;
+    uint32_t thread;   // its number, once it was needed; or 0
     uint32_t refusals; // how many of its events found no slot, of this recorder
     uint32_t refused_by;
     char name[NAME_SIZE];
@@ -139,12 +148,25 @@ void flight_hand_back(struct slot *slot);
 void flight_count_without_ring(void);
 // How many there were.
 uint64_t flight_without_ring(void);
+// Whether a ring of a slot can be written.
+bool flight_has_ring(const struct slot *slot);
+// Whether the kernel knows no such thread of this process.
+bool flight_is_gone(uint32_t thread);
 // Begins a lease of this thread, which has the slot. All signals are blocked.
 void flight_begin_lease(struct slot *slot);
 // Copies the leases of a slot.
 void flight_copy_leases(struct leases *to, const struct slot *slot);
-// Notes how many events the rings of the calling thread, which has a slot, refused.
-void flight_note_refused(void);
+// Notes how many events the rings of a slot refused, which the calling thread has, unless it is null.
+void flight_note_refused(const struct slot *slot);
+
+// ---- Rings per CPU (cpus.c).
+
+// How many slots with rings there are: one for each CPU, of which `cpus` gets the number, and spare ones.
+uint32_t flight_cpu_slots(uint32_t *cpus);
+// Takes a slot for an event of the calling thread, or null: others have all of them. `is_nested`: it is one that the
+// thread has, since this interrupts another event of it; else it is to be given back.
+struct slot *flight_take_cpu(bool *is_nested);
+void flight_give_cpu(struct slot *slot);
 
 // ---- The image (file.c).
 
@@ -301,10 +323,10 @@ static inline uint64_t records_of(const struct tracering_writer *ring)
     return records;
 }
 
-// The slot of the calling thread, or null.
+// The slot that has the leases of the calling thread, or null.
 static inline struct slot *slot_of_caller(void)
 {
-    return flight_mine.running == load(&flight_running) ? flight_mine.slot : NULL;
+    return flight_mine.running == load(&flight_running) ? flight_mine.named : NULL;
 }
 
 // The same, which stays until go_out.

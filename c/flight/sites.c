@@ -106,7 +106,7 @@ static bool matches(const char *pattern, const struct subject *subject)
 // Whether the switches leave a site on.
 static bool is_left_on(const struct flight_site *site)
 {
-    static const char *const levels[] = {"", "ERROR ", "WARN ", "INFO ", "DEBUG "};
+    static const char *const levels[] = {"", "ERROR ", "WARN ", "INFO ", "DEBUG ", "TRACE "};
     unsigned level = site->style >> SITE_LEVEL_SHIFT;
     char line[32] = ":";
     size_t len = 1;

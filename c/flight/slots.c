@@ -16,10 +16,25 @@ static void copy_words(uint64_t *to, const uint64_t *from, size_t words)
         __atomic_store_n(&to[at], __atomic_load_n(&from[at], __ATOMIC_ACQUIRE), __ATOMIC_RELEASE);
 }
 
-static struct lease new_lease(const struct slot *slot)
+// Whether a slot has rings.
+static bool is_ring_slot(const struct slot *slot)
+{
+    return slot - flight_recorder.slots < flight_recorder.ring_slots;
+}
+
+// From which moment on a lease that comes after this one, if there is one, names its thread. (They don't fall.)
+static uint64_t next_moment(const struct lease *before)
+{
+    uint64_t moment = flight_moment();
+    return before && before->first[0] > moment ? before->first[0] : moment;
+}
+
+static struct lease new_lease(const struct slot *slot, const struct lease *before)
 {
     struct lease lease = {.thread = this_thread()};
-    for (uint32_t level = 0; level < MOST_LEVELS; level++)
+    if (!is_ring_slot(slot))
+        lease.first[0] = next_moment(before);
+    for (uint32_t level = 0; is_ring_slot(slot) && level < MOST_LEVELS; level++)
         lease.first[level] = records_of(&slot->rings[level]);
     char name[NAME_SIZE] = {0};
     if (flight_mine.name[0])
@@ -33,10 +48,11 @@ static struct lease new_lease(const struct slot *slot)
 // (A lease without a record gives way to the new one.)
 void flight_begin_lease(struct slot *slot)
 {
-    struct lease lease = new_lease(slot);
     struct noted *noted = slot->noted;
     uint64_t count = __atomic_load_n(&noted->leases.count, __ATOMIC_RELAXED), version = noted->version;
-    if (count && !memcmp(noted->leases.of[(count - 1) % LEASES].first, lease.first, sizeof lease.first))
+    const struct lease *before = count ? &noted->leases.of[(count - 1) % LEASES] : NULL;
+    struct lease lease = new_lease(slot, before);
+    if (before && is_ring_slot(slot) && !memcmp(before->first, lease.first, sizeof lease.first))
         count--;
     __atomic_store_n(&noted->version, changing_version(version, count % LEASES), __ATOMIC_SEQ_CST);
     copy_words((uint64_t *)&noted->leases.of[count % LEASES], (const uint64_t *)&lease, sizeof lease / 8);
@@ -75,9 +91,8 @@ static void note_refused_by(const struct tracering_writer *ring, uint64_t *noted
     }
 }
 
-void flight_note_refused(void)
+void flight_note_refused(const struct slot *slot)
 {
-    const struct slot *slot = flight_mine.slot;
     for (uint32_t level = 0; slot && level < flight_recorder.config.levels; level++)
         note_refused_by(&slot->rings[level], slot->noted->refused[level]);
 }
@@ -131,12 +146,18 @@ static bool change_word(uint64_t *word, uint64_t from, uint32_t node)
     return __atomic_compare_exchange_n(word, &from, word_after(from, node), false, __ATOMIC_SEQ_CST, __ATOMIC_SEQ_CST);
 }
 
+// The first of the slots that threads get, of which there are as many as `threads` says.
+static uint32_t first_free(void)
+{
+    return flight_recorder.slot_count - flight_recorder.config.threads;
+}
+
 void flight_fill_queue(void)
 {
     struct queue *queue = &flight_recorder.queue;
     uint32_t threads = flight_recorder.config.threads;
     for (uint32_t at = 0; at <= threads; at++)
-        queue->nodes[at] = (struct node){at < threads ? at + 1 : NO_NODE, at - 1};
+        queue->nodes[at] = (struct node){at < threads ? at + 1 : NO_NODE, first_free() + at - 1};
     queue->head = 0;
     queue->tail = threads;
 }
@@ -192,8 +213,8 @@ void flight_hand_back(struct slot *slot)
     put_last(slot);
 }
 
-// Whether a ring of it can be written. (A thread may have ended in a call on each.)
-static bool has_ring(const struct slot *slot)
+// (A thread may have ended in a call on each.)
+bool flight_has_ring(const struct slot *slot)
 {
     for (uint32_t level = 0; level < flight_recorder.config.levels; level++)
         if (!slot->rings[level].in_call)
@@ -201,8 +222,7 @@ static bool has_ring(const struct slot *slot)
     return false;
 }
 
-// Whether the kernel knows no such thread of this process.
-static bool is_gone(uint32_t thread)
+bool flight_is_gone(uint32_t thread)
 {
     return syscall(SYS_tgkill, getpid(), thread, 0) && errno == ESRCH;
 }
@@ -214,11 +234,12 @@ static struct slot *take_left(void)
     uint32_t threads = flight_recorder.config.threads, thread = this_thread();
     for (uint32_t tries = 0; tries < threads && tries < LOOKED_AT_ONCE; tries++) {
         uint32_t at = __atomic_fetch_add(&flight_recorder.looked, 1, __ATOMIC_RELAXED) % threads;
-        struct slot *slot = &flight_recorder.slots[at];
+        struct slot *slot = &flight_recorder.slots[first_free() + at];
         uint32_t owner = load(&slot->owner);
-        if (owner == NOBODY || owner == NOBODY_ANY_MORE || (owner != thread && !is_gone(owner)))
+        if (owner == NOBODY || owner == NOBODY_ANY_MORE || (owner != thread && !flight_is_gone(owner)))
             continue;
-        if (exchange_if(&slot->owner, owner, has_ring(slot) ? thread : NOBODY_ANY_MORE) && has_ring(slot))
+        if (exchange_if(&slot->owner, owner, flight_has_ring(slot) ? thread : NOBODY_ANY_MORE)
+            && flight_has_ring(slot))
             return slot;
     }
     return NULL;
@@ -239,7 +260,7 @@ bool flight_may_claim(uint32_t running)
 struct slot *flight_claim(void)
 {
     for (struct slot *slot; (slot = take_first());) {
-        bool is_usable = has_ring(slot);
+        bool is_usable = flight_has_ring(slot);
         __atomic_store_n(&slot->owner, is_usable ? this_thread() : NOBODY_ANY_MORE, __ATOMIC_SEQ_CST);
         if (is_usable)
             return slot;

@@ -541,7 +541,7 @@ static inline void tracering_complete(struct tracering_writer *w)
 
 // A new ring of `pages` pages (2 to 1,024), and a spare one, of `size` bytes of data each (32 to 65,520, a multiple of
 // 4). Its parcels are those of this CPU (below 256). All memory of the ring is taken here.
-// IN_USE, BAD_CPU, BAD_SIZE, NO_MEMORY.
+// IN_USE, BAD_CPU, BAD_SIZE (no ring has these numbers: it has 67 megabytes of data at most), NO_MEMORY.
 static inline int32_t tracering_new(struct tracering_writer *w, struct tracering_reader *r, uint32_t cpu, size_t pages,
     size_t size)
 {

@@ -32,6 +32,14 @@
 // is reached.
 // A thread whose cancel type is asynchronous must make no call of these, and no TRACE.
 //
+// Rings per CPU. With `per_cpu` there are rings for each CPU that the system is configured for, `levels` of them, and
+// for as many spare places, eight at most, however many threads record: so memory doesn't grow with threads, and the
+// newest events of all that ran on a CPU are kept together. An event goes to the rings of the CPU that its thread is
+// on. If another thread was interrupted amid its own event there, it goes to spare ones, or to those of another CPU;
+// only if all are in use it is counted as one without a ring. Each event has its thread's number, four bytes more, and
+// takes some 120 instructions more. `threads` is then how many threads are named at once: of a further one the number
+// alone is shown, until a thread ends. `threads` and those places, times levels, are 65,536 at most.
+//
 // Signals. A handler may call TRACE, flight_dump and flight_name, which take no memory and no lock, and no other call
 // of these. What interrupts a TRACE writes to the thread's next ring (`levels`); an event for which no ring is left is
 // counted. A handler that doesn't return while it holds an interrupted TRACE leaves that ring in use.
@@ -101,13 +109,14 @@ struct flight_config {
     uint32_t pages;          // how many pages a thread's first ring has: 2 to 1,024 (8); its others have 2
     uint32_t size;           // bytes of data on a page: 32 to 65,520, a multiple of 4 (4,080). An event that has no
                              // room on an empty page is counted as refused (too long)
-                             // (So a ring has 67 megabytes at most; for more, there are more threads' rings)
+                             // (So a ring has 67 megabytes of data at most: flight_start answers EINVAL to more)
     uint32_t keep;           // nothing: a dump takes no page, so each has all that the rings have
     enum flight_clock clock; // (FLIGHT_MONOTONIC)
     uint64_t (*now)(void);   // FLIGHT_CALLER: the clock, below 2^59; it may be called in handlers. Null for others
     int signal;              // nothing: no thread is sent a signal
     uint32_t wait_ms;        // nothing: no thread is waited for
     const char *file;        // a file that has all events from the start on, after a kill, too: "Files" (none)
+    bool per_cpu;            // whether rings are those of CPUs, and not those of threads: "Rings per CPU" (false)
 };
 
 // Starts the recorder: all its memory is taken here. Null stands for all defaults.
@@ -115,10 +124,11 @@ struct flight_config {
 // leaves is there until the second start after it. Nothing looks whether a process still records in it: processes that
 // run at once, a forked child and its parent too, need paths of their own. The new file is readable by its owner alone,
 // and its blocks are allocated. It may not be called in handlers.
-// EALREADY: it runs already. EINVAL: a number is out of its range, this machine has no such clock, or `now` is null
-// with FLIGHT_CALLER or given without it. EEXIST: what is at the path of `file` is no regular file. ENOMEM. And what
-// open and others answer. If there is no start, there is no new file, but the former one may be PATH~. (LeakSanitizer
-// doesn't look into all of this memory: unless flight_stop is called, it reports the rings as lost.)
+// EALREADY: it runs already. EINVAL: a number is out of its range (a ring has 67 megabytes at most: 1,024 pages of
+// 65,520 bytes), this machine has no such clock, or `now` is null with FLIGHT_CALLER or given without it. EEXIST: what
+// is at the path of `file` is no regular file. ENOMEM. And what open and others answer. If there is no start, there is
+// no new file, but the former one may be PATH~. (LeakSanitizer doesn't look into all of this memory: unless flight_stop
+// is called, it reports the rings as lost.)
 int flight_start(const struct flight_config *config);
 
 // In a forked child: starts a recorder with all that its parent's was started with. In the path of `file` there has to
@@ -170,9 +180,9 @@ int flight_name(const char *name);
 
 // Switches on or off the events whose text "FILE:LINE FORMAT" the whole pattern matches (so "*cache.c:*" for a file),
 // FILE as __FILE__ has it; those also that are first reached later. Of an event with fields FORMAT is its text and
-// their names, and before it is the level, if it has one: ERROR, WARN, INFO or DEBUG (so "*:* DEBUG *" for a level).
-// All are on at first, and the last switch counts whose pattern matches. In a pattern * stands for any bytes, ? for
-// one, [a-z] and [!a-z] for one of a set or not of it, and \ for the byte after it. It may be called before
+// their names, and before it is the level, if it has one: ERROR, WARN, INFO, DEBUG or TRACE (so "*:* DEBUG *" for a
+// level). All are on at first, and the last switch counts whose pattern matches. In a pattern * stands for any bytes,
+// ? for one, [a-z] and [!a-z] for one of a set or not of it, and \ for the byte after it. It may be called before
 // flight_start. It may not be called in handlers. ENOMEM.
 int flight_switch(const char *pattern, bool on);
 
@@ -195,8 +205,8 @@ enum {
 // What texts of formats are; of fields: a text, and then a zero before each name.
 enum { FLIGHT_PRINTF = 0, FLIGHT_BRACES = 1, FLIGHT_FIELDS = 2 };
 
-// Levels, which are added to that. (0: none.)
-enum { FLIGHT_ERROR = 0x10, FLIGHT_WARNING = 0x20, FLIGHT_INFO = 0x30, FLIGHT_DEBUG = 0x40 };
+// Levels, which are added to that. (0: none. The last one, below that of debugging, is of other languages' events.)
+enum { FLIGHT_ERROR = 0x10, FLIGHT_WARNING = 0x20, FLIGHT_INFO = 0x30, FLIGHT_DEBUG = 0x40, FLIGHT_FINEST = 0x50 };
 
 // A place that records, one static object each. The recorder changes what comes after `style`, and the kind of a
 // `char *` whose conversion isn't %s, in flight_register alone.
@@ -221,7 +231,8 @@ extern uint32_t flight_turn;
 // Makes a site known to the recorder, and answers whether it is on in this turn; it is not if no recorder runs.
 bool flight_register(struct flight_site *site);
 
-// Records an event: `len` bytes, of which the first four are the recorder's and the others are the arguments.
+// Records an event: `len` bytes, 2,060 at most, of which the first four are the recorder's and the others are the
+// arguments.
 void flight_record(const struct flight_site *site, uint8_t *event, size_t len);
 
 // ThreadSanitizer takes for races what the library does, which isn't compiled for it: it passes over an event's

@@ -64,7 +64,7 @@ struct tracering_region {
 
 // How many bytes the region of a ring has of `pages` pages (2 to 1,024) of `size` bytes of data each (32 to 65,520, a
 // multiple of 4): TRACERING_REGION_HEADER, and for each of its pages + 1 slots TRACERING_HEADER + `size`, rounded up
-// to a multiple of 64. It is 0 if no ring has these numbers.
+// to a multiple of 64. It is 0 if no ring has these numbers: a ring has 67 megabytes of data at most.
 size_t tracering_region_size(size_t pages, size_t size);
 
 // The part of new_in between the handles' marks.

@@ -68,16 +68,18 @@ static const struct {
     const char *name;
     enum flight_clock clock;
     void (*events)(void);
-} runs[] = {{"write", FLIGHT_MONOTONIC, write_events}, {"counter", FLIGHT_CALLER, trace_events},
-    {"tsc", FLIGHT_TSC, trace_events}, {"monotonic", FLIGHT_MONOTONIC, trace_events},
-    {"text", FLIGHT_TSC, trace_texts}, {"off", FLIGHT_TSC, trace_nothing}};
+    bool per_cpu;
+} runs[] = {{"write", FLIGHT_MONOTONIC, write_events, false}, {"counter", FLIGHT_CALLER, trace_events, false},
+    {"tsc", FLIGHT_TSC, trace_events, false}, {"cpu", FLIGHT_TSC, trace_events, true},
+    {"monotonic", FLIGHT_MONOTONIC, trace_events, false}, {"text", FLIGHT_TSC, trace_texts, false},
+    {"off", FLIGHT_TSC, trace_nothing, false}};
 
 int main(int argc, char **argv)
 {
     if (tracering_new(&writer, &reader, 0, 8, 4080) != TRACERING_DONE || flight_switch("* switched off *", false))
         return 1;
     for (size_t at = 0; at < sizeof runs / sizeof *runs; at++) {
-        struct flight_config config = {.clock = runs[at].clock};
+        struct flight_config config = {.clock = runs[at].clock, .per_cpu = runs[at].per_cpu};
         config.now = config.clock == FLIGHT_CALLER ? count_up : NULL;
         if (argc > 1 && strcmp(argv[1], runs[at].name))
             continue;

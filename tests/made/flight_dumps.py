@@ -7,8 +7,8 @@ from oracles.fleet import crc32c
 
 MONOTONIC, TSC, CALLER = range(3)
 PRINTF, BRACES, FIELDS = range(3)
-# Levels, as they are added to FIELDS.
-ERROR, WARNING, INFO, DEBUG = (level << 4 for level in range(1, 5))
+# Levels, as they are added to a style.
+ERROR, WARNING, INFO, DEBUG, TRACE = (level << 4 for level in range(1, 6))
 # Kinds of arguments.
 I8, I16, I32, I64, U8, U16, U32, U64, F32, F64, ADDRESS, TEXT = (
     0x01, 0x02, 0x04, 0x08, 0x11, 0x12, 0x14, 0x18, 0x24, 0x28, 0x38, 0x40,
@@ -114,17 +114,27 @@ class Dump:
     end: tuple = (0, 0)
     no_ring: int = 0
     name: str = "program"
+    names: list = field(default_factory=list)  # of each slot without rings: moments, threads and their names
 
     def sections(self):
         process = u32(self.pid, self.tid, self.signal, self.clock) + u64(*self.start, *self.end, self.no_ring)
         made = [(b"PROC", process + text(self.name))]
         for ring in self.rings:
             made += ring.sections()
+        for slot in self.names:
+            leases = [u64(moment) + u32(thread) + text(name) for moment, thread, name in slot]
+            made.append((b"NAME", u32(len(leases)) + b"".join(leases)))
         made += [site.section() for site in self.sites]
         return made + [(b"ENDS", u32(len(made), 0))]
 
     def bytes(self):
         return joined(self.sections())
+
+
+def of_thread(thread, payload):
+    """The payload of a record that has its thread's number."""
+    [id] = struct.unpack_from("<I", payload)
+    return u32(id | 1 << 31, thread) + payload[4:]
 
 
 def section(kind, has):

@@ -65,7 +65,8 @@ class File:
     rings: dict = field(default_factory=dict)  # by slot and level
     slots: dict = field(default_factory=dict)  # by number
     sites: list = field(default_factory=list)  # of bytes, or of Site
-    threads: int = 2
+    threads: int = 2  # slots
+    ring_slots: int = 0  # those that have rings; 0: all
     levels: int = 2
     pages: int = 4
     size: int = 256
@@ -86,7 +87,7 @@ class File:
     def areas(self):
         """Where the slots, the sites and the rings begin, and how long they are."""
         slots, sites = self.threads * SLOT, rounded(HEADER + self.threads * SLOT, 4096)
-        rings = self.threads * sum(map(self.room, range(self.levels)))
+        rings = (self.ring_slots or self.threads) * sum(map(self.room, range(self.levels)))
         return [HEADER, slots, sites, SITES, sites + SITES, rings]
 
     def ring_at(self, slot, level):
@@ -98,14 +99,14 @@ class File:
         sites = b"".join(site if isinstance(site, bytes) else site_bytes(site) for site in self.sites)
         made = b"TRLIVING" + u64(2, self.threads, self.levels, self.pages, self.size, self.clock, self.pid)
         made += u64(*self.areas(), *self.boot, *self.start, self.stamps, *self.stamp[0], *self.stamp[1])
-        made += u64(0, len(sites), self.ended)
+        made += u64(0, len(sites), self.ended, 0, 0, self.ring_slots)
         made = made.ljust(256, b"\0") + self.name.encode().ljust(64, b"\0")
         # (Of the counts of events that had no ring all are summed.)
         counts = [self.no_ring - self.no_ring // 3, *[0] * 30, self.no_ring // 3]
         made = made.ljust(COUNTS, b"\0") + b"".join(u64(count).ljust(64, b"\0") for count in counts)
         made += b"".join(self.slots.get(slot, Slot()).bytes() for slot in range(self.threads))
         made = made.ljust(self.areas()[2], b"\0") + sites.ljust(SITES, b"\0")
-        for slot in range(self.threads):
+        for slot in range(self.ring_slots or self.threads):
             for level in range(self.levels):
                 ring = self.rings.get((slot, level), Ring())
                 region = ring.region(slot * self.levels + level, 2 if level else self.pages, self.size, 7)

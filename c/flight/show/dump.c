@@ -16,7 +16,7 @@ struct section {
 struct progress {
     uint32_t sections;
     uint32_t pages; // how many pages of the last ring are to come
-    bool process, sites, ends;
+    bool process, names, sites, ends;
     struct checksum_table table;
 };
 
@@ -90,6 +90,7 @@ static bool read_lease(struct cursor *c, const struct lease *before, struct leas
     return take_text(c, "a thread's name", &lease->name);
 }
 
+// (The ring's leases are to be freed in any case.)
 static bool read_leases(struct cursor *c, struct ring *ring)
 {
     const uint8_t *at = take(c, 4, "number of leases");
@@ -122,6 +123,16 @@ static bool read_ring(struct cursor *c, struct dump *dump, struct progress *prog
     if (dump->of_number[ring.number])
         return refuse(c, begin, "ring %u is there twice", ring.number);
     return read_leases(c, dump_add_ring(dump, &ring));
+}
+
+static bool read_names(struct cursor *c, struct dump *dump)
+{
+    struct ring none = {0};
+    bool are_read = read_leases(c, &none);
+    for (size_t k = 0; are_read && k < none.lease_count; k++)
+        dump_add_name(dump, &none.leases[k]);
+    free(none.leases);
+    return are_read;
 }
 
 static bool refuse_page(struct cursor *c, size_t begin, int32_t code, const struct ring *ring,
@@ -175,12 +186,14 @@ static bool may_come(const struct section *section, const struct progress *progr
 {
     if (!progress->process || progress->pages)
         return is_kind(section, progress->process ? "PAGE" : "PROC");
-    return (is_kind(section, "RING") && !progress->sites) || is_kind(section, "SITE") || is_kind(section, "ENDS");
+    return (is_kind(section, "RING") && !progress->names && !progress->sites)
+        || (is_kind(section, "NAME") && !progress->sites) || is_kind(section, "SITE") || is_kind(section, "ENDS");
 }
 
 static bool refuse_section(struct cursor *c, const struct section *section, const struct progress *progress)
 {
-    const char *wanted = !progress->process ? "PROC" : progress->pages ? "PAGE" : "RING, SITE or ENDS, in this order,";
+    const char *wanted = !progress->process ? "PROC" : progress->pages ? "PAGE"
+        : "RING, NAME, SITE or ENDS, in this order,";
     return refuse(c, section->offset, "a section %s is expected", wanted);
 }
 
@@ -189,6 +202,7 @@ static void count_section(const struct section *section, struct progress *progre
 {
     progress->process = true;
     progress->pages -= is_kind(section, "PAGE");
+    progress->names |= is_kind(section, "NAME");
     progress->sites |= is_kind(section, "SITE");
     progress->ends |= is_kind(section, "ENDS");
 }
@@ -203,13 +217,15 @@ static bool read_section(struct cursor *c, struct dump *dump, const struct secti
         return read_ring(c, dump, progress);
     if (is_kind(section, "PAGE"))
         return read_page(c, dump);
+    if (is_kind(section, "NAME"))
+        return read_names(c, dump);
     return is_kind(section, "SITE") ? read_site(c, add_site(dump, room)) : read_end(c, progress->sections);
 }
 
 // Whether what follows a section is one, too.
 static bool is_followed(const struct cursor *c, size_t end)
 {
-    static const char kinds[] = "RINGPAGESITEENDS";
+    static const char kinds[] = "RINGPAGENAMESITEENDS";
     for (size_t kind = 0; c->end - end >= SECTION_HEAD && kind < sizeof kinds - 1; kind += 4)
         if (!memcmp(c->file + end, kinds + kind, 4))
             return true;
@@ -288,6 +304,7 @@ bool dump_read(struct dump *dump, struct bytes file, struct fault *fault)
             return false;
     if (c.at != c.end)
         return refuse(&c, c.at, "the file's end is expected, and it has %zu bytes more", c.end - c.at);
+    sort_names(dump);
     return check_sites(&c, dump);
 }
 
@@ -297,6 +314,7 @@ void dump_free(struct dump *dump)
         free(dump->rings[k].leases);
     free(dump->rings);
     free(dump->of_number);
+    free(dump->names);
     free(dump->sites);
     for (size_t k = 0; k < dump->damage_count; k++)
         free(dump->damages[k].why);
@@ -316,6 +334,54 @@ const struct site *dump_site(const struct dump *dump, uint32_t id)
             high = middle;
     }
     return low < dump->site_count && dump->sites[low].id == id ? &dump->sites[low] : NULL;
+}
+
+void dump_add_name(struct dump *dump, const struct lease *name)
+{
+    if (dump->name_count == dump->name_room) {
+        dump->name_room = 2 * dump->name_room + 16;
+        struct lease *grown = allocate(dump->name_room, sizeof *grown);
+        if (dump->name_count)
+            memcpy(grown, dump->names, dump->name_count * sizeof *grown);
+        free(dump->names);
+        dump->names = grown;
+    }
+    dump->names[dump->name_count++] = *name;
+}
+
+static int compare_numbers(uint64_t one, uint64_t other)
+{
+    return one < other ? -1 : one > other;
+}
+
+static int compare_names(const void *one, const void *other)
+{
+    const struct lease *a = one, *b = other;
+    int order = compare_numbers(a->tid, b->tid);
+    return order ? order : compare_numbers(a->first, b->first);
+}
+
+void sort_names(struct dump *dump)
+{
+    if (dump->name_count)
+        qsort(dump->names, dump->name_count, sizeof *dump->names, compare_names);
+}
+
+// (A moment before the first name may be read a little late, on another processor, so it has that name, too.)
+const struct lease *dump_name(const struct dump *dump, uint32_t thread, uint64_t moment)
+{
+    const struct lease wanted = {moment, thread, {NULL, 0}};
+    size_t low = 0, high = dump->name_count;
+    while (low < high) {
+        size_t middle = low + (high - low) / 2;
+        if (compare_names(&dump->names[middle], &wanted) <= 0)
+            low = middle + 1;
+        else
+            high = middle;
+    }
+    if (low && dump->names[low - 1].tid == thread)
+        return &dump->names[low - 1];
+    return low < dump->name_count && dump->names[low].tid == thread ? &dump->names[low] : NULL;
 }
 
 const struct lease *ring_lease(const struct ring *ring, uint64_t number)

@@ -11,7 +11,7 @@ enum clock_kind { CLOCK_OF_MONOTONIC, CLOCK_OF_TSC, CLOCK_OF_CALLER, CLOCK_KINDS
 
 enum style { STYLE_PRINTF, STYLE_BRACES, STYLE_FIELDS, STYLES };
 
-enum level { LEVEL_NONE, LEVEL_ERROR, LEVEL_WARNING, LEVEL_INFO, LEVEL_DEBUG, LEVELS };
+enum level { LEVEL_NONE, LEVEL_ERROR, LEVEL_WARNING, LEVEL_INFO, LEVEL_DEBUG, LEVEL_TRACE, LEVELS };
 
 enum argument_class { CLASS_SIGNED, CLASS_UNSIGNED, CLASS_FLOATING, CLASS_ADDRESS, CLASS_TEXT, CLASSES };
 
@@ -29,7 +29,7 @@ struct process {
     bool is_file, has_ended, is_inexact; // is_inexact: its times are, for want of a second such moment
 };
 
-// From which number on a thread had a ring.
+// From which number on a thread had a ring, or from which moment on it had its name.
 struct lease {
     uint64_t first;
     uint32_t tid;
@@ -67,6 +67,8 @@ struct dump {
     size_t ring_count, site_count;
     struct ring *rings;            // in the file's order
     const struct ring **of_number; // null: the file has no such ring
+    size_t name_count, name_room;
+    struct lease *names; // of threads whose records have their numbers: by that, then by the first moment
     struct site *sites;            // by id
     struct tracering_collector records[COLLECTORS];
     size_t damage_count, more_damages; // more_damages: those that aren't listed
@@ -91,6 +93,13 @@ struct ring *dump_add_ring(struct dump *dump, const struct ring *ring);
 
 // Adds a page of a ring to its records, as tracering_collector_add does.
 int32_t dump_add_page(struct dump *dump, const struct ring *ring, struct bytes page, struct tracering_fault_at *at);
+
+// Adds a name of a thread whose records have its number, and sorts them when all are there.
+void dump_add_name(struct dump *dump, const struct lease *name);
+void sort_names(struct dump *dump);
+
+// The name that the thread of this number had at this moment, or null: it isn't known.
+const struct lease *dump_name(const struct dump *dump, uint32_t thread, uint64_t moment);
 
 // Notes what can't be read, and why.
 void add_damage(struct dump *dump, const struct ring *ring, const char *what, const char *why, size_t offset);

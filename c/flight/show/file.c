@@ -48,13 +48,14 @@ static bool check_area(struct cursor *c, size_t word, size_t least, size_t align
 
 static bool check_limits(struct cursor *c)
 {
-    if (!check_number(c, FILE_THREADS, 1, FILE_MOST_RINGS, "threads"))
+    if (!check_number(c, FILE_SLOT_COUNT, 1, FILE_MOST_RINGS, "slots"))
         return false;
-    size_t most = FILE_MOST_RINGS / number64_at(c->file + FILE_THREADS * WORD);
+    size_t slots = number64_at(c->file + FILE_SLOT_COUNT * WORD), most = FILE_MOST_RINGS / slots;
     return check_number(c, FILE_LEVELS, 1, most < FILE_MOST_LEVELS ? most : FILE_MOST_LEVELS, "levels")
         && check_number(c, FILE_PAGES, 2, 1024, "pages") && check_number(c, FILE_SIZE, 32, 65520, "bytes of a page")
         && check_number(c, FILE_CLOCK, 0, CLOCK_KINDS - 1, "clock")
-        && check_number(c, FILE_PROCESS, 0, UINT32_MAX, "process") && check_number(c, FILE_ENDED, 0, 1, "end");
+        && check_number(c, FILE_PROCESS, 0, UINT32_MAX, "process") && check_number(c, FILE_ENDED, 0, 1, "end")
+        && check_number(c, FILE_RING_SLOTS, 0, slots, "slots with rings");
 }
 
 // Checks where the checksums of the blocks are, if it has any: behind the rings, whose areas begin and end with blocks.
@@ -73,8 +74,8 @@ static bool check_sums(struct cursor *c, size_t end)
 
 static bool check_areas(struct cursor *c, const struct file_header *header)
 {
-    size_t slots = header->threads * SLOT_BYTES;
-    size_t rings = header->threads * ring_offset(header->pages, header->size, header->levels);
+    size_t slots = header->slot_count * SLOT_BYTES;
+    size_t rings = header->ring_slots * ring_offset(header->pages, header->size, header->levels);
     return check_area(c, FILE_SLOTS, FILE_HEADER, WORD, "slots")
         && check_number(c, FILE_SLOTS_LEN, slots, slots, "bytes of slots")
         && check_area(c, FILE_SITES, header->slots + slots, WORD, "sites")
@@ -98,9 +99,10 @@ bool read_file_header(struct cursor *c, struct file_header *header)
         return false;
     if (word_of(file, FILE_SIZE) % 4)
         return refuse(c, FILE_SIZE * WORD, "a multiple of 4 is expected (bytes of a page)");
-    *header = (struct file_header){word_of(file, FILE_THREADS), word_of(file, FILE_LEVELS), word_of(file, FILE_PAGES),
-        word_of(file, FILE_SIZE), word_of(file, FILE_SLOTS), word_of(file, FILE_SITES), word_of(file, FILE_SITES_LEN),
-        word_of(file, FILE_RINGS)};
+    size_t count = word_of(file, FILE_SLOT_COUNT), with_rings = word_of(file, FILE_RING_SLOTS);
+    *header = (struct file_header){count, with_rings ? with_rings : count, word_of(file, FILE_LEVELS),
+        word_of(file, FILE_PAGES), word_of(file, FILE_SIZE), word_of(file, FILE_SLOTS), word_of(file, FILE_SITES),
+        word_of(file, FILE_SITES_LEN), word_of(file, FILE_RINGS)};
     return check_areas(c, header);
 }
 
@@ -209,6 +211,14 @@ static bool read_leases(struct ring *ring, const uint8_t *slot, const uint8_t *f
     return true;
 }
 
+static bool has_refused(const struct ring *ring)
+{
+    for (size_t reason = 0; reason < REASONS; reason++)
+        if (ring->refused[reason])
+            return true;
+    return false;
+}
+
 // Reads a ring and its region. One that nobody had is left out.
 static void read_ring(struct dump *dump, const struct file_header *header, struct bytes file, size_t slot, size_t level)
 {
@@ -224,11 +234,24 @@ static void read_ring(struct dump *dump, const struct file_header *header, struc
         add_damage(dump, ring, "what names its threads", "no recorder writes this", offset);
     }
     read_region(dump, ring, header, file);
-    if (!ring->lease_count && !ring->written && dump->damage_count == damages) {
+    if (!ring->lease_count && !ring->written && !has_refused(ring) && dump->damage_count == damages) {
         free(ring->leases);
         return;
     }
     (void)dump_add_ring(dump, ring);
+}
+
+// Reads what names the threads that had a slot without rings.
+static void read_names(struct dump *dump, const struct file_header *header, struct bytes file, size_t slot)
+{
+    struct ring none = {0};
+    size_t offset;
+    if (read_leases(&none, file.at + header->slots + slot * SLOT_BYTES, file.at, &offset))
+        for (size_t k = 0; k < none.lease_count; k++)
+            dump_add_name(dump, &none.leases[k]);
+    else
+        add_damage(dump, NULL, "what names threads", "no recorder writes this", offset);
+    free(none.leases);
 }
 
 // ---- Sites.
@@ -324,9 +347,12 @@ bool read_flight_file(struct dump *dump, struct bytes file, struct fault *fault)
         return false;
     check_blocks(dump, file);
     read_process(&dump->process, file);
-    for (size_t slot = 0; slot < header.threads; slot++)
+    for (size_t slot = 0; slot < header.ring_slots; slot++)
         for (size_t level = 0; level < header.levels; level++)
             read_ring(dump, &header, file, slot, level);
+    for (size_t slot = header.ring_slots; slot < header.slot_count; slot++)
+        read_names(dump, &header, file, slot);
+    sort_names(dump);
     read_sites(dump, &header, file);
     drop_doubles(dump);
     return true;

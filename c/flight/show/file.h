@@ -10,7 +10,7 @@
 
 // What the header says of the rest.
 struct file_header {
-    size_t threads, levels, pages, size;
+    size_t slot_count, ring_slots, levels, pages, size; // ring_slots: the first ones, which have rings
     size_t slots, sites, sites_len, rings;
 };
 

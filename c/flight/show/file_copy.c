@@ -70,12 +70,12 @@ void copy_flight_file(const uint8_t *mapped, size_t len, struct text *copy)
         memcpy(to, mapped, len);
         return;
     }
-    for (size_t slot = 0; slot < header.threads; slot++)
+    for (size_t slot = 0; slot < header.ring_slots; slot++)
         for (size_t level = 0; level < header.levels; level++) {
             size_t offset = region_offset(&header, slot, level);
             copy_region(to + offset, mapped + offset, ring_room(header.pages, header.size, level));
         }
-    for (size_t slot = 0; slot < header.threads; slot++)
+    for (size_t slot = 0; slot < header.slot_count; slot++)
         copy_slot(to + header.slots + slot * SLOT_BYTES, mapped + header.slots + slot * SLOT_BYTES);
     // (A site's room and its length are one word. If that has a length, what follows is there.)
     copy_words(to + header.sites, mapped + header.sites, header.sites_len);

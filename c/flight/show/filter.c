@@ -101,6 +101,16 @@ bool read_since(struct filter *filter, const char *word)
     return !*at;
 }
 
+bool read_level(struct filter *filter, const char *word)
+{
+    for (enum level level = LEVEL_ERROR; level < LEVELS; level++)
+        if (!strcmp(word, level_name(level)) || !strcmp(word, level_key(level))) {
+            filter->least = level;
+            return true;
+        }
+    return false;
+}
+
 int read_pattern(struct filter *filter, const char *word)
 {
     int fault = regcomp(&filter->text, word, REG_EXTENDED | REG_NOSUB);
@@ -143,6 +153,13 @@ static bool passes_time(const struct filter *filter, const struct dump *dump, co
     return filter->since == SINCE_ALWAYS || time_of(&dump->process, record->moment) >= filter->time;
 }
 
+// (The most severe level is the first one.)
+static bool passes_level(const struct filter *filter, const struct record *record)
+{
+    enum level level = record->site ? record->site->level : LEVEL_NONE;
+    return filter->least == LEVEL_NONE || (level != LEVEL_NONE && level <= filter->least);
+}
+
 // (The text is as it is shown: without control characters, so it has no zero.)
 static bool passes_text(const struct filter *filter, const struct record *record)
 {
@@ -160,7 +177,7 @@ static bool passes_text(const struct filter *filter, const struct record *record
 bool passes(const struct filter *filter, const struct dump *dump, const struct record *record)
 {
     return !filter || (passes_thread(filter, record->lease) && passes_time(filter, dump, record)
-        && passes_text(filter, record));
+        && passes_level(filter, record) && passes_text(filter, record));
 }
 
 bool may_pass_thread(const struct filter *filter, const struct lease *lease)

@@ -1,4 +1,4 @@
-// Which records are shown: by the thread that wrote them, their time and their text.
+// Which records are shown: by the thread that wrote them, their time, their level and their text.
 #ifndef FLIGHT_SHOW_FILTER_H
 #define FLIGHT_SHOW_FILTER_H
 
@@ -16,6 +16,7 @@ struct filter {
     enum since since;
     uint64_t moment;
     nanoseconds time; // from 1970 on, or of the day
+    enum level least; // of this level or a more severe one; LEVEL_NONE: any, also without a level
     bool has_text;
     regex_t text;
     // What is made of a record to be compared.
@@ -25,6 +26,9 @@ struct filter {
 
 // Reads a moment's number, a date and a time, or a time of day. False: it is none of them.
 bool read_since(struct filter *filter, const char *word);
+
+// Reads a level's name, as it is in lines or in objects. False: it is none.
+bool read_level(struct filter *filter, const char *word);
 
 // Reads a regular expression: 0, or regcomp's error.
 int read_pattern(struct filter *filter, const char *word);

@@ -5,7 +5,7 @@
 
 #include <stdlib.h>
 
-enum { LONGEST_PAYLOAD = 65536, ID_SIZE = 4 };
+enum { LONGEST_PAYLOAD = 65536, ID_SIZE = 4, THREAD_SIZE = 4 };
 
 // How far the listing is, of one ring.
 struct progress {
@@ -25,7 +25,8 @@ struct listing {
     struct progress *rings; // by number
     struct next next[COLLECTORS];
     size_t first;
-    nanoseconds time; // of the next record
+    nanoseconds time;     // of the next record
+    struct lease unnamed; // its thread, if that has a number and no name
 };
 
 struct listings {
@@ -58,13 +59,13 @@ void format_record(struct text *text, const struct record *record, struct argume
 
 const char *level_name(enum level level)
 {
-    static const char *const names[LEVELS] = {"", "ERROR", "WARN", "INFO", "DEBUG"};
+    static const char *const names[LEVELS] = {"", "ERROR", "WARN", "INFO", "DEBUG", "TRACE"};
     return names[level];
 }
 
 const char *level_key(enum level level)
 {
-    static const char *const keys[LEVELS] = {"", "error", "warn", "info", "debug"};
+    static const char *const keys[LEVELS] = {"", "error", "warn", "info", "debug", "trace"};
     return keys[level];
 }
 
@@ -100,17 +101,29 @@ static void give_gap(const struct listings *all, const struct listing *listing, 
         all->viewer->gap(all->viewer->self, listing->dump, &gap);
 }
 
-// The next record of a listing that has one.
-static struct record next_record(const struct listing *listing)
+// The thread of a record that has its number.
+static const struct lease *thread_of(struct listing *listing, uint32_t number, uint64_t moment)
+{
+    const struct lease *named = dump_name(listing->dump, number, moment);
+    listing->unnamed = (struct lease){0, number, {(const uint8_t *)"?", 1}};
+    return named ? named : &listing->unnamed;
+}
+
+// The next record of a listing that has one. It holds until the one after it is asked for.
+static struct record next_record(struct listing *listing)
 {
     const struct next *next = &listing->next[listing->first];
     const struct tracering_line *line = &next->line;
     const struct ring *ring = listing->dump->of_number[listing->first * CPUS + line->cpu];
     struct record record = {line->moment, line->number, ring, ring_lease(ring, line->number), NULL, 0, {NULL, 0}};
     if (line->len >= ID_SIZE) {
-        record.id = number32_at(next->payload);
+        uint32_t head = number32_at(next->payload), has_thread = head >> EVENT_HAS_THREAD;
+        size_t begin = has_thread && line->len >= ID_SIZE + THREAD_SIZE ? ID_SIZE + THREAD_SIZE : ID_SIZE;
+        record.id = head & ~(1u << EVENT_HAS_THREAD);
         record.site = dump_site(listing->dump, record.id);
-        record.payload = (struct bytes){next->payload + ID_SIZE, line->len - ID_SIZE};
+        record.payload = (struct bytes){next->payload + begin, line->len - begin};
+        if (begin > ID_SIZE)
+            record.lease = thread_of(listing, number32_at(next->payload + ID_SIZE), line->moment);
     }
     return record;
 }

@@ -1,5 +1,5 @@
 // tracering-flight show FILE.. [--json | --trace-events | --ctf DIR] [--last N] [--thread WHO] [--since TIME]
-//     [--grep PATTERN]: shows dumps of flight recorders, and their files.
+//     [--level LEVEL] [--grep PATTERN]: shows dumps of flight recorders, and their files.
 // tracering-flight --version: prints the library's version.
 #include "file.h"
 #include "filter.h"
@@ -15,7 +15,7 @@ enum status { SHOWN = 0, REFUSED = 1, USAGE = 2, FAILED = 4 };
 struct words {
     const char **files;
     size_t count;
-    const char *ctf, *last, *thread, *since, *grep;
+    const char *ctf, *last, *thread, *since, *level, *grep;
     bool json, trace_events;
     size_t most;
 };
@@ -23,7 +23,7 @@ struct words {
 static int usage(void)
 {
     fputs("usage: tracering-flight show FILE.. [--json | --trace-events | --ctf DIR] [--last N] [--thread WHO] "
-          "[--since TIME] [--grep PATTERN] | --version\n", stderr);
+          "[--since TIME] [--level LEVEL] [--grep PATTERN] | --version\n", stderr);
     return USAGE;
 }
 
@@ -43,7 +43,7 @@ static const char **place_of(struct words *words, const char *option)
         const char *name;
         const char **place;
     } options[] = {{"--ctf", &words->ctf}, {"--last", &words->last}, {"--thread", &words->thread},
-        {"--since", &words->since}, {"--grep", &words->grep}};
+        {"--since", &words->since}, {"--level", &words->level}, {"--grep", &words->grep}};
     for (size_t k = 0; k < sizeof options / sizeof *options; k++)
         if (!strcmp(option, options[k].name))
             return options[k].place;
@@ -100,6 +100,8 @@ static int read_filter(const struct words *words, struct filter *filter)
     *filter = (struct filter){.thread = words->thread, .since = SINCE_ALWAYS};
     if (words->since && !read_since(filter, words->since))
         return refuse_word("--since", words->since, "neither HH:MM:SS, nor YYYY-MM-DDTHH:MM:SS, nor a moment");
+    if (words->level && !read_level(filter, words->level))
+        return refuse_word("--level", words->level, "none of error, warn, info, debug, trace");
     int fault = words->grep ? read_pattern(filter, words->grep) : 0;
     if (fault) {
         (void)regerror(fault, &filter->text, why, sizeof why);
@@ -205,7 +207,7 @@ static int check_clocks(const struct dump *dumps, const struct words *words, con
 
 static int show_dumps(struct dump *dumps, const struct words *words, struct filter *filter)
 {
-    bool has_filter = words->thread || words->since || words->grep;
+    bool has_filter = words->thread || words->since || words->level || words->grep;
     struct choice choice = {words->most, has_filter ? filter : NULL};
     int status = check_clocks(dumps, words, filter);
     if (status != SHOWN)

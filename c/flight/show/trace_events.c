@@ -140,6 +140,8 @@ static void write_names(struct events *events, const struct dump *dump)
 {
     struct text *formatted = &events->lines.formatted;
     write_name(events, dump, 0, "process_name", dump->process.name);
+    for (size_t k = 0; k < dump->name_count; k++)
+        write_name(events, dump, dump->names[k].tid, "thread_name", dump->names[k].name);
     for (size_t k = 0; k < dump->ring_count; k++) {
         const struct ring *ring = &dump->rings[k];
         for (size_t lease = 0; lease < ring->lease_count; lease++)

@@ -24,7 +24,7 @@ pub use arguments::{Argument, Arguments, Values};
 pub use event::{Text, LONGEST_EVENT};
 #[doc(hidden)]
 pub use format::wanted;
-pub use place::{Formats, Place, MOST_LISTS};
+pub use place::{Formats, Level, Place, MOST_LISTS};
 
 use place::Site;
 use std::ffi::{c_char, c_int, CString};
@@ -62,9 +62,9 @@ pub struct Config<'path> {
     pub threads: u32,
     /// How many rings each thread has: what interrupts an event's writing goes to the next one (2).
     pub levels: u32,
-    /// How many pages a thread's first ring has (8).
+    /// How many pages a thread's first ring has: 2 to 1,024 (8).
     pub pages: u32,
-    /// How many bytes of data a page has (4,080).
+    /// How many bytes of data a page has: 32 to 65,520, a multiple of 4 (4,080). So a ring has 67 megabytes at most.
     pub size: u32,
     /// Nothing: a dump takes no page, so each has all that the rings have.
     pub keep: u32,
@@ -76,6 +76,9 @@ pub struct Config<'path> {
     pub wait_ms: u32,
     /// The file in which all events are from the start on (none). What was there is named `PATH~`.
     pub file: Option<&'path Path>,
+    /// Whether rings are those of CPUs, and some spare ones, and not those of threads (false): so their number doesn't
+    /// depend on that of threads, of which `threads` are named at once. An event takes some 120 instructions more.
+    pub per_cpu: bool,
 }
 
 #[repr(C)]
@@ -90,10 +93,12 @@ struct RawConfig {
     signal: c_int,
     wait_ms: u32,
     file: *const c_char,
+    per_cpu: bool,
 }
 
 extern "C" {
     fn flight_start(config: *const RawConfig) -> c_int;
+    fn flight_start_in_child() -> c_int;
     fn flight_stop() -> c_int;
     fn flight_dump(path: *const c_char) -> c_int;
     fn flight_dump_on_crash(path: *const c_char) -> c_int;
@@ -117,7 +122,7 @@ fn text(bytes: &[u8]) -> io::Result<CString> {
 
 /// Starts the recorder. All its memory is taken here.
 pub fn start(config: &Config) -> io::Result<()> {
-    let Config { threads, levels, pages, size, keep, clock, signal, wait_ms, file } = *config;
+    let Config { threads, levels, pages, size, keep, clock, signal, wait_ms, file, per_cpu } = *config;
     let (clock, now) = match clock {
         Clock::Monotonic => (0, None),
         Clock::Tsc => (1, None),
@@ -125,7 +130,17 @@ pub fn start(config: &Config) -> io::Result<()> {
     };
     let path = file.map(|file| text(file.as_os_str().as_bytes())).transpose()?;
     let file = path.as_ref().map_or(null(), |path| path.as_ptr());
-    done(unsafe { flight_start(&RawConfig { threads, levels, pages, size, keep, clock, now, signal, wait_ms, file }) })
+    let raw = RawConfig { threads, levels, pages, size, keep, clock, now, signal, wait_ms, file, per_cpu };
+    done(unsafe { flight_start(&raw) })
+}
+
+/// In a forked child: starts a recorder with all that its parent's was started with. In the path of `file` there has to
+/// be `%p`, which stands for the process's number, since the file would be the parent's. If the parent had called
+/// [`dump_on_crash`], the child's crashes are dumped as well; what it had by [`dump_on_panic`] the child has anyway.
+///
+/// Without it a child has no recorder: its [`trace!`](crate::trace!) does nothing.
+pub fn start_in_child() -> io::Result<()> {
+    done(unsafe { flight_start_in_child() })
 }
 
 /// Stops the recorder, and releases its memory.
@@ -176,7 +191,8 @@ pub fn name(name: &str) -> io::Result<()> {
     done(unsafe { flight_name(name.as_ptr()) })
 }
 
-/// Switches on or off the events whose text "FILE:LINE FORMAT" the whole pattern matches (`*cache.rs:*` for a file).
+/// Switches on or off the events whose text "FILE:LINE FORMAT" the whole pattern matches (`*cache.rs:*` for a file). Of
+/// an event with a level that is before FORMAT (`*:* DEBUG *` for a level).
 pub fn switch(pattern: &str, on: bool) -> io::Result<()> {
     let pattern = text(pattern.as_bytes())?;
     done(unsafe { flight_switch(pattern.as_ptr(), on) })

@@ -1,6 +1,6 @@
 //! What is made once for each place that says something, and found again without a lock.
 use std::sync::OnceLock;
-use tracering::flight::{Formats, Place};
+use tracering::flight::{Formats, Level, Place};
 
 const BUCKETS: usize = 1024;
 
@@ -43,12 +43,23 @@ pub(crate) fn escaped(text: &str) -> String {
     text.replace('{', "{{").replace('}', "}}")
 }
 
-/// The place in this line whose events are shown after `head`: `count` values in the format `values`, or one text.
-pub(crate) fn place(head: &str, values: &str, count: usize, file: Option<&str>, line: Option<u32>) -> Place {
+/// Where something is said, and how severe it is.
+pub(crate) struct Origin<'a> {
+    pub(crate) level: Level,
+    pub(crate) target: &'a str,
+    pub(crate) file: Option<&'a str>,
+    pub(crate) line: Option<u32>,
+}
+
+/// The place of this origin, whose events are shown after their target: `count` values in the format `values`, or one
+/// text.
+pub(crate) fn place(origin: &Origin, values: &str, count: usize) -> Place {
+    let head = format!("{}: ", escaped(origin.target));
     let formats = Formats {
         values: leaked(&format!("{head}{values}")),
         piece: leaked(&format!("{head}{{}}")),
         pieces: leaked(&format!("{head}{}", "{}".repeat(8))),
     };
-    Place::new(formats, leaked(file.unwrap_or("?")), line.unwrap_or(0), count)
+    let file = leaked(origin.file.unwrap_or("?"));
+    Place::new(formats, file, origin.line.unwrap_or(0), count).of_level(origin.level)
 }

@@ -1,13 +1,13 @@
 //! A layer for the crate `tracing`.
-use crate::kept::{escaped, place, Kept};
+use crate::kept::{escaped, place, Kept, Origin};
 use std::fmt::{self, Debug, Display, Write};
 use std::iter::Take;
 use std::ptr;
 use std::sync::OnceLock;
-use tracering::flight::{Argument, Place, Text, Values, MOST_ARGUMENTS};
+use tracering::flight::{self, Argument, Place, Text, Values, MOST_ARGUMENTS};
 use tracing_core::field::{Field, Iter, Visit};
 use tracing_core::span::{Attributes, Id, Record};
-use tracing_core::{Event, Metadata, Subscriber};
+use tracing_core::{Event, Level, Metadata, Subscriber};
 use tracing_subscriber::layer::{Context, Layer};
 use tracing_subscriber::registry::LookupSpan;
 
@@ -88,6 +88,17 @@ impl Occasion {
     }
 }
 
+/// The recorder's level of what has this one.
+fn level_of(level: &Level) -> flight::Level {
+    match *level {
+        Level::ERROR => flight::Level::Error,
+        Level::WARN => flight::Level::Warning,
+        Level::INFO => flight::Level::Info,
+        Level::DEBUG => flight::Level::Debug,
+        Level::TRACE => flight::Level::Trace,
+    }
+}
+
 /// A callsite, and its place for each occasion that came.
 struct Callsite {
     metadata: &'static Metadata<'static>,
@@ -107,8 +118,8 @@ impl Callsite {
     fn place(&'static self, occasion: Occasion) -> &'static Place {
         self.places[occasion as usize].get_or_init(|| {
             let (format, count) = occasion.format(self.metadata);
-            let head = format!("{} {}: ", self.metadata.level(), escaped(self.metadata.target()));
-            place(&head, &format, count, self.metadata.file(), self.metadata.line())
+            let (target, file, line) = (self.metadata.target(), self.metadata.file(), self.metadata.line());
+            place(&Origin { level: level_of(self.metadata.level()), target, file, line }, &format, count)
         })
     }
 }

@@ -1,8 +1,8 @@
 //! A logger for the crate `log`.
-use crate::kept::{escaped, place, Kept};
+use crate::kept::{place, Kept, Origin};
 use log::{Level, LevelFilter, Log, Metadata, Record, SetLoggerError};
 use std::fmt::Write;
-use tracering::flight::Place;
+use tracering::flight::{self, Place};
 
 /// A logger that records what is said in the flight recorder. Which levels are said is for `log::set_max_level`, and
 /// what of it is recorded for [`tracering::flight::switch`].
@@ -19,6 +19,17 @@ impl Logger {
     }
 }
 
+/// The recorder's level of what has this one.
+fn level_of(level: Level) -> flight::Level {
+    match level {
+        Level::Error => flight::Level::Error,
+        Level::Warn => flight::Level::Warning,
+        Level::Info => flight::Level::Info,
+        Level::Debug => flight::Level::Debug,
+        Level::Trace => flight::Level::Trace,
+    }
+}
+
 /// A place that says something, as a record names it.
 struct Said {
     level: Level,
@@ -30,10 +41,9 @@ struct Said {
 
 impl Said {
     fn new(record: &Record) -> Said {
-        let (level, target, line) = (record.level(), record.target(), record.line());
-        let head = format!("{level} {}: ", escaped(target));
-        let place = place(&head, "{}", 1, record.file(), line);
-        Said { level, target: target.to_string(), file: record.file().map(str::to_string), line, place }
+        let (level, target, file, line) = (record.level(), record.target(), record.file(), record.line());
+        let place = place(&Origin { level: level_of(level), target, file, line }, "{}", 1);
+        Said { level, target: target.to_string(), file: file.map(str::to_string), line, place }
     }
 
     fn is_of(&self, record: &Record) -> bool {

@@ -20,6 +20,8 @@ fn what_is_said_is_recorded() {
     debug!(target: "another {target}", "{{braces}} of {}", "{a text}");
     info!("{long}end");
     trace!("is too detailed");
+    log::set_max_level(LevelFilter::Trace);
+    trace!("is detailed");
     for level in [Level::Error, Level::Debug, Level::Error] {
         log!(level, "of one line");
     }
@@ -35,10 +37,18 @@ fn what_is_said_is_recorded() {
         "WARN by_log: 3 of a name, Some(0.5)",
         "DEBUG another {target}: {braces} of {a text}",
         &format!("INFO by_log: {long}end"),
+        "TRACE by_log: is detailed",
         "ERROR by_log: of one line",
         "DEBUG by_log: of one line",
         "ERROR by_log: of one line",
         "DEBUG by_log: is on: true",
     ];
     assert_eq!(shown::shown(), wanted);
+    // (Each with those before it, which are more severe.)
+    let levels = ["ERROR", "WARN", "INFO", "DEBUG", "TRACE"];
+    for (at, level) in levels.iter().enumerate() {
+        let of_level = |line: &&&str| levels[..=at].contains(&line.split(' ').next().unwrap());
+        let wanted: Vec<_> = wanted.iter().filter(of_level).collect();
+        assert_eq!(shown::shown_from(&level.to_lowercase()).iter().collect::<Vec<_>>(), wanted);
+    }
 }

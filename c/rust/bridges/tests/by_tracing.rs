@@ -5,7 +5,7 @@ mod shown;
 use tracering::flight;
 use tracering_bridges::FlightLayer;
 use tracing::field::Empty;
-use tracing::{debug, error_span, info, info_span, warn, Span};
+use tracing::{debug, error_span, info, info_span, trace, warn, Span};
 use tracing_subscriber::prelude::*;
 
 /// Says one thing with some values of each kind, and with values of other kinds.
@@ -20,6 +20,7 @@ fn say_fields() {
     info!(a = 1, b = 2, c = 3, d = 4, e = 5, f = 6, g = 7, h = 8.0, i = "nine");
     warn!(long = "long ".repeat(200), wide = u128::MAX);
     info!(first = 1, absent = Empty, "one is absent");
+    trace!(detail = 1);
 }
 
 /// Says things of spans, and answers their numbers: that of the outer one, and that of the inner one.
@@ -73,7 +74,11 @@ fn what_is_said_is_recorded() {
         "INFO by_tracing: a=1 b=2 c=3 d=4 e=5 f=6 g=7 h=8 i=nine".to_string(),
         format!("WARN by_tracing: long={} wide={}", "long ".repeat(200), u128::MAX),
         "INFO by_tracing: one is absent first=1".to_string(),
+        "TRACE by_tracing: detail=1".to_string(),
     ];
     let wanted = wanted.into_iter().chain(of_spans(outer, inner, true)).chain(of_spans(second, third, false));
-    assert_eq!(shown::shown(), wanted.collect::<Vec<_>>());
+    let wanted: Vec<_> = wanted.collect();
+    assert_eq!(shown::shown(), wanted);
+    let is_severe = |line: &&String| line.starts_with("ERROR ") || line.starts_with("WARN ");
+    assert_eq!(shown::shown_from("warn"), wanted.iter().filter(is_severe).cloned().collect::<Vec<_>>());
 }

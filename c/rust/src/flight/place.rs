@@ -5,6 +5,23 @@ use std::mem::size_of;
 use std::sync::atomic::{AtomicU16, AtomicU32, AtomicU64, AtomicU8, Ordering};
 
 const BRACES: u8 = 1;
+/// Where in a site's style its level is.
+const LEVEL_SHIFT: u8 = 4;
+
+/// How severe an event is.
+#[derive(Clone, Copy, Debug, PartialEq, Eq, PartialOrd, Ord)]
+pub enum Level {
+    /// `ERROR` in listings.
+    Error = 1,
+    /// `WARN` in listings.
+    Warning,
+    /// `INFO` in listings.
+    Info,
+    /// `DEBUG` in listings.
+    Debug,
+    /// `TRACE` in listings.
+    Trace,
+}
 
 /// A place that records with arguments of certain kinds, as the recorder has it.
 #[repr(C)]
@@ -125,7 +142,7 @@ const STATED: u64 = 1 << 55;
 
 impl Place {
     /// The place of these formats, in this line of this file, whose name ends with a zero byte. `count` is how many
-    /// arguments its values are.
+    /// arguments its values are. Its events have no level.
     ///
     /// # Panics
     /// A text has no zero byte at its end, or `count` is above `MOST_ARGUMENTS`.
@@ -142,6 +159,21 @@ impl Place {
             texts: [Site::new(formats.piece, file, line, 1), Site::new(formats.pieces, file, line, MOST_ARGUMENTS)],
             bare: Site::new(formats.values, file, line, 0),
         }
+    }
+
+    /// The same place, whose events have this level: it is shown before their texts, and patterns of
+    /// [`switch`](super::switch) have it there.
+    pub const fn of_level(mut self, level: Level) -> Place {
+        let style = BRACES | (level as u8) << LEVEL_SHIFT;
+        let mut at = 0;
+        while at < MOST_LISTS {
+            self.sites[at].style = style;
+            at += 1;
+        }
+        self.texts[0].style = style;
+        self.texts[1].style = style;
+        self.bare.style = style;
+        self
     }
 
     /// Whether the place records. All its sites are switched at once, since they have the same texts, and those of
