@@ -1,9 +1,9 @@
-mod Appended
+pub mod Appended
 mod CapturedFiles
 pub mod Cut
 pub mod Told
 mod Adding
-mod SmallerPages
+pub mod SmallerPages
 mod OnePage
 mod ReadingOn
 mod Numbers

@@ -1,0 +1,6 @@
+mod OnePage
+pub mod Missed
+mod Tallied
+pub mod Passing
+pub mod Values
+mod Placed
