@@ -1,11 +1,11 @@
 -- Pages that are read one after the other, and lines that are passed.
-use Rattle.std.proofs.Common.{◌≡◌, ℕ, zero, suc, ◌+◌, ◌*◌, ◌<◌, ◌≤◌, Bool, true, false, List, [], ◌∷◌, ◌++◌, length, map}
-use Rattle.std.proofs.Common.{take, drop, Option, Some, None, refl, sym, ap, ap₂, ◌∙◌, subst, arith, append-nil}
+use Rattle.std.proofs.Common.{◌≡◌, ℕ, ◌+◌, ◌*◌, ◌<◌, ◌≤◌, Bool, true, false, List, [], ◌∷◌, ◌++◌, length, map}
+use Rattle.std.proofs.Common.{drop, Option, Some, None, refl, sym, ap, ap₂, ◌∙◌, subst, arith, append-nil}
 use Rattle.std.proofs.Common.{append_assoc, length-append, length-drop}
 use Rattle.std.specs.Io.KnownBytes.{Consumes}
 use Rattle.std.proofs.KnownBytes.{Consumes-nil, Consumes-trans}
 use Rattle.std.specs.List.{enumerate_from}
-use Rattle.std.proofs.lemmas.List.{take_all, drop_all, take-append-le, drop-append-le, map-append, nil_from_length}
+use Rattle.std.proofs.lemmas.List.{take_all, drop_all, take-append-le, drop-append-le, map-append}
 use Rattle.std.proofs.lemmas.Bool.{false≢true}
 use Rattle.trace_model.specs.Record.{Record}
 use Rattle.trace_model.specs.Listing.{Line as ModelLine}
@@ -222,7 +222,7 @@ module _ {R : Type 0} (remaining : R → Option (List ℕ)) where
     next_is = next.next_is;
     count_is = taken ∙ ap (λ (n : ℕ). old.taken + n) (sym next.long);
     lines_are = ap (λ (lines : List ModelLine).
-    lines ++ lines_from old.tally.cpu.0 old.tally.next.0 next.pages) none ∙ sym next.lines_are;
+        lines ++ lines_from old.tally.cpu.0 old.tally.next.0 next.pages) none ∙ sym next.lines_are;
   }
 
   -- the line at hand is passed

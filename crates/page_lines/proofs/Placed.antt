@@ -1,6 +1,6 @@
 -- Records that are put one after the other, and the lines of those that are left.
 use Rattle.std.proofs.Common.{◌≡◌, ℕ, zero, suc, ◌+◌, ◌<◌, ◌≤◌, List, [], ◌∷◌, ◌++◌, length, map, drop, slice_index_or}
-use Rattle.std.proofs.Common.{◌-◌, take, Some, All, refl, sym, ap, ap₂, ◌∙◌, subst, arith, slice_range, length-append}
+use Rattle.std.proofs.Common.{◌-◌, take, Some, All, refl, sym, ap, ap₂, ◌∙◌, arith, slice_range, length-append}
 use Rattle.std.proofs.Common.{length-drop}
 use Rattle.std.specs.List.{enumerate_from}
 use Rattle.std.proofs.lemmas.List.{length-map, map-append, take_all, take-append-le, drop-append-le}
@@ -113,8 +113,12 @@ put_more first number entries places bytes entry place was numbered moment start
     let more = entry.bytes.now in
     let long : length bytes ≤ length (bytes ++ more) = omega (arith, length-append bytes more) in
     let here : number ≡ first + length (values entries) =
-    omega (arith, was.number_is, length-map entries numbered_record,
-    length-map (map numbered_record entries) (λ (pair : ℕ × Record). pair.1)) in
+    omega (
+      arith,
+      was.number_is,
+      length-map entries numbered_record,
+      length-map (map numbered_record entries) (λ (pair : ℕ × Record). pair.1),
+    ) in
     record {
       within =
           All-push (IsWithin (length (bytes ++ more))) places place

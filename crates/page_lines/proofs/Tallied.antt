@@ -1,14 +1,11 @@
 -- One page more in a tally.
-use Rattle.std.proofs.Common.{◌≡◌, ℕ, zero, suc, ◌+◌, ◌^◌, ◌<◌, List, [], ◌∷◌, ◌++◌, length, map, Some, None, refl, sym, ap}
+use Rattle.std.proofs.Common.{◌≡◌, ℕ, ◌+◌, ◌^◌, ◌<◌, List, [], ◌∷◌, ◌++◌, length, map, Some, None, sym, ap}
 use Rattle.std.proofs.Common.{◌∙◌, ap₂, subst, arith, append-nil, append_assoc, length-append}
-use Rattle.std.specs.Prelude.{if◌then◌else◌}
 use Rattle.trace_model.specs.declared.numbers.RecordNo.{RecordNo}
 use Rattle.page_image.specs.Contents.{records_of_page}
-use Rattle.page_numbers.specs.Parcels.{ParcelValue, as_parcel}
-use Rattle.page_numbers.specs.Faults.{image_fault}
-use Rattle.trace_model.specs.Image.{ImageCause}
+use Rattle.page_numbers.specs.Parcels.{ParcelValue}
 use Rattle.page_image.specs.declared.image.ImageFault.{ImageFault}
-use Rattle.capture.specs.Pages.{Page, PageRead, intact, damaged, least_missed, behind, unknown_at, unknown_from}
+use Rattle.capture.specs.Pages.{Page, intact, damaged, least_missed, behind, unknown_at, unknown_from}
 use Rattle.capture.specs.Pages.{damages_from, end_from, Fit, Damage}
 use Rattle.capture.specs.Captures.{numbers_of, AreDamages}
 use Rattle.capture.specs.declared.pages.Damaged.{Damaged}
@@ -17,7 +14,7 @@ use Rattle.page_lines.specs.Found.{IsFound}
 use Rattle.page_lines.specs.declared.page.Loss.{Loss}
 use Rattle.page_lines.specs.declared.page.Found.TheVariants.{Read, Damaged as DamagedPage}
 use Rattle.page_lines.specs.declared.tally.Tally.{Tally}
-use Rattle.page_lines.specs.Tallies.{run_numbers, run_before, from_after, runs_from, IsTally, AddsRead, AddsPage}
+use Rattle.page_lines.specs.Tallies.{run_numbers, run_before, from_after, runs_from, AddsRead, AddsPage}
 
 damages_more : (found : List Damaged) (damages : List Damage) (one : Damaged) (damage : Damage)
     → AreDamages found damages → AreDamages (one ∷ []) (damage ∷ [])
@@ -108,13 +105,15 @@ adds_damaged old new one (damaged cause) fault found one_is added missing unknow
             subst (λ (ds : List Damage). AreDamages new.damaged.items ds) (sym (damages-append 0 0 pages page))
             (subst (λ (all : List Damaged). AreDamages all (damages_from 0 0 pages
             ++ damages_from (0 + length pages) (end_from 0 pages) (page ∷ []))) (sym added)
-            (damages_more old.damaged.items (damages_from 0 0 pages) one _ is.damaged_are
-            (record {
-              number_is = ap (λ (d : Damaged). d.number.0) one_is ∙ is.next_is;
-              index_is = ap (λ (d : Damaged). d.page) one_is ∙ is.count_is
-                  ∙ (let same : length pages ≡ 0 + length pages = omega arith in same);
-              fault_is = ap (λ (d : Damaged). d.fault) one_is ∙ found;
-            }, tt)));
+            (damages_more old.damaged.items (damages_from 0 0 pages) one _ is.damaged_are (
+              record {
+                number_is = ap (λ (d : Damaged). d.number.0) one_is ∙ is.next_is;
+                index_is = ap (λ (d : Damaged). d.page) one_is ∙ is.count_is
+                    ∙ (let same : length pages ≡ 0 + length pages = omega arith in same);
+                fault_is = ap (λ (d : Damaged). d.fault) one_is ∙ found;
+              },
+              tt,
+            )));
         next_is = ap (λ (n : RecordNo). n.0) next ∙ is.next_is ∙ sym (end-append 0 pages page);
         count_is = omega (arith, counted, is.count_is, length-append pages (page ∷ []));
         fit = record {

@@ -1,5 +1,5 @@
 -- What is found of one page.
-use Rattle.std.specs.Prelude.{◌≡◌, ℕ, List, [], ◌∷◌, if◌then◌else◌}
+use Rattle.std.specs.Prelude.{◌≡◌, ℕ, [], ◌∷◌, if◌then◌else◌}
 use Rattle.page_numbers.specs.Parcels.{as_parcel}
 use Rattle.page_numbers.specs.Faults.{image_fault}
 use Rattle.capture.specs.Pages.{Page, intact, damaged, least_missed, unknown_at}

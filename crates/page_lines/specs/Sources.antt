@@ -2,7 +2,6 @@
 use Rattle.std.specs.Prelude.{◌≡◌, ◌*◌, ◌<◌, ◌≤◌, ◌+◌, ℕ, Bool, true, false, List, [], ◌∷◌, ◌++◌, length, map, take, drop}
 use Rattle.std.specs.Prelude.{Option, Some, None, ⊤, slice_range}
 use Rattle.std.specs.Io.KnownBytes.{Consumes}
-use Rattle.trace_model.specs.Record.{Record}
 use Rattle.trace_model.specs.Listing.{Line as ModelLine}
 use Rattle.time_merge.specs.Heads.{first_in}
 use Rattle.time_merge.specs.LineOrder.{line_of}

@@ -5,8 +5,7 @@ use Rattle.std.specs.List.{enumerate_from}
 use Rattle.trace_model.specs.Record.{Record}
 use Rattle.trace_model.specs.declared.numbers.RecordNo.{RecordNo}
 use Rattle.page_numbers.specs.Parcels.{ParcelValue, as_parcel}
-use Rattle.page_numbers.specs.Faults.{image_fault}
-use Rattle.capture.specs.Pages.{Page, intact, damaged, least_missed, behind, unknown_at, unknown_from, damages_from}
+use Rattle.capture.specs.Pages.{Page, intact, damaged, least_missed, behind, unknown_from, damages_from}
 use Rattle.capture.specs.Pages.{end_from, Fit}
 use Rattle.capture.specs.Captures.{numbers_of, AreDamages}
 use Rattle.page_lines.specs.declared.page.Loss.{Loss}

@@ -3,11 +3,9 @@ use Rattle.std.proofs.lemmas.Grind.{common_steps}
 use Rattle.std.proofs.lemmas.Iterator.Consumers.{YieldsList-from_first, YieldsList-end}
 use Rattle.std.specs.List.{enumerate_from}
 use Rattle.trace_model.specs.Record.{Record}
-use Rattle.trace_model.specs.Listing.{Line as ModelLine}
 use Rattle.page_borrow.specs.Entries.{numbered_record}
 use Rattle.page_numbers.specs.Parcels.{as_parcel, entries_of_parcel}
 use Rattle.time_merge.specs.LineOrder.{line_of}
-use Rattle.page_lines.specs.Sources.{line_at}
 use Rattle.page_lines.specs.declared.at_hand.Place.{Place}
 use Rattle.page_lines.proofs.Values.{values, without_numbers}
 use Rattle.page_lines.proofs.Placed.{HavePut, put_more}

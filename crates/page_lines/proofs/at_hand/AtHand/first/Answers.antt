@@ -1,4 +1,4 @@
-use Rattle.std.proofs.Common.{◌<◌, ◌∙◌, List, ℕ, Some, length, map, slice_range, sym, ap, arith}
+use Rattle.std.proofs.Common.{◌<◌, ◌∙◌, List, ℕ, Some, length, slice_range, sym, ap, arith}
 use Rattle.std.proofs.lemmas.Grind.{common_steps}
 use Rattle.time_merge.specs.Heads.{first_in}
 use Rattle.page_lines.specs.declared.at_hand.Place.{Place}
