@@ -4,3 +4,5 @@ mod Tallied
 pub mod Passing
 pub mod Values
 mod Placed
+pub mod Numbered
+pub mod Whole

@@ -157,13 +157,3 @@ runs_of_all cpu fill pages =
     (λ n h. ⊎_elim (λ (here : (0 ≤ n) × (n < 0)). absurd (omega (arith, here.1)))
     (λ (miss : Misses (parcels_from cpu fill 0 pages) cpu n). miss) h)
     (λ n miss. inr miss) (runs_are cpu fill 0 0 pages (omega arith))
-
--- ---- the records
-
-pub entries_are : (cpu fill next : ℕ) (pages : List Page)
-    → entries_from next pages ≡ flat_map entries_of_parcel (parcels_from cpu fill next pages)
-entries_are cpu fill next [] = refl
-entries_are cpu fill next (intact read ∷ pages) =
-    ap (λ rest. enumerate_from (next + least_missed read.missed) read.records ++ rest)
-    (entries_are cpu (suc fill) (behind next (intact read)) pages)
-entries_are cpu fill next (damaged cause ∷ pages) = entries_are cpu (suc fill) next pages

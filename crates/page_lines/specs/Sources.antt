@@ -121,3 +121,8 @@ pub record PassesLine {R : Type 0} (remaining : R → Option (List ℕ)) (old : 
 -- it couldn't go on
 abbrev pub IsHalted : {R : Type 0} → Reading R → Type 0
 IsHalted reading = reading.halt ≡ None → ⊥
+
+-- the moments of lines don't fall, the first of them isn't before this one
+abbrev pub NeverFall : (low : ℕ) → List ModelLine → Type 0
+NeverFall low [] = ⊤
+NeverFall low (line ∷ lines) = (low ≤ line.moment) × NeverFall line.moment lines

@@ -1,9 +1,14 @@
 //! What is said of pages that are read one after the other is what a capture of them says.
-ghost use Rattle.std.specs.Prelude.{◌≡◌, ℕ, List, flat_map};
-ghost use Rattle.page_numbers.specs.Parcels.{entries_of_parcel};
+ghost use Rattle.std.specs.Prelude.{ℕ, List};
+ghost use Rattle.collector.specs.Listed.{AreRecordsOf};
+ghost use Rattle.trace_model.specs.Listing.{Line as ModelLine};
+ghost use Rattle.time_merge.specs.Walks.{TakesAll};
+ghost use Rattle.page_lines.specs.Sources.{NeverFall, Passes, PassesLine, Reading};
 ghost use Rattle.capture.specs.Pages.{Page, parcels_from};
 ghost use Rattle.collector.specs.Runs.{AreMissingRuns};
 ghost use Rattle.page_lines.specs.Tallies.{runs_from, entries_from};
+
+use command_io::Source;
 
 /// The runs are those of the numbers that the pages' parcels miss.
 pub fn runs_are_those_of_parcels()
@@ -11,8 +16,17 @@ pub fn runs_are_those_of_parcels()
         (runs_from 0 0 pages) }
 {}
 
-/// The records have the numbers that they have in the pages' parcels.
+/// The records, by rising number, are those of the pages' parcels.
 pub fn records_are_those_of_parcels()
-    ensures { (cpu fill next : ℕ) (pages : List Page) → entries_from next pages
-        ≡ flat_map entries_of_parcel (parcels_from cpu fill next pages) }
+    ensures { (cpu fill next : ℕ) (pages : List Page) → AreRecordsOf (parcels_from cpu fill next pages) cpu
+        (entries_from next pages) }
+{}
+
+/// Lines that a source has given, one after the other, are those of the pages that it has read, and their moments don't
+/// fall.
+pub fn passed_lines_are_those_of_pages<R: Source>()
+    ensures all { (old new : Reading R) (lines : List ModelLine) → TakesAll (PassesLine R.remaining) old lines new
+        → Passes R.remaining old lines new }
+    ensures sorted { (old new : Reading R) (lines : List ModelLine)
+        → TakesAll (PassesLine R.remaining) old lines new → NeverFall 0 lines }
 {}
