@@ -6,3 +6,4 @@ pub mod Values
 mod Placed
 pub mod Numbered
 pub mod Whole
+pub mod Listing

@@ -46,7 +46,7 @@ missed_above cpu fill next n (intact read ∷ pages) h = ⊎_elim
 abbrev IsMissed : (from next cpu fill : ℕ) → List Page → ℕ → Type 0
 IsMissed from next cpu fill pages n = ((from ≤ n) × (n < next)) ⊎ Misses (parcels_from cpu fill next pages) cpu n
 
-no_runs : AreRuns (λ n. ⊥) []
+pub no_runs : AreRuns (λ n. ⊥) []
 no_runs = record {
   forward = λ k run at. absurd (none-some run at);
   apart = λ k a b at next. absurd (none-some a at);

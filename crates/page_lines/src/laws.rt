@@ -1,11 +1,14 @@
 //! What is said of pages that are read one after the other is what a capture of them says.
-ghost use Rattle.std.specs.Prelude.{ℕ, List};
+ghost use Rattle.std.specs.Prelude.{ℕ, List, [], map, slice_index_or};
 ghost use Rattle.collector.specs.Listed.{AreRecordsOf};
-ghost use Rattle.trace_model.specs.Listing.{Line as ModelLine};
+ghost use Rattle.trace_model.specs.Listing.{Line as ModelLine, IsListing};
 ghost use Rattle.time_merge.specs.Walks.{TakesAll};
 ghost use Rattle.page_lines.specs.Sources.{NeverFall, Passes, PassesLine, Reading};
 ghost use Rattle.capture.specs.Pages.{Page, parcels_from};
 ghost use Rattle.collector.specs.Runs.{AreMissingRuns};
+ghost use Rattle.time_merge.specs.Merging.{merged_lists};
+ghost use Rattle.capture.specs.Rings.{parcels_of_captures};
+ghost use Rattle.page_lines.specs.Spread.{OwnPages, RiseBelow, spread, own_lines, NoneFalls};
 ghost use Rattle.page_lines.specs.Tallies.{runs_from, entries_from};
 
 use command_io::Source;
@@ -29,4 +32,13 @@ pub fn passed_lines_are_those_of_pages<R: Source>()
         → Passes R.remaining old lines new }
     ensures sorted { (old new : Reading R) (lines : List ModelLine)
         → TakesAll (PassesLine R.remaining) old lines new → NeverFall 0 lines }
+{}
+
+/// The lines of some CPUs, merged by their moments, are the listing of the captures of all CPUs, if the moments of none
+/// of them fall; and the runs of each CPU are those of the numbers that these miss.
+pub fn merged_lines_are_those_of_captures()
+    ensures lines { (count : ℕ) (owns : List OwnPages) → RiseBelow 0 count owns → NoneFalls owns
+        → IsListing (parcels_of_captures 0 (spread 0 count owns)) (merged_lists (map own_lines owns)) }
+    ensures runs { (captures : List (List Page)) (cpu : ℕ) → AreMissingRuns (parcels_of_captures 0 captures) cpu
+        (slice_index_or (map (runs_from 0 0) captures) cpu []) }
 {}
