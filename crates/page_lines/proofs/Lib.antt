@@ -7,3 +7,4 @@ mod Placed
 pub mod Numbered
 pub mod Whole
 pub mod Listing
+pub mod Plain

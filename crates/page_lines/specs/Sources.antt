@@ -126,3 +126,16 @@ IsHalted reading = reading.halt ≡ None → ⊥
 abbrev pub NeverFall : (low : ℕ) → List ModelLine → Type 0
 NeverFall low [] = ⊤
 NeverFall low (line ∷ lines) = (low ≤ line.moment) × NeverFall line.moment lines
+
+-- All pages of this CPU and size that a reader has were read, and these are their lines.
+pub record ReadsAll {R : Type 0} (remaining : R → Option (List ℕ)) (cpu : CpuId) (reader : R) (size : ℕ)
+    (lines : List ModelLine) (ended : Reading R) : Type 0 where
+  pub bytes : List ℕ
+  pub consumed : Consumes (remaining reader) (remaining ended.reader) bytes
+  pub pages : List Page
+  pub plain : ArePlain size bytes pages
+  pub tally_is : IsTally ended.tally pages
+  pub cpu_is : ended.tally.cpu ≡ cpu
+  pub count_is : ended.taken ≡ length bytes
+  pub lines_are : lines ≡ lines_from cpu.0 0 pages
+  pub never_fall : NeverFall 0 lines

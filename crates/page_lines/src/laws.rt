@@ -1,10 +1,14 @@
 //! What is said of pages that are read one after the other is what a capture of them says.
-ghost use Rattle.std.specs.Prelude.{ℕ, List, [], map, slice_index_or};
+ghost use Rattle.std.specs.Prelude.{◌≡◌, ◌<◌, ◌≤◌, ℕ, false, List, [], None, map, slice_index_or};
 ghost use Rattle.collector.specs.Listed.{AreRecordsOf};
 ghost use Rattle.trace_model.specs.Listing.{Line as ModelLine, IsListing};
 ghost use Rattle.time_merge.specs.Walks.{TakesAll};
-ghost use Rattle.page_lines.specs.Sources.{NeverFall, Passes, PassesLine, Reading};
-ghost use Rattle.capture.specs.Pages.{Page, parcels_from};
+ghost use Rattle.page_lines.specs.Sources.{ArePlain, IsFresh, NeverFall, Passes, PassesLine, Reading, ReadsAll};
+ghost use Rattle.trace_model.specs.declared.numbers.CpuId.{CpuId};
+ghost use Rattle.time_merge.specs.Heads.{first_in};
+ghost use Rattle.capture.specs.Smaller.{smaller_pages};
+ghost use Rattle.capture.specs.files.Files.{is_dat};
+ghost use Rattle.capture.specs.Pages.{AreCut, Page, parcels_from};
 ghost use Rattle.collector.specs.Runs.{AreMissingRuns};
 ghost use Rattle.time_merge.specs.Merging.{merged_lists};
 ghost use Rattle.capture.specs.Rings.{parcels_of_captures};
@@ -41,4 +45,23 @@ pub fn merged_lines_are_those_of_captures()
         → IsListing (parcels_of_captures 0 (spread 0 count owns)) (merged_lists (map own_lines owns)) }
     ensures runs { (captures : List (List Page)) (cpu : ℕ) → AreMissingRuns (parcels_of_captures 0 captures) cpu
         (slice_index_or (map (runs_from 0 0) captures) cpu []) }
+{}
+
+/// A source that was opened, and has given lines until none was left, has read all pages of its reader, and given their
+/// lines.
+pub fn a_source_without_a_line_has_read_all<R: Source>()
+    ensures { (cpu : CpuId) (reader : R) (size : ℕ) (fresh opened ended : Reading R) (lines : List ModelLine)
+        → IsFresh cpu reader size fresh → Passes R.remaining fresh [] opened
+        → TakesAll (PassesLine R.remaining) opened lines ended → first_in ended.left ≡ None
+        → ReadsAll R.remaining cpu reader size lines ended }
+{}
+
+/// Pages that are plain are those of a raw file, none of which shows smaller ones.
+pub fn plain_pages_are_raw()
+    ensures cut { (size : ℕ) (bytes : List ℕ) (pages : List Page) → ArePlain size bytes pages
+        → AreCut size bytes pages }
+    ensures smaller { (size : ℕ) (bytes : List ℕ) (pages : List Page) → 0 < size → ArePlain size bytes pages
+        → smaller_pages size bytes ≡ None }
+    ensures raw { (size : ℕ) (bytes : List ℕ) (pages : List Page) → 48 ≤ size → ArePlain size bytes pages
+        → is_dat [] bytes ≡ false }
 {}
