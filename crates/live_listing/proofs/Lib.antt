@@ -6,3 +6,4 @@ pub mod Printed
 pub mod Writing
 pub mod Gaps
 pub mod OneMore
+pub mod Cut
