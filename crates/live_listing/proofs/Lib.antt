@@ -7,3 +7,4 @@ pub mod Writing
 pub mod Gaps
 pub mod OneMore
 pub mod Cut
+pub mod Readings

@@ -229,7 +229,7 @@ fn failed_cpu(happening: &Happening) -> Option<CpuId>
 fn has_cpu(cpus: &[CpuId], cpu: CpuId) -> bool
     ensures { result ≡ has_cpu cpus.now cpu.0 }
 {
-    cpus.iter().any(|other| other.0 == cpu.0)
+    cpus.contains(&cpu)
 }
 
 /// Whether each page of each CPU could be read.

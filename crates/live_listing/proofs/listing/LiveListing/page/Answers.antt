@@ -1,5 +1,5 @@
 use Rattle.std.proofs.Common.{◌∙◌, ◌<◌, ap, subst, ℕ, map, length, slice_set, arith}
-use Rattle.std.proofs.lemmas.List.{map-set}
+use Rattle.std.proofs.lemmas.List.{length-map, map-set}
 use Rattle.live_listing.specs.Pages.{Reached, reached, reached_with, records_read, AreLinesOf}
 use Rattle.live_listing.specs.Live.{reached_of}
 use Rattle.live_listing.proofs.Cpus.{reached_there, number_there}
@@ -19,6 +19,7 @@ returns-in-Ok c =
       given.0,
       given.1,
       record {
+        there = rw length-map (omega (arith, below));
         value = read.0;
         is_page = read.1;
         lines = c.in_ok-lines.lines.items;
