@@ -10,8 +10,8 @@ ghost use Rattle.live_listing.specs.declared.pages.Content.{Content};
 ghost use Rattle.live_listing.specs.Live.{Live, Happening, Run, GivesRest, nothing_live};
 ghost use Rattle.live_listing.specs.Readings.{IsReadingOf};
 
-/// Whatever happens with inputs, what is given is that of a reading as it is meant, whose lines of each CPU are those of
-/// the records of its pages.
+/// Whatever happens with inputs, what is given is that of a reading as it is meant, whose lines of each CPU are those
+/// of the records of its pages.
 pub fn what_happens_is_followed()
     ensures { (happened : List Happening) (given rest : List (Said Content)) (live last : Live)
         → Run nothing_live happened given live → GivesRest live rest last

@@ -23,9 +23,12 @@ returns-in-Ok c =
         value = read.0;
         is_page = read.1;
         lines = c.in_ok-lines.lines.items;
-        are_lines = subst (λ (n : ℕ). AreLinesOf n c.in_ok-lines.lines.items (records_read (reached_of (map reached cpus) k) read.0))
+        are_lines = subst
+            (λ (n : ℕ).
+            AreLinesOf n c.in_ok-lines.lines.items (records_read (reached_of (map reached cpus) k) read.0))
             number
-            (subst (λ (r : Reached). AreLinesOf before.cpu.0 c.in_ok-lines.lines.items (records_read r read.0)) there read.2);
+            (subst (λ (r : Reached). AreLinesOf before.cpu.0 c.in_ok-lines.lines.items (records_read r read.0)) there
+            read.2);
         follows = given.2;
         reached_is = map-set reached cpus k c.read_page.new.self
             ∙ ap (slice_set (map reached cpus) k) (read.3 ∙ ap (λ (r : Reached). reached_with r read.0) there);
