@@ -6,3 +6,5 @@ pub mod Printed
 pub mod Writing
 pub mod Gaps
 pub mod OneMore
+pub mod Cut
+pub mod Readings
