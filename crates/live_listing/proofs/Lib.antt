@@ -1,4 +1,3 @@
-pub mod OnePage
 pub mod Behind
 pub mod Cpus
 pub mod SameNumbers

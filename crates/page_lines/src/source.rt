@@ -141,7 +141,8 @@ fn read_next<R: Source>(
 }
 
 impl<R: Source + Drop> PageLines<R> {
-    ghost use Rattle.std.specs.Prelude.{◌≡◌, ◌<◌, [], ◌∷◌, true, false, None, Some, IfOk, OnOk};
+    ghost use Rattle.std.specs.Io.KnownBytes.{IsAtEnd};
+    ghost use Rattle.std.specs.Prelude.{◌≡◌, ◌<◌, ◌^◌, [], ◌∷◌, true, false, None, Some, IfOk, OnOk};
     ghost use Rattle.trace_model.specs.declared.limits.TheConstants.{MAX_CPUS};
     ghost use Rattle.trace_model.specs.Listing.{Line as ModelLine};
     ghost use Rattle.time_merge.specs.Heads.{first_in};
@@ -273,28 +274,32 @@ impl<R: Source + Drop> PageLines<R> {
 
     /// Why it can't go on, if it can't.
     pub fn halt(&self) -> Option<Halt>
-        ensures { result ≡ self.now.halt }
+        ensures halt { result ≡ self.now.halt }
+        ensures sound { result ≡ None → R.failed self.now.reader ≡ false }
     {
         self.halt
     }
 
     /// Whether all pages are read.
     pub fn is_at_end(&self) -> bool
-        ensures { result ≡ self.now.is_last }
+        ensures last { result ≡ self.now.is_last }
+        ensures end { result ≡ true → IsAtEnd (R.remaining self.now.reader) }
     {
         self.is_last
     }
 
     /// How many bytes are read.
     pub fn taken(&self) -> u64
-        ensures { result ≡ self.now.taken }
+        ensures taken { result ≡ self.now.taken }
+        ensures fits { self.now.taken < 2 ^ 64 }
     {
         self.taken
     }
 
     /// What the pages that are read say besides their records.
     pub fn tally(&self) -> &Tally
-        ensures { result.now ≡ self.now.tally }
+        ensures tally { result.now ≡ self.now.tally }
+        ensures cpu { self.now.tally.cpu.0 < MAX_CPUS }
     {
         &self.tally
     }

@@ -6,7 +6,8 @@ use Rattle.page_numbers.specs.Parcels.{as_parcel, entries_of_parcel}
 use Rattle.live_listing.specs.Gaps.{gap_seen}
 use Rattle.trace_model.specs.declared.numbers.CpuId.{CpuId}
 use Rattle.live_listing.specs.Pages.{AddsLine, AreLinesOf, records_behind, lost_behind}
-use Rattle.live_listing.proofs.Behind.{values, more_values, without_numbers, line_more}
+use Rattle.page_lines.proofs.Values.{values, more_values, without_numbers}
+use Rattle.live_listing.proofs.Behind.{line_more}
 use Rattle.live_listing.proofs.pages.CpuPages.read_records.Goals as goal
 
 pub loop-entry-preserved : goal.loop-entry-preserved
