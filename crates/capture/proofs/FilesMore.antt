@@ -268,7 +268,7 @@ raw-by page name file shown raw is =
     else raw_parts page file) raw
     ∙ ap (λ (o : Option ℕ). unless_smaller o (record { cpu = file.cpu; size = page; bytes = file.bytes } ∷ [])) is
 
-parts-of-raw : (page : ℕ) (name : List ℕ) (file : File) → is_dat name file.bytes ≡ false
+pub parts-of-raw : (page : ℕ) (name : List ℕ) (file : File) → is_dat name file.bytes ≡ false
     → smaller_pages page file.bytes ≡ None
     → parts_of page name file ≡ Ok (record { cpu = file.cpu; size = page; bytes = file.bytes } ∷ [])
 parts-of-raw page name file raw none = raw-by page name file None raw none
@@ -279,7 +279,7 @@ pub smaller-raw : (page : ℕ) (name : List ℕ) (files : List File) (file : Fil
 smaller-raw page name files file smaller raw shown =
     own-fault page name files file (SmallerPages smaller) (raw-by page name file (Some smaller) raw shown)
 
-held-raw : {A : Type 0} (of : Contents → A) (otherwise : A) (name : List ℕ) (file : File)
+pub held-raw : {A : Type 0} (of : Contents → A) (otherwise : A) (name : List ℕ) (file : File)
     → is_dat name file.bytes ≡ false → held_by of otherwise file ≡ otherwise
 held-raw of otherwise name file raw = ap (λ (r : Reading Contents). held of otherwise r)
     (raw-reading name file.bytes raw)

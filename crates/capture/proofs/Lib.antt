@@ -1,16 +1,16 @@
-mod Appended
+pub mod Appended
 mod CapturedFiles
 pub mod Cut
 pub mod Told
 mod Adding
-mod SmallerPages
+pub mod SmallerPages
 mod OnePage
 mod ReadingOn
-mod Numbers
+pub mod Numbers
 mod Each
 mod Rising
 mod Disjoint
-mod Together
+pub mod Together
 mod Reports
 pub mod OneReading
 mod WrittenImages
@@ -29,7 +29,7 @@ mod Overruns
 mod Settled
 mod FirstRead
 mod NameLists
-mod FilesMore
-mod Prefixes
+pub mod FilesMore
+pub mod Prefixes
 mod RestFaults
 mod InputsRead

@@ -16,13 +16,13 @@ get_either [] ys k p at = inr (k, at)
 get_either (x ∷ xs) ys zero p at = inl at
 get_either (x ∷ xs) ys (suc k) p at = get_either xs ys k p at
 
-has_either : (xs ys : List Parcel) (c n : ℕ) (r : Record) → Has (xs ++ ys) c n r → Has xs c n r ⊎ Has ys c n r
+pub has_either : (xs ys : List Parcel) (c n : ℕ) (r : Record) → Has (xs ++ ys) c n r → Has xs c n r ⊎ Has ys c n r
 has_either xs ys c n r has = ⊎_elim
     (λ at. inl (record { index = has.index; parcel = has.parcel; at = at; pair = has.pair }))
     (λ found. inr (record { index = found.0; parcel = has.parcel; at = found.1; pair = has.pair }))
     (get_either xs ys has.index has.parcel has.at)
 
-misses_either : (xs ys : List Parcel) (c n : ℕ) → Misses (xs ++ ys) c n → Misses xs c n ⊎ Misses ys c n
+pub misses_either : (xs ys : List Parcel) (c n : ℕ) → Misses (xs ++ ys) c n → Misses xs c n ⊎ Misses ys c n
 misses_either xs ys c n m = ⊎_elim
     (λ at. inl (record { index = m.index; parcel = m.parcel; at = at; missing = m.missing }))
     (λ found. inr (record { index = found.0; parcel = m.parcel; at = found.1; missing = m.missing }))
@@ -56,7 +56,7 @@ agree_both xs ys one two apart = record {
       (has_either xs ys c n r has);
 }
 
-cpu_of : (cpu fill next : ℕ) (pages : List Page) (k : ℕ) (p : Parcel)
+pub cpu_of : (cpu fill next : ℕ) (pages : List Page) (k : ℕ) (p : Parcel)
     → slice_get (parcels_from cpu fill next pages) k ≡ Some p → p.cpu ≡ cpu
 cpu_of cpu fill next [] k p at = absurd (none_some at)
 cpu_of cpu fill next (damaged cause ∷ pages) k p at = cpu_of cpu (suc fill) next pages k p at
@@ -64,7 +64,7 @@ cpu_of cpu fill next (intact read ∷ pages) zero p at =
     sym (ap (λ (q : Parcel). q.cpu) (some_parcel (parcel_at cpu fill next read) p at))
 cpu_of cpu fill next (intact read ∷ pages) (suc k) p at = cpu_of cpu (suc fill) (behind next (intact read)) pages k p at
 
-cpus_above : (cpu : ℕ) (captures : List (List Page)) (k : ℕ) (p : Parcel)
+pub cpus_above : (cpu : ℕ) (captures : List (List Page)) (k : ℕ) (p : Parcel)
     → slice_get (parcels_of_captures cpu captures) k ≡ Some p → cpu ≤ p.cpu
 cpus_above cpu [] k p at = absurd (none_some at)
 cpus_above cpu (pages ∷ captures) k p at = ⊎_elim

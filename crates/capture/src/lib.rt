@@ -19,3 +19,4 @@ pub mod stamps;
 pub use pages::{Capture, CaptureFault, Damaged};
 pub use part::Part;
 pub use read::{Extent, ReadFault, read_capture, read_on};
+pub use smaller::smaller_in;

@@ -63,7 +63,7 @@ fn first_shown(sizes: &[u32], page: &[u8]) -> Option<u32>
 
 /// The size, in bytes, of the smaller pages that what is read as one page has, if it has several.
 #[tactic(auto, unfolding(crate::specs::Smaller::smaller_in))]
-pub(crate) fn smaller_in(page: &[u8]) -> Option<u32>
+pub fn smaller_in(page: &[u8]) -> Option<u32>
     ensures { result ≡ smaller_in page.now }
 {
     first_shown(&SMALL_SIZES, page)

@@ -1,5 +1,5 @@
 -- What a listing of inputs that are read while they are written stands on.
-use Rattle.std.proofs.Common.{◌≡◌, ℕ, Bool, List, Option, sym, subst}
+use Rattle.std.proofs.Common.{◌≡◌, ℕ, Bool, List, Option, inl, inr, sym, subst}
 use Rattle.collect_command.specs.Following.{IsFollowed}
 use Rattle.collect_command.specs.Listings.{AreTexts}
 use Rattle.collect_command.specs.declared.collect.Texts.{Texts}
@@ -27,8 +27,8 @@ pub texts_given : (texts : Texts) (names : EventNames) (formats : List EventForm
     → AreTasks own_tasks tasks
     → AreSymbols own_symbols symbols
     → AreTexts texts formats tasks symbols
-texts_given texts names formats own_tasks own_symbols tasks symbols same_names same_tasks same_symbols names_are tasks_are
-    symbols_are = record {
+texts_given texts names formats own_tasks own_symbols tasks symbols same_names same_tasks same_symbols names_are
+    tasks_are symbols_are = record {
       names_are = subst (λ (n : EventNames). HasEvents n formats) (sym same_names) names_are;
       tasks_are = subst (λ (t : Option TaskNames). AreTasks t tasks) (sym same_tasks) tasks_are;
       symbols_are = subst (λ (s : Option SymbolNames). AreSymbols s symbols) (sym same_symbols) symbols_are;
@@ -42,16 +42,31 @@ pub with_unnamed : {S : Type 0} {gives : S → Happening → S → Type 0} {cpus
     → IsFollowed gives cpus size form detail selected source source_now contents after failed
     (record { listed = record collected.listed { is_unnamed = is_unnamed }; late = collected.late })
 with_unnamed is_unnamed collected is = record {
-  at_end = λ ends. let (sound, all) = is.at_end ends in (
-    sound,
-    record {
+  told = elim is.told [
+    | inl all ↦ inl (record {
+      sound = all.sound;
       printer = all.printer;
       nothing = all.nothing;
       printer_now = all.printer_now;
       followed = all.followed;
       follows = all.follows;
+      ending_is = all.ending_is;
       late_is = all.late_is;
       cut_is = all.cut_is;
-    },
-  );
+      malformed_are = all.malformed_are;
+    })
+    | inr part ↦ inr (record {
+      printer = part.printer;
+      nothing = part.nothing;
+      printer_now = part.printer_now;
+      between = part.between;
+      had_failed = part.had_failed;
+      part = part.part;
+      stop = part.stop;
+      told = part.told;
+      none_late = part.none_late;
+      none_cut = part.none_cut;
+      none_malformed = part.none_malformed;
+    })
+  ];
 }

@@ -1,13 +1,13 @@
 //! Captures that are listed while they are written.
-ghost use Rattle.std.specs.Prelude.{◌≡◌, ◌≢◌, ◌⊎◌, ℕ, false, List, Option, IfOk, OnErr};
+ghost use Rattle.std.specs.Prelude.{◌≡◌, ◌≢◌, ◌⊎◌, ◌==◌, ℕ, false, true, position, List, Option, IfOk, OnErr};
 ghost use Rattle.trace_dat.specs.Contents.{EventFormat};
 ghost use Rattle.live_listing.specs.declared.following.Stop.{Stop};
 ghost use Rattle.capture_text.specs.Printed.{IsDetail, IsSound};
 ghost use Rattle.capture_text.specs.Printing.{Detail as LineDetail};
 ghost use Rattle.capture_text.specs.Selection.{selection_seen};
 ghost use Rattle.collect_command.specs.Listings.{AreTexts, Describes, detail_by};
-ghost use Rattle.collect_command.specs.Runs.{IsMemoryLine};
-ghost use Rattle.collect_command.specs.Following.{IsAtEnd, IsFollowed, IsNothing, FollowsFiles};
+ghost use Rattle.collect_command.specs.Runs.{TellsMemory};
+ghost use Rattle.collect_command.specs.Following.{ending_by, TellsStop, IsFollowed, IsNothing, FollowsFiles};
 
 use crate::collect::{
     Collecting, Detail, NUMBERS_LINE, Texts, add_given, is_unnamed, lent_marks, marks_for,
@@ -36,6 +36,7 @@ pub struct LiveCollected {
 
 impl LiveCollected {
     ghost use Rattle.std.specs.Prelude.{◌≡◌};
+    ghost use Rattle.collect_command.specs.Listings.{SaysNothing};
     ghost use Rattle.collect_command.specs.Statuses.{status_of_live};
 
     /// The exit status: 1 if all is printed, but a line was late, and else that of the listing.
@@ -52,7 +53,9 @@ impl LiveCollected {
 
     /// Nothing more was listed.
     fn stopped(alloc: Global, ending: Ending) -> LiveCollected
-        ensures { result.listed.ending ≡ ending }
+        ensures ending { result.listed.ending ≡ ending }
+        ensures nothing { SaysNothing result.listed }
+        ensures none_late { result.late ≡ 0 }
     {
         LiveCollected {
             listed: Listed::nothing(alloc, ending),
@@ -61,15 +64,19 @@ impl LiveCollected {
     }
 }
 
-/// The place of a CPU among these.
-fn place_of(cpus: &[CpuId], cpu: CpuId) -> usize {
-    cpus.iter().position(|other| other.0 == cpu.0).unwrap_or(0)
+/// The place of a CPU among these, if it is one of them.
+fn place_of(cpus: &[CpuId], cpu: CpuId) -> Option<usize>
+    ensures { result ≡ position (λ c. c.0 == cpu.0) cpus.now }
+{
+    cpus.iter().position(|other| other.0 == cpu.0)
 }
 
 /// How a listing ends whose inputs have all ended.
-fn ending_of(cpus: &[CpuId], followed: Followed) -> Ending {
+fn ending_of(cpus: &[CpuId], followed: Followed) -> Ending
+    ensures { result ≡ ending_by cpus.now followed.not_read followed.is_intact }
+{
     if let Some(cpu) = followed.not_read {
-        return Ending::NotRead(place_of(cpus, cpu));
+        return Ending::NotRead(place_of(cpus, cpu).unwrap_or(0));
     }
     if followed.is_intact {
         Ending::Done
@@ -80,8 +87,10 @@ fn ending_of(cpus: &[CpuId], followed: Followed) -> Ending {
 
 /// Reports why a listing ends before its inputs do.
 fn tell_stop<W: Sink>(stop: Stop, writer: &mut W) -> Ending
-    requires { stop ≢ Stop.NotWritten → W.failed writer.old ≡ false }
-    ensures { IsAtEnd result → ⊥ }
+    requires sound { stop ≢ Stop.NotWritten → W.failed writer.old ≡ false }
+    requires cut { stop ≡ Stop.NotWritten → W.failed writer.old ≡ true }
+    ensures { TellsStop stop (W.contents writer.old) (W.failed writer.old) (W.contents writer.new)
+        (W.failed writer.new) result }
 {
     match stop {
         Stop::Numbers => write_line(writer, NUMBERS_LINE, Ending::Numbers),
@@ -255,9 +264,9 @@ fn follow_given<S: Happenings, W: Sink>(
     Ok(collected)
 }
 
-/// Lists the pages of these CPUs as they come, until all inputs have ended: of each record a line as soon as it is final,
-/// before it what was lost of its CPU since the last one, and whether it is late. What of `collecting` is of whole files,
-/// its trace buffer, is of no use.
+/// Lists the pages of these CPUs as they come, until all inputs have ended: of each record a line as soon as it is
+/// final, before it what was lost of its CPU since the last one, and whether it is late. What of `collecting` is of
+/// whole files, its trace buffer, is of no use.
 pub fn follow_to<S: Happenings, W: Sink>(
     alloc: Global,
     collecting: &Collecting<'_>,
@@ -268,7 +277,7 @@ pub fn follow_to<S: Happenings, W: Sink>(
     requires sound { W.failed writer.old ≡ false }
     ensures { FollowsFiles S.gives collecting.now cpus.now happenings.old happenings.new (W.contents writer.old)
         (W.contents writer.new) (W.failed writer.new) result
-        ⊎ IsMemoryLine (W.contents writer.old) (W.contents writer.new) (W.failed writer.new) result.listed.ending }
+        ⊎ TellsMemory (W.contents writer.old) (W.contents writer.new) (W.failed writer.new) result.listed }
 {
     match follow_given(alloc, collecting, cpus, happenings, writer) {
         Ok(collected) => collected,

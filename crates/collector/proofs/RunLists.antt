@@ -46,7 +46,7 @@ in_either r rs n h = at_index h.index h.run h.at h.from h.to
     at_index (suc k) run at from to = inr record { index = k; run = run; at = at; from = from; to = to }
 
 -- a run before others that it doesn't touch
-runs_push : (r : ℕ × ℕ) (rs : List (ℕ × ℕ)) (P : ℕ → Type 0) → r.0 ≤ r.1
+pub runs_push : (r : ℕ × ℕ) (rs : List (ℕ × ℕ)) (P : ℕ → Type 0) → r.0 ≤ r.1
     → ((b : ℕ × ℕ) → slice_get rs 0 ≡ Some b → suc r.1 < b.0)
     → AreRuns P rs → AreRuns (λ n. ((r.0 ≤ n) × (n ≤ r.1)) ⊎ P n) (r ∷ rs)
 runs_push r rs P up before runs = record {

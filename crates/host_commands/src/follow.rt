@@ -60,7 +60,8 @@ fn tell_followed(
     collected.status()
 }
 
-/// Lists what happens with the inputs of these CPUs, and gives how that ends, and what is the matter with standard output.
+/// Lists what happens with the inputs of these CPUs, and gives how that ends, and what is the matter with standard
+/// output.
 fn list<'b, S: Happenings>(
     rt: &HostRuntime,
     asked: &CollectCall<'b>,

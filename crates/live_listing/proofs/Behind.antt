@@ -10,22 +10,6 @@ use Rattle.live_listing.specs.Gaps.{Lost, no_gap}
 use Rattle.live_listing.specs.Pages.{ReadRecord, records_behind, lost_behind, AreLinesOf, AddsLine}
 use Rattle.live_listing.specs.declared.pages.Content.{Content}
 
--- the records of entries, without their numbers
-abbrev pub values : List Entry → List Record
-values entries = map (λ (pair : ℕ × Record). pair.1) (map numbered_record entries)
-
-pub more_values : (entries : List Entry) (entry : Entry)
-    → values (entries ++ entry ∷ []) ≡ values entries ++ (numbered_record entry).1 ∷ []
-more_values entries entry =
-    ap (map (λ (pair : ℕ × Record). pair.1)) (map-append numbered_record entries (entry ∷ []))
-    ∙ map-append (λ (pair : ℕ × Record). pair.1) (map numbered_record entries) (numbered_record entry ∷ [])
-
--- without their numbers, records are what they were
-pub without_numbers : (first : ℕ) (records : List Record)
-    → map (λ (pair : ℕ × Record). pair.1) (enumerate_from first records) ≡ records
-without_numbers first [] = refl
-without_numbers first (r ∷ records) = ap (λ (rs : List Record). r ∷ rs) (without_numbers (first + 1) records)
-
 -- one record more
 more_records : (lost : Lost) (records : List Record) (r : Record)
     → records_behind lost (records ++ r ∷ [])

@@ -45,7 +45,9 @@ pub one_gap_more : (form : Form) (bounds : ℕ → Option KnownBound) (size n : 
 one_gap_more form bounds size n cpus found below =
     let front = map reached (take n cpus) in
     let long : 0 + length front ≡ n =
-    from_zero n (length front) (length-map (take n cpus) reached ∙ length-take-le n cpus (at_least n (length cpus) below)) in
-    ap (λ (k : ℕ). last_gaps form bounds size 0 front ++ gap_text form (bounds k) size k (gap_seen found.gap)) (sym long)
+    from_zero n (length front)
+    (length-map (take n cpus) reached ∙ length-take-le n cpus (at_least n (length cpus) below)) in
+    ap (λ (k : ℕ). last_gaps form bounds size 0 front ++ gap_text form (bounds k) size k (gap_seen found.gap))
+    (sym long)
     ∙ sym (gaps_append form bounds size 0 front (reached found))
     ∙ ap (last_gaps form bounds size 0) (sym (map-append reached (take n cpus) (found ∷ [])))

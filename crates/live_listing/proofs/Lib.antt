@@ -1,4 +1,3 @@
-pub mod OnePage
 pub mod Behind
 pub mod Cpus
 pub mod SameNumbers
@@ -6,3 +5,5 @@ pub mod Printed
 pub mod Writing
 pub mod Gaps
 pub mod OneMore
+pub mod Cut
+pub mod Readings

@@ -1,7 +1,8 @@
 -- One thing more that happens.
-use Rattle.std.proofs.Common.{◌≡◌, ◌⊎◌, ℕ, ◌+◌, Bool, false, ◌&&◌, List, [], ◌∷◌, ◌++◌, map, Option}
+use Rattle.std.proofs.Common.{◌≡◌, ◌⊎◌, ℕ, ◌+◌, Bool, false, ◌&&◌, List, [], ◌∷◌, ◌++◌, map, Option, None}
 use Rattle.std.proofs.Common.{refl, sym, ap, ap₂, ◌∙◌, subst, append_assoc, append-nil, arith}
 use Rattle.std.specs.Prelude.{cond, count_by}
+use Rattle.std.specs.Option.{option_or}
 use Rattle.std.proofs.lemmas.List.{map-append}
 use Rattle.std.proofs.lemmas.List.Sums.{sum_by-append}
 use Rattle.trace_model.specs.Listing.{Line}
@@ -14,10 +15,13 @@ use Rattle.capture_text.specs.Printing.{Detail}
 use Rattle.capture_text.specs.Selection.{Selected}
 use Rattle.live_listing.specs.declared.pages.Content.{Content}
 use Rattle.live_listing.specs.declared.following.Happening.{Happening as Happens}
+use Rattle.live_listing.specs.declared.following.Happening.TheVariants.{Page, Quiet, Ended, NotRead}
+use Rattle.line_follower.specs.Known.{is_any_open}
+use Rattle.live_listing.specs.Pages.{Reached}
 use Rattle.live_listing.specs.Live.{Live, Happening, Step, Run, GivesRest, nothing_live}
 use Rattle.live_listing.specs.Printing.{said_texts, line_text, listed_of, listed_all, is_late, HasPrinted}
 use Rattle.live_listing.specs.Following.{happening_seen, Happened, IsOther, IsWritten, PrintsAll, Follows, counted}
-use Rattle.live_listing.specs.Following.{FollowsAll, last_gaps, are_intact}
+use Rattle.live_listing.specs.Following.{FollowsAll, last_gaps, are_intact, whole_text, first_not_read}
 use Rattle.live_listing.specs.declared.following.Followed.{Followed}
 use Rattle.live_listing.specs.Printing.{bound_after}
 use Rattle.live_listing.proofs.Printed.{same_bound}
@@ -67,8 +71,40 @@ prints_then size given others first between last start before after was failed s
           (written_then start before after was failed _ _ sound a.1 b.1),
     )
 
+-- lines are printed, and behind them what was lost last
+pub whole_written : (size : ℕ) (all : List (Said Content)) (cpus : List Reached) (printer last : Printer)
+    (contents between after : Option (List ℕ)) (was failed : Bool) → was ≡ false
+    → PrintsAll size all printer contents last between was
+    → IsWritten between after failed (last_gaps last.form (bounds_of last) size 0 cpus)
+    → (form : Form) (detail : Detail) (selected : Selected) (before : List Line)
+    → HasPrinted form detail selected before printer
+    → HasPrinted form detail selected (before ++ listed_all all) last
+    × IsWritten contents after failed (whole_text form detail selected size before all cpus)
+whole_written size all cpus printer last contents between after was failed sound prints gaps =
+    λ form detail selected before has.
+    let lines = prints form detail selected before has in
+    let known = before ++ listed_all all in
+    let same : bounds_of last ≡ bound_after selected known =
+    λ i cpu. same_bound form detail selected known last cpu lines.0 i in (
+      lines.0,
+      written_then contents between after was failed _ _ sound lines.1
+          (subst (IsWritten between after failed)
+          (ap₂ (λ (f : Form) (b : ℕ → Option KnownBound). last_gaps f b size 0 cpus) lines.0.form_is same) gaps),
+    )
+
+-- the first CPU of which a read failed, with one thing more
+first_with : (happened : List Happens) (happening : Happens)
+    → first_not_read (happened ++ happening ∷ [])
+    ≡ option_or (first_not_read happened) (first_not_read (happening ∷ []))
+first_with [] happening = refl
+first_with (NotRead cpu ∷ happened) happening = refl
+first_with (Page cpu bytes ∷ happened) happening = first_with happened happening
+first_with (Quiet cpu ∷ happened) happening = first_with happened happening
+first_with (Ended cpu ∷ happened) happening = first_with happened happening
+
 -- it happens after the others
-run_more : (old between new : Live) (happened : List Happening) (happening : Happening) (given said : List (Said Content))
+run_more : (old between new : Live) (happened : List Happening) (happening : Happening)
+    (given said : List (Said Content))
     → Run old happened given between
     → Step happening between said new
     → Run old (happened ++ happening ∷ []) (given ++ said) new
@@ -99,39 +135,44 @@ module _ {S : Type 0} (gives : S → Happens → S → Type 0) (cpus : List CpuI
   happened_more old between new (first ∷ happened) happening (mid, own, others) is =
       (mid, own, happened_more mid between new happened happening others is)
 
-  late_more : (late more all : ℕ) (n m : ℕ) → late ≡ counted n → more ≡ m → all ≡ counted (late + more) → all ≡ counted (n + m)
+  late_more : (late more all : ℕ) (n m : ℕ) → late ≡ counted n → more ≡ m → all ≡ counted (late + more)
+      → all ≡ counted (n + m)
   late_more late more all n m is own sum = omega (arith, is, own, sum)
 
   -- one thing more
   pub one_more : (size : ℕ) (source between new : S) (printer mid last : Printer)
       (contents before after : Option (List ℕ)) (was failed : Bool) (live now : Live) (late more all : ℕ)
-      (happening : Happens) (said : List (Said Content)) → was ≡ false
-      → Follows gives cpus size source printer contents between live mid before was late
+      (not_read not_read_now : Option CpuId) (happening : Happens) (said : List (Said Content)) → was ≡ false
+      → Follows gives cpus size source printer contents between live mid before was late not_read
       → (gives between happening new ⊎ (IsOther cpus happening × (new ≡ between)))
       → Step (happening_seen happening) live said now
       → PrintsAll size said mid before last after failed
       → more ≡ count_by is_late said
       → all ≡ counted (late + more)
-      → Follows gives cpus size source printer contents new now last after failed all
-  one_more size source between new printer mid last contents before after was failed live now late more all happening
-      said sound so_far is step prints own sum = record {
+      → not_read_now ≡ option_or not_read (first_not_read (happening ∷ []))
+      → Follows gives cpus size source printer contents new now last after failed all not_read_now
+  one_more size source between new printer mid last contents before after was failed live now late more all not_read
+      not_read_now happening said sound so_far is step prints own sum first = record {
         happened = so_far.happened ++ happening ∷ [];
         happens = happened_more source between new so_far.happened happening so_far.happens is;
         given = so_far.given ++ said;
         run = subst (λ (hs : List Happening). Run nothing_live hs (so_far.given ++ said) now)
             (sym (map-append happening_seen so_far.happened (happening ∷ [])))
-            (run_more nothing_live live now (map happening_seen so_far.happened) (happening_seen happening) so_far.given said
-            so_far.run step);
-        prints = prints_then size so_far.given said printer mid last contents before after was failed sound so_far.prints
-            prints;
+            (run_more nothing_live live now (map happening_seen so_far.happened) (happening_seen happening)
+            so_far.given said so_far.run step);
+        prints = prints_then size so_far.given said printer mid last contents before after was failed sound
+            so_far.prints prints;
         late_is = late_more late more all (count_by is_late so_far.given) (count_by is_late said) so_far.late_is own sum
             ∙ ap counted (sym (sum_by-append (λ s. cond (is_late s) 1 0) so_far.given said));
+        not_read_is = first
+            ∙ ap (λ (cpu : Option CpuId). option_or cpu (first_not_read (happening ∷ []))) so_far.not_read_is
+            ∙ sym (first_with so_far.happened happening);
       }
 
   -- nothing has happened
   pub begun : (size : ℕ) (source : S) (printer : Printer) (contents : Option (List ℕ)) (failed : Bool) (live : Live)
       → failed ≡ false → live ≡ nothing_live
-      → Follows gives cpus size source printer contents source live printer contents failed 0
+      → Follows gives cpus size source printer contents source live printer contents failed 0 None
   begun size source printer contents failed live sound is = record {
     happened = [];
     happens = refl;
@@ -139,50 +180,47 @@ module _ {S : Type 0} (gives : S → Happens → S → Type 0) (cpus : List CpuI
     run = (sym is, refl);
     prints = nothing_printed size printer contents failed sound;
     late_is = refl;
+    not_read_is = refl;
   }
 
-  -- and then what is left is given, and what was lost last
+  -- and then all have ended, what is left is given, and what was lost last
   pub all_followed : (size : ℕ) (source source_now : S) (printer mid last : Printer)
       (contents before between after : Option (List ℕ)) (was then_failed failed : Bool) (live end : Live)
-      (late more : ℕ) (rest : List (Said Content)) (followed : Followed)
+      (late more : ℕ) (not_read : Option CpuId) (rest : List (Said Content)) (followed : Followed)
       → was ≡ false → then_failed ≡ false → failed ≡ false
-      → Follows gives cpus size source printer contents source_now live mid before was late
+      → Follows gives cpus size source printer contents source_now live mid before was late not_read
+      → is_any_open live.following.known.cpus ≡ false
       → GivesRest live rest end
       → PrintsAll size rest mid before last between then_failed
       → more ≡ count_by is_late rest
       → IsWritten between after failed (last_gaps last.form (bounds_of last) size 0 end.cpus)
       → followed.late ≡ counted (late + more)
       → followed.is_intact ≡ are_intact end.cpus
+      → followed.not_read ≡ not_read
       → FollowsAll gives cpus size source printer contents source_now last after followed
-  all_followed size source source_now printer mid last contents before between after was then_failed failed live end late
-      more rest followed sound then_sound still so_far gives_rest prints own gaps_written sum intact =
+  all_followed size source source_now printer mid last contents before between after was then_failed failed live end
+      late more not_read rest followed sound then_sound still so_far ended gives_rest prints own gaps sum intact first =
       let all = prints_then size so_far.given rest printer mid last contents before between was then_failed sound
       so_far.prints prints in
+      let whole = whole_written size (so_far.given ++ rest) end.cpus printer last contents between after then_failed
+      failed then_sound all gaps in
       record {
         happened = so_far.happened;
         happens = so_far.happens;
         given = so_far.given;
         live = live;
         run = so_far.run;
+        ended = ended;
         rest = rest;
         last = end;
         gives_rest = gives_rest;
         prints = λ form detail selected lines has.
-            let lines_all = all form detail selected lines has in
-            let known = lines ++ listed_all (so_far.given ++ rest) in
-            let same : bounds_of last ≡ bound_after selected known =
-            λ i cpu. same_bound form detail selected known last cpu lines_all.0 i in
-            let gaps_are : IsWritten between after failed (last_gaps form (bound_after selected known) size 0 end.cpus) =
-            subst (IsWritten between after failed)
-            (ap₂ (λ (f : Form) (b : ℕ → Option KnownBound). last_gaps f b size 0 end.cpus) lines_all.0.form_is same)
-            gaps_written in (
-              lines_all.0,
-              (written_then contents between after then_failed failed _ _ then_sound lines_all.1 gaps_are).all still,
-            );
-        late_is = late_more late more followed.late (count_by is_late so_far.given) (count_by is_late rest) so_far.late_is
-            own sum
+            let (printed, written) = whole form detail selected lines has in (printed, written.all still);
+        late_is = late_more late more followed.late (count_by is_late so_far.given) (count_by is_late rest)
+            so_far.late_is own sum
             ∙ ap counted (sym (sum_by-append (λ s. cond (is_late s) 1 0) so_far.given rest));
         intact_is = intact;
+        not_read_is = first ∙ so_far.not_read_is;
       }
 
 -- whether all of a list are so, by what is seen of each

@@ -1,5 +1,6 @@
 -- What a printer has printed, with one line more.
-use Rattle.std.proofs.Common.{◌≡◌, ℕ, ◌+◌, ◌-◌, ◌^◌, min, Bool, List, [], ◌∷◌, ◌++◌, refl, sym, ap, ap₂, ◌∙◌, subst, append_assoc, append-nil, arith}
+use Rattle.std.proofs.Common.{◌≡◌, ℕ, ◌+◌, ◌-◌, ◌^◌, min, Bool, List, [], ◌∷◌, ◌++◌, refl}
+use Rattle.std.proofs.Common.{sym, ap, ap₂, ◌∙◌, subst, append_assoc, append-nil, arith}
 use Rattle.std.specs.Prelude.{cond, count_by}
 use Rattle.std.proofs.Common.{sum_by}
 use Rattle.std.proofs.lemmas.List.Sums.{fold-append, sum_by-append, sum_by-cons}
@@ -55,7 +56,8 @@ module _ {W : Type 0} {g : Ghosts W} where
         let is_cut : Line → Bool = is_listed_cut detail selected in
         counted_more (count_by is_cut before) (cond (is_cut line) 1 0) printer.cut after.cut has.cut_is
         (prints.cut detail has.detail_is
-        ∙ ap (λ (s : Selected). min (printer.cut + cond (is_listed_cut detail s line) 1 0) (2 ^ 64 - 1)) has.selected_is)
+        ∙ ap (λ (s : Selected). min (printer.cut + cond (is_listed_cut detail s line) 1 0) (2 ^ 64 - 1))
+        has.selected_is)
         ∙ ap (λ (n : ℕ). min n (2 ^ 64 - 1))
         (one_counted is_cut before line);
   }
@@ -68,7 +70,8 @@ pub one_more_text : (form : Form) (detail : Detail) (selected : Selected) (size 
     ++ line_text form detail selected size (before ++ listed_all given) (line_of said) (is_late said)
 one_more_text form detail selected size before [] said =
     append-nil (line_text form detail selected size before (line_of said) (is_late said))
-    ∙ ap (λ (b : List Line). line_text form detail selected size b (line_of said) (is_late said)) (sym (append-nil before))
+    ∙ ap (λ (b : List Line). line_text form detail selected size b (line_of said) (is_late said))
+    (sym (append-nil before))
 one_more_text form detail selected size before (first ∷ given) said =
     let line = listed_of (line_of first) in
     ap (λ (rest : List ℕ). line_text form detail selected size before (line_of first) (is_late first) ++ rest)

@@ -47,7 +47,8 @@ same_numbers cpu fill reached (intact read ∷ pages) =
     ∙ ap₂ (λ (front back : List (ℕ × Record)). front ++ back)
     (numbers_behind (with_loss read.missed reached.lost) read.records)
     (same_numbers cpu (suc fill) next pages
-    ∙ ap (λ (n : ℕ). flat_map entries_of_parcel (parcels_from cpu (suc fill) n pages)) (next_with reached (intact read)))
+    ∙ ap (λ (n : ℕ). flat_map entries_of_parcel (parcels_from cpu (suc fill) n pages))
+    (next_with reached (intact read)))
 same_numbers cpu fill reached (damaged cause ∷ pages) =
     same_numbers cpu (suc fill) (reached_with reached (damaged cause)) pages
 

@@ -1,12 +1,13 @@
 -- A listing of inputs that are read while they are written.
 use Rattle.std.specs.Prelude.{◌≡◌, ◌⊎◌, ◌==◌, ℕ, suc, ◌-◌, ◌^◌, min, Bool, true, false, List, [], ◌∷◌}
-use Rattle.std.specs.Prelude.{◌++◌, map, count_by, Option}
+use Rattle.std.specs.Prelude.{◌++◌, map, count_by, Option, Some, None}
 use Rattle.std.specs.List.{list_all, list_any}
 use Rattle.std.specs.Io.KnownBytes.{Appends}
 use Rattle.trace_model.specs.declared.numbers.CpuId.{CpuId}
 use Rattle.trace_model.specs.Listing.{Line as ModelLine}
 use Rattle.command_io.specs.CommandRun.{AppendsPrefix}
 use Rattle.line_follower.specs.declared.lines.Said.{Said}
+use Rattle.line_follower.specs.Known.{is_any_open}
 use Rattle.capture_text.specs.declared.form.Form.{Form}
 use Rattle.capture_text.specs.declared.printer.Printer.{Printer}
 use Rattle.capture_text.specs.Printing.{Detail}
@@ -17,7 +18,8 @@ use Rattle.live_listing.specs.declared.following.Followed.{Followed}
 use Rattle.live_listing.specs.declared.following.Happening.{Happening as Happens}
 use Rattle.live_listing.specs.declared.following.Happening.TheVariants.{Page, Quiet, Ended, NotRead}
 use Rattle.live_listing.specs.Pages.{Reached}
-use Rattle.live_listing.specs.Live.{Live, Happening, page_read, was_quiet, has_ended, nothing_live, Run, GivesRest}
+use Rattle.live_listing.specs.Live.{Live, Happening, Step, page_read, was_quiet, has_ended, nothing_live, Run}
+use Rattle.live_listing.specs.Live.{GivesRest}
 use Rattle.live_listing.specs.Printing.{said_texts, listed_all, is_late, bound_after, gap_text, HasPrinted}
 
 -- what happens, and to which CPU
@@ -51,6 +53,14 @@ Happened {S} gives cpus old (happening ∷ others) new =
     (between : S) × (gives old happening between ⊎ (IsOther cpus happening × (between ≡ old)))
     × Happened gives cpus between others new
 
+-- the first CPU of which a read failed, if there is one
+abbrev pub first_not_read : List Happens → Option CpuId
+first_not_read [] = None
+first_not_read (NotRead cpu ∷ others) = Some cpu
+first_not_read (Page cpu bytes ∷ others) = first_not_read others
+first_not_read (Quiet cpu ∷ others) = first_not_read others
+first_not_read (Ended cpu ∷ others) = first_not_read others
+
 -- what was lost of each CPU, from this one on, behind its last record
 abbrev pub last_gaps : Form → (bounds : ℕ → Option KnownBound) → (size cpu : ℕ) → List Reached → List ℕ
 last_gaps form bounds size cpu [] = []
@@ -79,16 +89,42 @@ PrintsAll size said old contents new after failed =
 abbrev pub counted : ℕ → ℕ
 counted n = min n (2 ^ 64 - 1)
 
--- What has happened so far, what was given of it, and that this is printed.
+-- nothing is printed or written
+pub record PrintsNothing (printer : Printer) (contents : Option (List ℕ)) (printer_now : Printer)
+    (after : Option (List ℕ)) (failed : Bool) : Type 0 where
+  pub printer_is : printer_now ≡ printer
+  pub contents_are : after ≡ contents
+  pub sound : failed ≡ false
+
+-- it happens, and a write fails: of the text of what is given then a beginning is written, and not all
+pub record CutsText (size : ℕ) (happening : Happens) (old : Live) (printer : Printer) (contents : Option (List ℕ))
+    (printer_now : Printer) (after : Option (List ℕ)) (failed : Bool) : Type 0 where
+  pub said : List (Said Content)
+  pub new : Live
+  pub step : Step (happening_seen happening) old said new
+  pub prints : PrintsAll size said printer contents printer_now after failed
+  pub cut : failed ≡ true
+
+-- Why there is no answer to something that is to happen: it didn't happen, and nothing is printed of it; or it did, and
+-- a write failed.
+abbrev pub CutsOne : (size : ℕ) → Happens → Live → Printer → (contents : Option (List ℕ)) → Printer
+    → (after : Option (List ℕ)) → (failed : Bool) → Type 0
+CutsOne size happening old printer contents printer_now after failed =
+    PrintsNothing printer contents printer_now after failed
+    ⊎ CutsText size happening old printer contents printer_now after failed
+
+-- What has happened so far, what was given of it, that this is printed, how many lines were late, and of which CPU a
+-- read failed first.
 pub record Follows {S : Type 0} (gives : S → Happens → S → Type 0) (cpus : List CpuId) (size : ℕ) (source : S)
     (printer : Printer) (contents : Option (List ℕ)) (source_now : S) (live : Live) (printer_now : Printer)
-    (after : Option (List ℕ)) (failed : Bool) (late : ℕ) : Type 0 where
+    (after : Option (List ℕ)) (failed : Bool) (late : ℕ) (not_read : Option CpuId) : Type 0 where
   pub happened : List Happens
   pub happens : Happened gives cpus source happened source_now
   pub given : List (Said Content)
   pub run : Run nothing_live (map happening_seen happened) given live
   pub prints : PrintsAll size given printer contents printer_now after failed
   pub late_is : late ≡ counted (count_by is_late given)
+  pub not_read_is : not_read ≡ first_not_read happened
 
 -- all that was given, and behind it what was lost of each CPU behind its last record
 abbrev pub whole_text : Form → Detail → Selected → (size : ℕ) → (before : List ModelLine) → List (Said Content)
@@ -97,8 +133,35 @@ whole_text form detail selected size before given cpus =
     said_texts form detail selected size before given
     ++ last_gaps form (bound_after selected (before ++ listed_all given)) size 0 cpus
 
--- All that happened is listed: what was given as it happened, then what was left, and then what was lost behind the
--- last record of each CPU.
+-- All inputs had ended, and then a write failed: a beginning of the whole text is written, and not all.
+pub record CutsEnd (size : ℕ) (printer : Printer) (contents after : Option (List ℕ)) (failed : Bool)
+    (given : List (Said Content)) (live : Live) : Type 0 where
+  pub ended : is_any_open live.following.known.cpus ≡ false
+  pub rest : List (Said Content)
+  pub last : Live
+  pub gives_rest : GivesRest live rest last
+  pub cut : failed ≡ true
+  pub begins : (form : Form) (detail : Detail) (selected : Selected) (before : List ModelLine)
+      → HasPrinted form detail selected before printer
+      → AppendsPrefix contents after (whole_text form detail selected size before (given ++ rest) last.cpus)
+
+-- A listing that was stopped: what has happened until then, and what was given of it. The text of this is printed, and
+-- written as far as writes went; or all inputs had ended, and a write failed then. The source was at `between` after
+-- what happened; what came of it since isn't listed.
+pub record FollowsPart {S : Type 0} (gives : S → Happens → S → Type 0) (cpus : List CpuId) (size : ℕ) (source : S)
+    (printer : Printer) (contents : Option (List ℕ)) (printer_now : Printer) (after : Option (List ℕ)) (failed : Bool)
+    : Type 0 where
+  pub happened : List Happens
+  pub between : S
+  pub happens : Happened gives cpus source happened between
+  pub given : List (Said Content)
+  pub live : Live
+  pub run : Run nothing_live (map happening_seen happened) given live
+  pub written : PrintsAll size given printer contents printer_now after failed
+      ⊎ CutsEnd size printer contents after failed given live
+
+-- All inputs have ended, and all that happened is listed: what was given as it happened, then what was left, and then
+-- what was lost behind the last record of each CPU.
 pub record FollowsAll {S : Type 0} (gives : S → Happens → S → Type 0) (cpus : List CpuId) (size : ℕ) (source : S)
     (printer : Printer) (contents : Option (List ℕ)) (source_now : S) (printer_now : Printer)
     (after : Option (List ℕ)) (followed : Followed) : Type 0 where
@@ -107,6 +170,7 @@ pub record FollowsAll {S : Type 0} (gives : S → Happens → S → Type 0) (cpu
   pub given : List (Said Content)
   pub live : Live
   pub run : Run nothing_live (map happening_seen happened) given live
+  pub ended : is_any_open live.following.known.cpus ≡ false
   pub rest : List (Said Content)
   pub last : Live
   pub gives_rest : GivesRest live rest last
@@ -116,3 +180,4 @@ pub record FollowsAll {S : Type 0} (gives : S → Happens → S → Type 0) (cpu
       × Appends contents after (whole_text form detail selected size before (given ++ rest) last.cpus)
   pub late_is : followed.late ≡ counted (count_by is_late (given ++ rest))
   pub intact_is : followed.is_intact ≡ are_intact last.cpus
+  pub not_read_is : followed.not_read ≡ first_not_read happened

@@ -6,7 +6,7 @@ use Rattle.capture.specs.Pages.{least_missed, unknown_at}
 use Rattle.capture.specs.Captures.{numbers_of}
 use Rattle.capture.specs.declared.pages.Damaged.{Damaged}
 use Rattle.live_listing.specs.declared.gap.Gap.{Gap}
-use Rattle.live_listing.specs.declared.gap.Loss.{Loss}
+use Rattle.page_lines.specs.declared.page.Loss.{Loss}
 
 -- the numbers from `from` to the one before `until` are missing; at which numbers records were lost whose number isn't
 -- stated; and the pages that can't be read

@@ -3,3 +3,4 @@ pub mod Pages
 pub mod Live
 pub mod Printing
 pub mod Following
+pub mod Readings

@@ -35,6 +35,7 @@ pub record Happens (event : Event Content) (old : Live) (said : List (Said Conte
 
 -- a page of a CPU with these bytes is read, and this is given, which is final then
 pub record ReadsPage (cpu : ℕ) (bytes : List ℕ) (old : Live) (said : List (Said Content)) (new : Live) : Type 0 where
+  pub there : cpu < length old.cpus
   pub value : Page
   pub is_page : IsPageOf bytes value
   pub lines : List (Line Content)

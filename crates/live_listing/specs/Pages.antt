@@ -8,8 +8,6 @@ use Rattle.line_follower.specs.declared.lines.Line.{Line}
 use Rattle.live_listing.specs.declared.pages.Content.{Content}
 use Rattle.live_listing.specs.declared.pages.CpuPages.{CpuPages}
 use Rattle.capture.specs.declared.pages.Damaged.{Damaged as DamagedPage}
-use Rattle.live_listing.specs.declared.pages.Found.{Found}
-use Rattle.live_listing.specs.declared.pages.Found.TheVariants.{Read, Damaged}
 use Rattle.live_listing.specs.Gaps.{Lost, gap_seen, no_gap, with_loss, with_page}
 
 -- How far a CPU is read: what was lost since its last record, how many pages are read, and whether each could be. The
@@ -89,16 +87,6 @@ pub record AddsLine (cpu : ℕ) (lost : Lost) (value : Record) (before after : L
   pub lines : map line_read after ≡ map line_read before
       ++ (cpu, record { number = lost.until; value = value; lost = lost }) ∷ []
   pub gap : behind ≡ no_gap (suc lost.until)
-
--- this was found of a page
-abbrev pub IsFound : Found → Page → Type 0
-IsFound (Read loss parcel) (intact read) =
-    (loss.least ≡ least_missed read.missed) × ((next : ℕ) → unknown_at next read.missed
-    ≡ (if loss.is_unknown then next ∷ [] else []))
-    × ((as_parcel parcel).records ≡ read.records)
-IsFound (Damaged fault) (damaged cause) = fault ≡ image_fault cause
-IsFound (Read loss parcel) (damaged cause) = ⊥
-IsFound (Damaged fault) (intact read) = ⊥
 
 -- the records of pages, one after the other
 abbrev pub records_of_pages : Reached → List Page → List ReadRecord

@@ -1,5 +1,6 @@
 //! A listing of inputs that are read while they are written.
-ghost use Rattle.std.specs.Prelude.{◌≡◌, ◌≢◌, ◌<◌, ◌++◌, ◌↔◌, false, true, Err, count_by, map, List, IfOk, IfErr, OnOk, OnErr};
+ghost use Rattle.std.specs.Prelude.{◌≡◌, ◌≢◌, ◌<◌, ◌++◌, ◌∷◌, [], ◌↔◌, false, true, Err, count_by, map, List};
+ghost use Rattle.std.specs.Prelude.{IfOk, IfErr, OnOk, OnErr};
 ghost use Rattle.std.specs.List.{list_all};
 ghost use Rattle.trace_model.specs.declared.limits.TheConstants.{MAX_CPUS};
 ghost use Rattle.trace_model.specs.Listing.{Line as ModelLine};
@@ -12,9 +13,10 @@ ghost use Rattle.live_listing.specs.Pages.{reached};
 ghost use Rattle.live_listing.specs.Live.{AreInOrder, Adds, Step};
 ghost use Rattle.live_listing.specs.Printing.{said_texts, listed_all, is_late, HasPrinted, HasPrintedSome};
 ghost use Rattle.live_listing.specs.Following.{cpu_of, happening_seen, last_gaps, has_cpu, IsWritten};
-ghost use Rattle.live_listing.specs.Following.{PrintsAll, FollowsAll};
+ghost use Rattle.live_listing.specs.Following.{PrintsAll, FollowsAll, FollowsPart, CutsOne, first_not_read};
 ghost use Rattle.live_listing.specs.declared.following.Stop.{Stop};
-ghost use Rattle.live_listing.specs.declared.following.Stop.TheVariants.{NoMemory as MemoryIs, NotWritten as NotWrittenIs};
+ghost use Rattle.live_listing.specs.declared.following.Stop.TheVariants.{NoMemory as MemoryIs};
+ghost use Rattle.live_listing.specs.declared.following.Stop.TheVariants.{NotWritten as NotWrittenIs};
 
 use crate::listing::LiveListing;
 use crate::pages::{Content, CpuPages};
@@ -56,7 +58,7 @@ pub trait Happenings {
 /// Why a listing of inputs that are read while they are written ends before they do.
 #[derive(Clone, Copy, Debug, PartialEq, Eq)]
 pub enum Stop {
-    /// The number of a record, or of pages, would be above 2^64 - 1.
+    /// The number of a record, of pages or of what happens would be above 2^64 - 1.
     Numbers,
     /// Memory was refused.
     NoMemory,
@@ -204,8 +206,8 @@ fn follow_one<W: Sink>(
         × Step (happening_seen happening) live.old said live.new × (late ≡ count_by is_late said)
         × PrintsAll size said printer.old (W.contents writer.old) printer.new (W.contents writer.new)
         (W.failed writer.new)) }
-    ensures cut { (said : List (Said Content)) × PrintsAll size said printer.old (W.contents writer.old) printer.new
-        (W.contents writer.new) (W.failed writer.new) }
+    ensures cut { OnErr result (CutsOne size happening live.old printer.old (W.contents writer.old) printer.new
+        (W.contents writer.new) (W.failed writer.new)) }
     ensures fault { (W.failed writer.new ≡ true) ↔ (result ≡ Err Stop.NotWritten) }
 {
     let mut given = Vec::new(alloc);
@@ -214,7 +216,9 @@ fn follow_one<W: Sink>(
 }
 
 /// The CPU a read of whose input failed.
-fn failed_cpu(happening: &Happening) -> Option<CpuId> {
+fn failed_cpu(happening: &Happening) -> Option<CpuId>
+    ensures { result ≡ first_not_read (happening.now ∷ []) }
+{
     match happening {
         Happening::NotRead(cpu) => Some(*cpu),
         _ => None,
@@ -225,7 +229,7 @@ fn failed_cpu(happening: &Happening) -> Option<CpuId> {
 fn has_cpu(cpus: &[CpuId], cpu: CpuId) -> bool
     ensures { result ≡ has_cpu cpus.now cpu.0 }
 {
-    cpus.iter().any(|other| other.0 == cpu.0)
+    cpus.contains(&cpu)
 }
 
 /// Whether each page of each CPU could be read.
@@ -251,6 +255,8 @@ pub fn follow_pages<S: Happenings, W: Sink>(
     requires sound { W.failed writer.old ≡ false }
     ensures listed { IfOk result (λ followed. FollowsAll S.gives cpus.now size happenings.old printer.old
         (W.contents writer.old) happenings.new printer.new (W.contents writer.new) followed) }
+    ensures stopped { OnErr result (FollowsPart S.gives cpus.now size happenings.old printer.old
+        (W.contents writer.old) printer.new (W.contents writer.new) (W.failed writer.new)) }
     ensures sound { OnOk result (W.failed writer.new ≡ false) }
     ensures fault { (W.failed writer.new ≡ true) ↔ (result ≡ Err Stop.NotWritten) }
 {
@@ -291,6 +297,9 @@ pub fn follow_pages<S: Happenings, W: Sink>(
             size,
         )?;
         late = late.saturating_add(more);
+    }
+    if live.awaited().is_some() {
+        return Err(Stop::Numbers);
     }
     let mut given = Vec::new(alloc);
     live.rest(&mut given)?;

@@ -4,6 +4,7 @@ ghost use Rattle.live_listing.specs.Gaps.{gap_seen, no_gap};
 
 use capture::{CaptureFault, Damaged};
 use page_image::ImageFault;
+use page_lines::Loss;
 use std::alloc::Global;
 use trace_model::RecordNo;
 
@@ -18,15 +19,6 @@ pub struct Gap {
     pub unknown: Vec<RecordNo>,
     /// The pages that can't be read.
     pub damaged: Vec<Damaged>,
-}
-
-/// What a page states of the records that were lost before it.
-#[derive(Clone, Copy)]
-pub(crate) struct Loss {
-    /// How many were lost at least.
-    pub(crate) least: u64,
-    /// Whether their number isn't stated.
-    pub(crate) is_unknown: bool,
 }
 
 impl Gap {

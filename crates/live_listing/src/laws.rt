@@ -5,6 +5,18 @@ ghost use Rattle.capture.specs.Pages.{Page, parcels_from, unknown_from, damages_
 ghost use Rattle.capture.specs.Captures.{AreDamages};
 ghost use Rattle.live_listing.specs.Pages.{nothing_reached, reached_by, records_of_pages, numbered, AreBetween};
 ghost use Rattle.live_listing.specs.Pages.{unknown_before, damaged_before};
+ghost use Rattle.line_follower.specs.declared.lines.Said.{Said};
+ghost use Rattle.live_listing.specs.declared.pages.Content.{Content};
+ghost use Rattle.live_listing.specs.Live.{Live, Happening, Run, GivesRest, nothing_live};
+ghost use Rattle.live_listing.specs.Readings.{IsReadingOf};
+
+/// Whatever happens with inputs, what is given is that of a reading as it is meant, whose lines of each CPU are those
+/// of the records of its pages.
+pub fn what_happens_is_followed()
+    ensures { (happened : List Happening) (given rest : List (Said Content)) (live last : Live)
+        → Run nothing_live happened given live → GivesRest live rest last
+        → IsReadingOf happened given rest last.cpus }
+{}
 
 /// The records of a CPU's pages have the numbers, moments and bytes that they have in a capture of these pages.
 pub fn records_are_those_of_a_capture()

@@ -71,7 +71,8 @@ impl LiveListing {
         Ok(LiveListing { follower, cpus })
     }
 
-    /// The CPU of which more is wanted most: the open one whose moments are the least far. None if all have ended.
+    /// The CPU of which more is wanted most, while any is open. None if all have ended. That it is the open one whose
+    /// moments are the least far isn't promised.
     pub fn awaited(&self) -> Option<CpuId>
         ensures none { result ≡ None → is_any_open self.now.following.known.cpus ≡ false }
         ensures some { IfSome result (λ cpu. (cpu.0 < MAX_CPUS)

@@ -1,14 +1,10 @@
 //! The pages of a CPU, read one after the other.
-ghost use Rattle.std.specs.Prelude.{◌≡◌, ◌<◌, IfOk};
-ghost use Rattle.trace_model.specs.declared.limits.TheConstants.{MAX_CPUS};
-ghost use Rattle.capture.specs.Pages.{Page, IsPageOf};
-ghost use Rattle.live_listing.specs.Pages.{IsFound};
 
-use crate::gap::{Gap, Loss};
-use capture::{Capture, CaptureFault};
+use crate::gap::Gap;
+use capture::CaptureFault;
 use line_follower::{Line, Place};
 use page_borrow::Entry;
-use page_image::{ImageFault, Missed};
+use page_lines::{Found, find_page};
 use page_numbers::Parcel;
 use std::alloc::Global;
 use std::mem;
@@ -34,36 +30,6 @@ pub struct CpuPages {
     pub pages: u64,
     /// Whether each of them could be read.
     pub is_intact: bool,
-}
-
-/// What is read of a page.
-#[derive(Drop)]
-enum Found {
-    /// Its records, and what was lost before them.
-    Read(Loss, Parcel),
-    /// It can't be read.
-    Damaged(ImageFault),
-}
-
-/// Reads a page. The numbers of its records begin after those that were lost before them.
-fn find_page(alloc: Global, cpu: CpuId, image: &mut [u8]) -> Result<Found, CaptureFault>
-    requires { cpu.0 < MAX_CPUS }
-    ensures { IfOk result (λ found. (page : Page) × IsPageOf image.old page × IsFound found page) }
-{
-    let mut capture = Capture::new(alloc, cpu);
-    capture.add_page(alloc, image, Missed::Unknown)?;
-    let is_unknown = !capture.unknown.is_empty();
-    if let Some(parcel) = capture.parcels.pop() {
-        let loss = Loss {
-            least: parcel.missed(),
-            is_unknown,
-        };
-        return Ok(Found::Read(loss, parcel));
-    }
-    match capture.damaged.pop() {
-        Some(damaged) => Ok(Found::Damaged(damaged.fault)),
-        None => unreachable!(),
-    }
 }
 
 impl CpuPages {

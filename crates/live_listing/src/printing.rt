@@ -10,7 +10,8 @@ ghost use Rattle.line_follower.specs.Order.{line_of};
 ghost use Rattle.time_merge.specs.Lines.{line_seen};
 ghost use Rattle.text_values.specs.Putting.{Puts};
 ghost use Rattle.live_listing.specs.Gaps.{gap_seen};
-ghost use Rattle.live_listing.specs.Printing.{gap_text, line_text, said_texts, listed_of, listed_all, is_late, HasPrinted};
+ghost use Rattle.live_listing.specs.Printing.{gap_text, line_text, said_texts, listed_of, listed_all, is_late};
+ghost use Rattle.live_listing.specs.Printing.{HasPrinted};
 
 use crate::gap::Gap;
 use crate::pages::Content;

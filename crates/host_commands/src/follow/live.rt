@@ -188,8 +188,8 @@ fn start_all<T: Threads + Wait + Copy + Send + 'static>(
 }
 
 impl<'a, 'b, T: Threads + Wait + Copy + Send + 'static> Live<'a, 'b, T> {
-    /// Starts to read these files by pages of so many bytes. The threads aren't joined: one that waits for bytes can't be
-    /// ended, and ends with the process.
+    /// Starts to read these files by pages of so many bytes. The threads aren't joined: one that waits for bytes can't
+    /// be ended, and ends with the process.
     pub(crate) fn start(
         rt: &'a HostRuntime,
         threads: &'b T,

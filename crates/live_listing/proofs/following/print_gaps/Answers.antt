@@ -21,7 +21,8 @@ loop-found-preserved g c =
     let n = l.found-index in
     let number : found.cpu.0 ≡ n = number_there cpus n found c.loop-found-test.true c.requires c.found-item.is in
     let more : take n cpus ++ found ∷ [] ≡ take (n + 1) cpus =
-    ap (λ (f : CpuPages). take n cpus ++ f ∷ []) c.found-item.is ∙ sym (take_more cpus n found c.loop-found-test.true) in
+    ap (λ (f : CpuPages). take n cpus ++ f ∷ []) c.found-item.is
+    ∙ sym (take_more cpus n found c.loop-found-test.true) in
     let put =
     put_same _ _
     (ap (λ (cpu : ℕ). gap_text printer.form (bounds_of printer cpu) c.args.size cpu (gap_seen found.gap)) number)

@@ -1,4 +1,5 @@
-use Rattle.std.proofs.Common.{◌≡◌, ◌∷◌, [], ◌++◌, ◌+◌, ◌∙◌, ap, sym, subst, List, ℕ, take, length, append_assoc, rules, arith}
+use Rattle.std.proofs.Common.{◌≡◌, ◌∷◌, [], ◌++◌, ◌+◌, ◌∙◌, ap, sym, subst, List, ℕ, take}
+use Rattle.std.proofs.Common.{length, append_assoc, rules, arith}
 use Rattle.std.proofs.Math.Seq.{take-length}
 use Rattle.std.specs.Prelude.{cond, count_by}
 use Rattle.std.proofs.lemmas.List.{take_more, map-append}
@@ -21,7 +22,8 @@ loop-said-preserved g c =
     let more : front ++ said ∷ [] ≡ take (l.said-index + 1) given =
     ap (λ (s : Said Content). front ++ s ∷ []) c.said-item.is
     ∙ sym (take_more given l.said-index said c.loop-said-test.true) in
-    let step : c.from-late.result ≡ cond (is_late said) 1 0 = search (rules, c.from-late.ensures, c.print_said.ensures.late) in
+    let step : c.from-late.result ≡ cond (is_late said) 1 0 =
+    search (rules, c.from-late.ensures, c.print_said.ensures.late) in
     let late =
     ap (λ (n : ℕ). l.late + n) step
     ∙ one_late front said l.late l.invariant.1 in (
@@ -30,7 +32,8 @@ loop-said-preserved g c =
       λ form detail selected before has.
           let was = l.invariant.2 form detail selected before has in
           let now = c.print_said.ensures.printed form detail selected (before ++ listed_all front) was.0 in
-          let lines : (before ++ listed_all front) ++ listed_of (line_of said) ∷ [] ≡ before ++ listed_all (front ++ said ∷ []) =
+          let lines : (before ++ listed_all front) ++ listed_of (line_of said) ∷ []
+          ≡ before ++ listed_all (front ++ said ∷ []) =
           append_assoc before (listed_all front) (listed_of (line_of said) ∷ [])
           ∙ ap (λ (back : List Line). before ++ back)
           (sym (map-append (λ (s : Said Content). listed_of (line_of s)) front (said ∷ []))) in

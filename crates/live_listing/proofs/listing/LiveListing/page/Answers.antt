@@ -1,5 +1,5 @@
 use Rattle.std.proofs.Common.{◌∙◌, ◌<◌, ap, subst, ℕ, map, length, slice_set, arith}
-use Rattle.std.proofs.lemmas.List.{map-set}
+use Rattle.std.proofs.lemmas.List.{length-map, map-set}
 use Rattle.live_listing.specs.Pages.{Reached, reached, reached_with, records_read, AreLinesOf}
 use Rattle.live_listing.specs.Live.{reached_of}
 use Rattle.live_listing.proofs.Cpus.{reached_there, number_there}
@@ -19,12 +19,16 @@ returns-in-Ok c =
       given.0,
       given.1,
       record {
+        there = rw length-map (omega (arith, below));
         value = read.0;
         is_page = read.1;
         lines = c.in_ok-lines.lines.items;
-        are_lines = subst (λ (n : ℕ). AreLinesOf n c.in_ok-lines.lines.items (records_read (reached_of (map reached cpus) k) read.0))
+        are_lines = subst
+            (λ (n : ℕ).
+            AreLinesOf n c.in_ok-lines.lines.items (records_read (reached_of (map reached cpus) k) read.0))
             number
-            (subst (λ (r : Reached). AreLinesOf before.cpu.0 c.in_ok-lines.lines.items (records_read r read.0)) there read.2);
+            (subst (λ (r : Reached). AreLinesOf before.cpu.0 c.in_ok-lines.lines.items (records_read r read.0)) there
+            read.2);
         follows = given.2;
         reached_is = map-set reached cpus k c.read_page.new.self
             ∙ ap (slice_set (map reached cpus) k) (read.3 ∙ ap (λ (r : Reached). reached_with r read.0) there);

@@ -6,7 +6,8 @@ use Rattle.page_numbers.specs.Parcels.{as_parcel, entries_of_parcel}
 use Rattle.live_listing.specs.Gaps.{gap_seen}
 use Rattle.trace_model.specs.declared.numbers.CpuId.{CpuId}
 use Rattle.live_listing.specs.Pages.{AddsLine, AreLinesOf, records_behind, lost_behind}
-use Rattle.live_listing.proofs.Behind.{values, more_values, without_numbers, line_more}
+use Rattle.page_lines.proofs.Values.{values, more_values, without_numbers}
+use Rattle.live_listing.proofs.Behind.{line_more}
 use Rattle.live_listing.proofs.pages.CpuPages.read_records.Goals as goal
 
 pub loop-entry-preserved : goal.loop-entry-preserved
@@ -31,8 +32,9 @@ loop-entry-preserved c =
       subst (λ (rs : List Record). gap_seen c.add_record.new.self.gap ≡ lost_behind lost rs) same more.1,
     )
 
-pub returns-clause-lines : goal.returns-clause-lines
-returns-clause-lines c =
+-- the records that were yielded are all of the parcel
+all_yielded : (c : goal.In-None) → values c.loop-entry.yielded ≡ (as_parcel c.args.parcel.now).records
+all_yielded c =
     let l = c.loop-entry in
     let parcel = as_parcel c.args.parcel.now in
     let all =
@@ -40,24 +42,17 @@ returns-clause-lines c =
     (YieldsList-from_first numbered_record (λ left. left) (entries_of_parcel parcel)
     (c.into_iter-entry-iterator.ensures.into_iter_gives ∙ c.records-entry-items.ensures.entries)) l.yielded _
     l.yielded_by _ _ c.in-None.is c.next.ensures.steps in
-    let same : values l.yielded ≡ parcel.records =
-    ap (map (λ (pair : ℕ × Record). pair.1)) all.0 ∙ without_numbers parcel.first parcel.records in
+    ap (map (λ (pair : ℕ × Record). pair.1)) all.0 ∙ without_numbers parcel.first parcel.records
+
+pub returns-clause-lines : goal.returns-clause-lines
+returns-clause-lines c =
     subst
     (λ (rs : List Record).
-    AreLinesOf c.args.self.now.cpu.0 l.lines.items (records_behind (gap_seen c.args.self.now.gap) rs))
-    same l.invariant.1
+    AreLinesOf c.args.self.now.cpu.0 c.loop-entry.lines.items (records_behind (gap_seen c.args.self.now.gap) rs))
+    (all_yielded c) c.loop-entry.invariant.1
 
 pub returns-clause-gap : goal.returns-clause-gap
 returns-clause-gap c =
-    let l = c.loop-entry in
-    let parcel = as_parcel c.args.parcel.now in
-    let all =
-    YieldsList-end
-    (YieldsList-from_first numbered_record (λ left. left) (entries_of_parcel parcel)
-    (c.into_iter-entry-iterator.ensures.into_iter_gives ∙ c.records-entry-items.ensures.entries)) l.yielded _
-    l.yielded_by _ _ c.in-None.is c.next.ensures.steps in
-    let same : values l.yielded ≡ parcel.records =
-    ap (map (λ (pair : ℕ × Record). pair.1)) all.0 ∙ without_numbers parcel.first parcel.records in
     subst
-    (λ (rs : List Record). gap_seen l.self.gap ≡ lost_behind (gap_seen c.args.self.now.gap) rs)
-    same l.invariant.2
+    (λ (rs : List Record). gap_seen c.loop-entry.self.gap ≡ lost_behind (gap_seen c.args.self.now.gap) rs)
+    (all_yielded c) c.loop-entry.invariant.2

@@ -1,7 +1,7 @@
 use Rattle.std.proofs.Common.{◌≡◌}
 use Rattle.live_listing.specs.Gaps.{gap_seen}
 use Rattle.live_listing.specs.Pages.{KeepsPages, AreLinesOf, records_behind, lost_behind}
-use Rattle.live_listing.proofs.Behind.{values}
+use Rattle.page_lines.proofs.Values.{values}
 use Rattle.live_listing.proofs.pages.CpuPages.read_records.Given as goal
 
 abbrev pub invariant-loop-entry : goal.invariant-loop-entry

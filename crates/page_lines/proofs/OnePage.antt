@@ -11,9 +11,9 @@ use Rattle.capture.specs.Pages.{Page, PageRead, intact, damaged, told, told_of, 
 use Rattle.capture.specs.Pages.{parcels_from, parcel_at, damages_from}
 use Rattle.capture.specs.Captures.{numbers_of, AreDamages}
 use Rattle.capture.specs.declared.pages.Damaged.{Damaged as DamagedPage}
-use Rattle.live_listing.specs.declared.gap.Loss.{Loss}
-use Rattle.live_listing.specs.declared.pages.Found.TheVariants.{Read, Damaged}
-use Rattle.live_listing.specs.Pages.{IsFound}
+use Rattle.page_lines.specs.declared.page.Loss.{Loss}
+use Rattle.page_lines.specs.declared.page.Found.TheVariants.{Read, Damaged}
+use Rattle.page_lines.specs.Found.{IsFound}
 
 -- what is unknown stays unknown
 told_missed : (missed : Missed) → told_of unknown missed ≡ missed

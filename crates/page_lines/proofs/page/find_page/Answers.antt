@@ -4,8 +4,8 @@ use Rattle.page_numbers.specs.Parcels.{as_parcels}
 use Rattle.capture.specs.Pages.{Page, damages_from}
 use Rattle.capture.specs.Captures.{IsCapture, AreDamages}
 use Rattle.capture.specs.declared.pages.Damaged.{Damaged}
-use Rattle.live_listing.proofs.OnePage.{told_same, found_read, found_damaged}
-use Rattle.live_listing.proofs.pages.find_page.Goals as goal
+use Rattle.page_lines.proofs.OnePage.{told_same, found_read, found_damaged}
+use Rattle.page_lines.proofs.page.find_page.Goals as goal
 
 pub returns-in-Some : goal.returns-in-Some
 returns-in-Some c =

@@ -1,0 +1,4 @@
+pub mod Found
+pub mod Tallies
+pub mod Sources
+pub mod Spread
