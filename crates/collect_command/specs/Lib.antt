@@ -5,6 +5,5 @@ pub mod Faults
 pub mod Gathered
 pub mod Listings
 pub mod Runs
-pub mod Paged
 pub mod streams
 pub mod recovery
