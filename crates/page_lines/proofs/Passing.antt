@@ -184,47 +184,7 @@ next_read size unread left old new bytes lines some fits consumed adds = record 
   lines_are = adds.lines_are;
 }
 
-pub none_next : (size : ℕ) (unread left : Option (List ℕ)) (tally : Tally) (lines : List ModelLine)
-    → 0 < size → Consumes unread left [] → lines ≡ [] → ReadsNext size unread left tally 0 tally lines
-none_next size unread left tally lines some consumed none = record {
-  bytes = [];
-  consumed = consumed;
-  long = refl;
-  pages = [];
-  plain = refl;
-  whole = λ same. absurd (omega (arith, same, some));
-  tally_is = λ before is. subst (IsTally tally) (sym (append-nil before)) is;
-  next_is = refl;
-  lines_are = none;
-}
-
 module _ {R : Type 0} (remaining : R → Option (List ℕ)) where
-  -- a page more was read, and none of its lines passed
-  pub passes_next : (old new : Reading R) (count : ℕ) → old.is_last ≡ false → old.left ≡ []
-      → new.size ≡ old.size → new.tally.cpu ≡ old.tally.cpu → (new.is_last ≡ false → old.size ≤ count)
-      → count ≤ old.size → new.taken ≡ old.taken + count
-      → ReadsNext old.size (remaining old.reader) (remaining new.reader) old.tally count new.tally new.left
-      → Passes remaining old [] new
-  passes_next old new count begins none size cpu goes fits taken next = record {
-    size_is = size;
-    cpu_is = cpu;
-    bytes = next.bytes;
-    consumed = next.consumed;
-    pages = next.pages;
-    plain = next.plain;
-    whole = λ more.
-        let full = goes more in
-        let one = next.whole (omega (arith, full, fits)) in
-        next.long ∙ (let same : count ≡ old.size * 1 = omega (arith, full, fits) in same)
-        ∙ ap (λ (n : ℕ). old.size * n) (sym one);
-    no_more = λ last. absurd (false≢true (sym begins ∙ last));
-    tally_is = next.tally_is;
-    next_is = next.next_is;
-    count_is = taken ∙ ap (λ (n : ℕ). old.taken + n) (sym next.long);
-    lines_are = ap (λ (lines : List ModelLine).
-        lines ++ lines_from old.tally.cpu.0 old.tally.next.0 next.pages) none ∙ sym next.lines_are;
-  }
-
   -- the line at hand is passed
   pub passes_line : (old new : Reading R) (line : ModelLine) → first_in old.left ≡ Some line
       → new.size ≡ old.size → new.tally ≡ old.tally → new.is_last ≡ old.is_last → new.taken ≡ old.taken

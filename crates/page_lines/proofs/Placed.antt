@@ -77,13 +77,6 @@ pub record HavePut (first : ℕ) (entries : List Entry) (places : List Place) (b
     pub lines : (cpu : ℕ) → map (line_at cpu bytes) places ≡ map (line_of cpu) (enumerate_from first (values entries))
     pub number_is : number ≡ first + length entries
 
-pub put_none : (first : ℕ) → HavePut first [] [] [] first
-put_none first = record {
-  within = All-nil (IsWithin 0);
-  lines = λ cpu. refl;
-  number_is = omega arith;
-}
-
 drop-append : (xs ys : List ℕ) → drop (length xs) (xs ++ ys) ≡ ys
 drop-append [] ys = refl
 drop-append (x ∷ xs) ys = drop-append xs ys
