@@ -12,10 +12,10 @@ use Rattle.std.proofs.lemmas.Option.{none-some}
 use Rattle.trace_model.proofs.collections.Elements.{some_is, get_in_front, get_behind}
 use Rattle.trace_model.specs.Record.{Record}
 use Rattle.trace_model.specs.Parcel.{Parcel, IsPairOf, IsMissingOf}
-use Rattle.trace_model.specs.Collection.{Has, Misses}
+use Rattle.trace_model.specs.Collection.{Has}
 use Rattle.trace_model.specs.Listing.{Line as ModelLine, IsListing}
 use Rattle.collector.specs.Listed.{AreRecordsOf}
-use Rattle.collector.specs.Runs.{AreRuns, AreMissingRuns}
+use Rattle.collector.specs.Runs.{AreMissingRuns}
 use Rattle.collector.proofs.RunLists.{same_runs}
 use Rattle.time_merge.specs.EachCpu.{lines_of_each}
 use Rattle.time_merge.specs.LineOrder.{comes_before, line_of}

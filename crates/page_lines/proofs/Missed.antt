@@ -1,8 +1,8 @@
 -- The numbers that pages miss, as runs.
 use Rattle.std.proofs.Common.{◌≡◌, ◌⊎◌, inl, inr, ⊎_elim, ℕ, zero, suc, ◌+◌, ◌-◌, ◌<◌, ◌≤◌, Bool, true, false}
-use Rattle.std.proofs.Common.{append-nil, List, [], ◌∷◌, ◌++◌, length, flat_map, Some, refl, sym, ap, subst, arith}
+use Rattle.std.proofs.Common.{append-nil, List, [], ◌∷◌, ◌++◌, length, Some, refl, sym, subst, arith}
 use Rattle.std.specs.Prelude.{nat_lt, if◌then◌else◌}
-use Rattle.std.specs.List.{slice_get, enumerate_from}
+use Rattle.std.specs.List.{slice_get}
 use Rattle.std.proofs.lemmas.Bool.{cases_lt}
 use Rattle.std.proofs.lemmas.Option.{none-some}
 use Rattle.trace_model.proofs.collections.Elements.{some_is}
@@ -10,9 +10,8 @@ use Rattle.trace_model.specs.Parcel.{Parcel, IsMissingOf}
 use Rattle.trace_model.specs.Collection.{Misses}
 use Rattle.collector.specs.Runs.{AreRuns}
 use Rattle.collector.proofs.RunLists.{same_runs, runs_push}
-use Rattle.page_numbers.specs.Parcels.{entries_of_parcel}
 use Rattle.capture.specs.Pages.{Page, intact, damaged, least_missed, behind, parcel_at, parcels_from}
-use Rattle.page_lines.specs.Tallies.{run_between, run_before, from_after, runs_from, entries_from}
+use Rattle.page_lines.specs.Tallies.{run_between, run_before, from_after, runs_from}
 
 -- ---- what parcels miss
 

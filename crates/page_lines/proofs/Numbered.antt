@@ -9,7 +9,7 @@ use Rattle.trace_model.specs.Record.{Record}
 use Rattle.trace_model.specs.Parcel.{Parcel, IsPairOf}
 use Rattle.trace_model.specs.Collection.{Has}
 use Rattle.collector.specs.Listed.{AreRecordsOf}
-use Rattle.capture.specs.Pages.{Page, PageRead, intact, damaged, least_missed, behind, parcel_at, parcels_from}
+use Rattle.capture.specs.Pages.{Page, intact, damaged, least_missed, behind, parcel_at, parcels_from}
 use Rattle.page_lines.specs.Tallies.{entries_from}
 
 -- ---- rising numbers
@@ -26,9 +26,11 @@ lower low high (a ∷ list) up (first, others) = (omega (arith, up, first), othe
 rises_before : (low first : ℕ) (records : List Record) (rest : List (ℕ × Record)) → low ≤ first
     → RisesFrom (first + length records) rest → RisesFrom low (enumerate_from first records ++ rest)
 rises_before low first [] rest up rises = lower low (first + 0) rest (omega (arith, up)) rises
-rises_before low first (r ∷ records) rest up rises =
-    (up, rises_before (suc first) (first + 1) records rest (omega arith)
-    (lower (first + 1 + length records) (first + suc (length records)) rest (omega arith) rises))
+rises_before low first (r ∷ records) rest up rises = (
+  up,
+  rises_before (suc first) (first + 1) records rest (omega arith)
+      (lower (first + 1 + length records) (first + suc (length records)) rest (omega arith) rises),
+)
 
 pages_rise : (next : ℕ) (pages : List Page) → RisesFrom next (entries_from next pages)
 pages_rise next [] = tt
@@ -56,9 +58,10 @@ numbered_at : (first : ℕ) (records : List Record) (k : ℕ) (a : ℕ × Record
     → (a.0 ≡ first + k) × (slice_get records k ≡ Some a.1)
 numbered_at first [] k a at = absurd (none-some a at)
 numbered_at first (r ∷ records) zero a at =
-    let same = some_is (first, r) a at in
-    (sym (ap (λ (x : ℕ × Record). x.0) same) ∙ (let e : first ≡ first + 0 = omega arith in e),
-    ap (λ (x : ℕ × Record). Some x.1) same)
+    let same = some_is (first, r) a at in (
+      sym (ap (λ (x : ℕ × Record). x.0) same) ∙ (let e : first ≡ first + 0 = omega arith in e),
+      ap (λ (x : ℕ × Record). Some x.1) same,
+    )
 numbered_at first (r ∷ records) (suc k) a at =
     let more = numbered_at (first + 1) records k a at in
     (more.0 ∙ (let e : first + 1 + k ≡ first + suc k = omega arith in e), more.1)
@@ -118,8 +121,8 @@ all_of_parcels cpu fill next (intact read ∷ pages) n r h =
     (λ (is : IsPairOf (parcel_at cpu fill next read) cpu n r). (
       is.index,
       get_in_front own rest is.index (n, r)
-      (at_number first read.records is.index r is.record_is
-      ∙ ap (λ (m : ℕ). Some (m, r)) (sym is.number_is)),
+          (at_number first read.records is.index r is.record_is
+          ∙ ap (λ (m : ℕ). Some (m, r)) (sym is.number_is)),
     ))
     (λ (has : Has (parcels_from cpu (suc fill) (behind next (intact read)) pages) cpu n r).
     let found = all_of_parcels cpu (suc fill) (behind next (intact read)) pages n r has in

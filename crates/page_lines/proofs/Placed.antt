@@ -4,7 +4,7 @@ use Rattle.std.proofs.Common.{◌-◌, take, Some, All, refl, sym, ap, ap₂, �
 use Rattle.std.proofs.Common.{length-drop}
 use Rattle.std.specs.List.{enumerate_from}
 use Rattle.std.proofs.lemmas.List.{length-map, map-append, take_all, take-append-le, drop-append-le}
-use Rattle.std.proofs.lemmas.List.Elements.{All-nil, All-head, All-tail, All-push, All-weaker}
+use Rattle.std.proofs.lemmas.List.Elements.{All-head, All-tail, All-push, All-weaker}
 use Rattle.trace_model.specs.declared.numbers.Moment.{Moment}
 use Rattle.trace_model.specs.Record.{Record}
 use Rattle.trace_model.specs.Listing.{Line as ModelLine}

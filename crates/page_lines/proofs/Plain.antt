@@ -1,9 +1,9 @@
 -- Plain pages are raw pages of their size, none of which shows smaller ones.
-use Rattle.std.proofs.Common.{◌≡◌, ◌∙◌, ⊎_elim, ℕ, zero, suc, ◌<◌, ◌≤◌, false, List, [], ◌∷◌, ◌++◌, length, take, drop}
-use Rattle.std.proofs.Common.{None, Option, refl, sym, ap, ap₂, subst, arith, length-drop, length-append, take-append-drop}
-use Rattle.std.proofs.lemmas.List.{drop_all, nil_from_length, length-take}
+use Rattle.std.proofs.Common.{◌≡◌, ◌∙◌, ℕ, zero, suc, ◌<◌, ◌≤◌, false, List, [], ◌∷◌, length, take, drop}
+use Rattle.std.proofs.Common.{None, sym, ap, ap₂, arith, length-drop, take-append-drop}
+use Rattle.std.proofs.lemmas.List.{nil_from_length, length-take}
 use Rattle.capture.specs.Pages.{Page, AreCut}
-use Rattle.capture.specs.Smaller.{smaller_in, first_of_both, smaller_within, smaller_pages}
+use Rattle.capture.specs.Smaller.{first_of_both, smaller_within, smaller_pages}
 use Rattle.capture.specs.files.Files.{is_dat}
 use Rattle.capture.proofs.SmallerPages.{within-nil}
 use Rattle.capture.proofs.Prefixes.{raw-more}
