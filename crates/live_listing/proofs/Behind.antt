@@ -1,11 +1,8 @@
 -- The records of a page, one after the other, each with what was lost before it.
-use Rattle.std.proofs.Common.{◌≡◌, ℕ, suc, ◌+◌, List, [], ◌∷◌, ◌++◌, map, refl, sym, ap, ap₂, ◌∙◌}
-use Rattle.std.specs.List.{enumerate_from}
+use Rattle.std.proofs.Common.{◌≡◌, ℕ, suc, List, [], ◌∷◌, ◌++◌, map, refl, sym, ap, ap₂, ◌∙◌}
 use Rattle.std.proofs.lemmas.List.{map-append}
 use Rattle.trace_model.specs.Record.{Record}
 use Rattle.line_follower.specs.declared.lines.Line.{Line}
-use Rattle.page_borrow.specs.declared.entries.Entry.{Entry}
-use Rattle.page_borrow.specs.Entries.{numbered_record}
 use Rattle.live_listing.specs.Gaps.{Lost, no_gap}
 use Rattle.live_listing.specs.Pages.{ReadRecord, records_behind, lost_behind, AreLinesOf, AddsLine}
 use Rattle.live_listing.specs.declared.pages.Content.{Content}

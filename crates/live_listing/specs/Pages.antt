@@ -1,8 +1,7 @@
 -- The pages of a CPU, read one after the other: the lines of their records, each with what was lost before it.
-use Rattle.std.specs.Prelude.{◌≡◌, ℕ, suc, Bool, true, false, if◌then◌else◌, List, [], ◌∷◌, ◌++◌, map, flat_map}
+use Rattle.std.specs.Prelude.{◌≡◌, ℕ, suc, Bool, true, false, List, [], ◌∷◌, ◌++◌, map, flat_map}
 use Rattle.trace_model.specs.Record.{Record}
-use Rattle.page_numbers.specs.Parcels.{as_parcel}
-use Rattle.capture.specs.Pages.{Page, intact, damaged, least_missed, unknown_at}
+use Rattle.capture.specs.Pages.{Page, intact, damaged}
 use Rattle.page_numbers.specs.Faults.{image_fault}
 use Rattle.line_follower.specs.declared.lines.Line.{Line}
 use Rattle.live_listing.specs.declared.pages.Content.{Content}
@@ -11,8 +10,7 @@ use Rattle.capture.specs.declared.pages.Damaged.{Damaged as DamagedPage}
 use Rattle.live_listing.specs.Gaps.{Lost, gap_seen, no_gap, with_loss, with_page}
 
 -- How far a CPU is read: what was lost since its last record, how many pages are read, and whether each could be. The
--- number before which the
--- loss ends is that of the next record, if the next page states no loss.
+-- number before which the loss ends is that of the next record, if the next page states no loss.
 pub record Reached : Type 0 where
   pub lost : Lost
   pub pages : ℕ
