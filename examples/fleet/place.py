@@ -79,10 +79,10 @@ class Server(NatsServer):
 
 
 class Place:
-    """The folder of a scene, and its programs."""
+    """The folder of a scene, its programs, what it chooses at random, and how many seconds it may have faults."""
 
-    def __init__(self, folder, programs):
-        self.folder, self.programs, self.rng = folder, programs, random.Random(1)
+    def __init__(self, folder, programs, seed, seconds):
+        self.folder, self.programs, self.rng, self.seconds = folder, programs, random.Random(seed), seconds
 
     def server(self, name, *lines):
         """A node in a folder of its own, which has the bus's stream."""

@@ -13,9 +13,9 @@ import time
 from pathlib import Path
 
 import said_scenes
-from children import HOST, LONG, Child, Failure, MockBrokers, check, until
+from children import HOST, LONG, MockBrokers, check, until
 from cluster import NOWHERE, files_of
-from place import HERE, TOP, Place, Server, datas_in, holds_soon, log_bytes, made, pieces_in, records_in
+from place import HERE, TOP, Server, datas_in, holds_soon, log_bytes, made, pieces_in, records_in
 from oracles import fleet as pieces_of
 from oracles.collect import page_reading
 from oracles.image import Fault
@@ -521,16 +521,3 @@ def kernel_killed(place):
 COLLECTING = (marks, versions, quarantine_full, quarantine_full_kafka, damage, rotation, time_of_log)
 PUBLISHING = (regions, regions_replaced, recorder, kernel, kernel_killed)
 SCENES = {scene.__name__: scene for scene in (*COLLECTING, *PUBLISHING, *said_scenes.SAID)}
-
-
-def play(folder, programs, names):
-    for name in names:
-        place = folder / f"scene_{name}"
-        place.mkdir()
-        begun = time.monotonic()
-        try:
-            SCENES[name](Place(place, programs))
-        except Failure as failure:
-            raise Failure(f"{name}: {failure}") from failure
-        Child.kill_all()
-        print(f"fleet: {name}: {SCENES[name].__doc__.split(chr(10))[0]} ({time.monotonic() - begun:.0f} s)", flush=True)
