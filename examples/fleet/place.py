@@ -94,9 +94,11 @@ class Place:
 
     def child(self, name, program, *words):
         """Starts a program, which is as patient as the test is."""
-        patient = {"nats_publisher": ["--patience", LONG], "nats_collector": ["--retry", 1000 * LONG]}
+        patient = {"nats_publisher": ("--patience", LONG), "nats_collector": ("--retry", 1000 * LONG)}
+        word, value = patient.get(program.replace("later", "nats"), (None, None))
+        more = [word, value] if word and word not in words else []
         child = Child(name, self.folder)
-        child.start(self.programs[program], *patient.get(program.replace("later", "nats"), []), *words)
+        child.start(self.programs[program], *more, *words)
         return child
 
     def run(self, name, program, *words, status=0):

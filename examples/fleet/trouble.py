@@ -1,6 +1,6 @@
-"""Long scenes of `test`: hosts, collectors and their bus are killed, frozen and parted at random. At the end all is whole
-again, the hosts come to their end, one more collector gets all that the bus has, and `compare` reads the hosts' ledgers
-and the collectors' logs.
+"""Long scenes of `test`: hosts, collectors and their bus are killed, frozen and parted at random. At the end all is
+whole again, the hosts come to their end, one more collector gets all that the bus has, and `compare` reads the hosts'
+ledgers and the collectors' logs.
 """
 
 import asyncio
@@ -9,7 +9,7 @@ import signal
 import subprocess
 from collections import Counter
 
-from children import LONG, Child, Failure, comes
+from children import ENDS_WITH_US, LONG, Child, Failure, comes
 from cluster import Kafka, Nats, files_of, size_of
 from place import HERE
 
@@ -173,7 +173,7 @@ class Fleet:
     def compared(self, copies, *more, **ends):
         """Whether all have the same, by the program that reads ledgers and logs."""
         shares = [share.log for share in self.shares]
-        command = [HERE / "compare", self.ledgers, "--copies", *copies, "--shares", *shares]
+        command = [*ENDS_WITH_US, HERE / "compare", self.ledgers, "--copies", *copies, "--shares", *shares]
         command += ["--bus", self.late.log, *more]
         return subprocess.run(command, check=False, timeout=LONG, **ends).returncode == 0
 
@@ -183,7 +183,8 @@ class Fleet:
             listing = self.folder / "listing"
             with open(listing, "wb") as text:
                 files = [file for share in self.shares for file in share.files()]
-                done = subprocess.run([tracering, "collect", *files], stdout=text, check=False, timeout=LONG)
+                command = [*ENDS_WITH_US, tracering, "collect", *files]
+                done = subprocess.run(command, stdout=text, check=False, timeout=LONG)
             if done.returncode:
                 raise Failure(f"{tracering} collect ends with status {done.returncode}")
             more = [*more, "--listing", listing]
