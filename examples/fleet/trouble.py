@@ -86,7 +86,7 @@ class Fleet:
         """Two collectors get half of a running fleet's parcels each, one is killed, and then all is restarted."""
         await self.bus.whole()
         begun = await self.grown([0, 0], 1)
-        got = await self.grown(begun, 500_000)
+        got = await self.grown(begun, 250_000)
         said = f"two shares get {got[0]:,} and {got[1]:,} bytes, then one is killed, then all is restarted"
         print(f"fleet: {said}", flush=True)
         self.shares[1].child.kill()
