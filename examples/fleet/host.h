@@ -64,7 +64,7 @@ static inline void record(uint32_t cpu, int events)
     must(tracering_finish(&r->writer), "finish");
 }
 
-// Writes this many events of each CPU a second, or as many as it can, and waits for nobody. (If it gets no processor for
+// Writes this many events of each CPU a second, or as many as it can, and waits for nobody. (If it has no processor for
 // a while, it writes then what was due.)
 static inline void *write_events(void *given)
 {
