@@ -14,6 +14,8 @@ import time
 HOST = "127.0.0.1"
 # How many seconds something may take, whatever else the machine does.
 LONG = 600
+# What a command begins with that the kernel kills when the process that started it has ended.
+ENDS_WITH_US = ["setpriv", "--pdeathsig", "KILL"]
 
 
 class Failure(Exception):
@@ -64,7 +66,7 @@ class Child:
     def start(self, *command, **ends):
         with open(self.output, "ab") as output:
             ends = {"stdin": subprocess.DEVNULL, "stdout": output, "stderr": output} | ends
-            self.process = subprocess.Popen(["setpriv", "--pdeathsig", "KILL", *map(str, command)], **ends)
+            self.process = subprocess.Popen([*ENDS_WITH_US, *map(str, command)], **ends)
 
     def said(self):
         return self.output.read_text(errors="replace") if self.output.exists() else ""

@@ -8,12 +8,12 @@
 #include "state.h"
 
 #define HOST_WORDS \
-    {"cpus", NUMBER, "4", "--rings: how many rings", NULL, 0}, \
-    {"pages", NUMBER, "64", "--rings: how many pages each has", NULL, 0}, \
-    {"size", NUMBER, "4080", "--rings: bytes of data of a page", NULL, 0}, \
-    {"rate", NUMBER, "1000", "--rings: events a second of each ring; 0: as many as it can", NULL, 0}, \
-    {"seconds", NUMBER, "10", "--rings: how long it writes", NULL, 0}, \
-    {"ledger", TEXT, NULL, "--rings: file of what it does", NULL, 0}
+    NUMBER_WORD("cpus", "4", 1, RINGS, "--rings: how many rings"), \
+    NUMBER_WORD("pages", "64", 2, 1024, "--rings: how many pages each has"), \
+    NUMBER_WORD("size", "4080", 32, 65520, "--rings: bytes of data of a page"), \
+    NUMBER_WORD("rate", "1000", 0, A_BILLION, "--rings: events a second of each ring; 0: as many as it can"), \
+    NUMBER_WORD("seconds", "10", 0, A_BILLION, "--rings: how long it writes"), \
+    TEXT_WORD("ledger", NULL, "--rings: file of what it does")
 
 enum { RINGS = 64 };
 
@@ -64,7 +64,7 @@ static inline void record(uint32_t cpu, int events)
     must(tracering_finish(&r->writer), "finish");
 }
 
-// Writes this many events of each CPU a second, or as many as it can, and waits for nobody. (If it gets no processor for
+// Writes this many events of each CPU a second, or as many as it can, and waits for nobody. (If it has no processor for
 // a while, it writes then what was due.)
 static inline void *write_events(void *given)
 {
@@ -159,8 +159,6 @@ static inline struct source host_source(void)
     host.cpus = (uint32_t)number_of("cpus");
     host.rate = number_of("rate");
     host.seconds = (double)number_of("seconds");
-    if (host.cpus > RINGS)
-        refuse_words("--cpus", "there are too many");
     if (ledger && (!(host.ledger = fopen(ledger, "w")) || setvbuf(host.ledger, NULL, _IOLBF, 1 << 16)))
         die(ledger, strerror(errno));
     NOTE("stream %016" PRIx64 "\n", host.stream);

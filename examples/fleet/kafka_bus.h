@@ -9,10 +9,10 @@
 
 #define BUS "Kafka"
 #define BUS_WORDS \
-    {"servers", TEXT, "127.0.0.1:9092", "HOST:PORT,..", NULL, 0}, \
-    {"topic", TEXT, "trace", "the topic", NULL, 0}, \
-    {"property", TEXT, NULL, "K=V, a property of librdkafka; it may be given many times", NULL, 0}, \
-    {"properties", TEXT, NULL, "file of such properties, one a line", NULL, 0}
+    TEXT_WORD("servers", "127.0.0.1:9092", "HOST:PORT,.."), \
+    TEXT_WORD("topic", "trace", "the topic"), \
+    MANY_WORD("property", "K=V, a property of librdkafka; it may be given many times"), \
+    TEXT_WORD("properties", NULL, "file of such properties, one a line")
 
 static inline void configure(rd_kafka_conf_t *conf, const char *name, const char *value)
 {

@@ -6,7 +6,7 @@
 #include "kafka_bus.h"
 
 #define RECEIVER_WORDS \
-    {"session", NUMBER, "6000", "milliseconds after which a killed collector's partitions go to others", NULL, 0}
+    NUMBER_WORD("session", "6000", 1, 3600000, "milliseconds after which a killed collector's partitions go to others")
 
 enum { BATCH = 256 };
 

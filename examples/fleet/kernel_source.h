@@ -14,7 +14,8 @@
 #include <dirent.h>
 
 #define KERNEL_WORDS \
-    {"page", NUMBER, NULL, "--kernel: bytes of a page of the ring buffer (buffer_subbuf_size_kb, or 4096)", NULL, 0}
+    NUMBER_WORD("page", NULL, 64, 65536, \
+        "--kernel: bytes of a page of the ring buffer (buffer_subbuf_size_kb, or 4096)")
 
 enum { MOST_CPUS = 256, IMAGE_HEAD = 16, NUMBERS = 32 };
 #define KERNEL_MISSED (UINT64_C(1) << 31)

@@ -8,9 +8,9 @@
 #include "quarantine.h"
 
 #define LOG_WORDS \
-    {"log", TEXT, NULL, "folder of the log, which is made if it isn't there", NULL, 0}, \
-    {"rotate-bytes", NUMBER, "268435456", "bytes after which the next file of the log is begun", NULL, 0}, \
-    {"rotate-seconds", NUMBER, "3600", "seconds after which it is, if the file has a piece", NULL, 0}, \
+    TEXT_WORD("log", NULL, "folder of the log, which is made if it isn't there"), \
+    NUMBER_WORD("rotate-bytes", "268435456", 1, UINT64_MAX, "bytes after which the next file of the log is begun"), \
+    NUMBER_WORD("rotate-seconds", "3600", 1, A_BILLION, "seconds after which it is, if the file has a piece"), \
     QUARANTINE_WORDS
 
 enum log_metric {

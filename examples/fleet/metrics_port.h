@@ -54,8 +54,6 @@ static inline void open_metrics_port(struct metric *shown)
     if (!is_given("metrics-port"))
         return;
     uint64_t port = number_of("metrics-port");
-    if (port > UINT16_MAX)
-        refuse_words("--metrics-port", "it is no port");
     struct sockaddr_in at = {.sin_family = AF_INET, .sin_port = htons((uint16_t)port)};
     at.sin_addr.s_addr = htonl(INADDR_LOOPBACK);
     struct MHD_Daemon *server = MHD_start_daemon(MHD_USE_INTERNAL_POLLING_THREAD, (uint16_t)port, NULL, NULL,

@@ -8,22 +8,22 @@
 
 #define BUS "NATS"
 #define BUS_WORDS \
-    {"servers", TEXT, "nats://127.0.0.1:4222", "nats://HOST:PORT,.. or tls://HOST:PORT,..", NULL, 0}, \
-    {"stream", TEXT, "TRACE", "JetStream's stream", NULL, 0}, \
-    {"subject", TEXT, "trace", "what its subjects begin with: SUBJECT.STREAM-ID.CPU", NULL, 0}, \
-    {"copies", NUMBER, "1", "nodes that keep a copy, if the stream is made here", NULL, 0}, \
-    {"keep-seconds", NUMBER, "3600", "how long it keeps messages, if it is made here", NULL, 0}, \
-    {"user", TEXT, NULL, "a user's name, with --password-file", NULL, 0}, \
-    {"password-file", TEXT, NULL, "file of the user's password", NULL, 0}, \
-    {"token-file", TEXT, NULL, "file of a token", NULL, 0}, \
-    {"creds", TEXT, NULL, "file of credentials (a JWT and its seed)", NULL, 0}, \
-    {"nkey", TEXT, NULL, "a public nkey, with --seed-file", NULL, 0}, \
-    {"seed-file", TEXT, NULL, "file of the nkey's seed", NULL, 0}, \
-    {"tls", FLAG, NULL, "TLS, with the system's authorities unless --ca names others", NULL, 0}, \
-    {"ca", TEXT, NULL, "file of the authorities that servers' certificates are checked by", NULL, 0}, \
-    {"cert", TEXT, NULL, "file of this client's certificate, with --key", NULL, 0}, \
-    {"key", TEXT, NULL, "file of its key", NULL, 0}, \
-    {"host-name", TEXT, NULL, "the name in the servers' certificates, if it isn't that of --servers", NULL, 0}
+    TEXT_WORD("servers", "nats://127.0.0.1:4222", "nats://HOST:PORT,.. or tls://HOST:PORT,.."), \
+    TEXT_WORD("stream", "TRACE", "JetStream's stream"), \
+    TEXT_WORD("subject", "trace", "what its subjects begin with: SUBJECT.STREAM-ID.CPU"), \
+    NUMBER_WORD("copies", "1", 1, 5, "nodes that keep a copy, if the stream is made here"), \
+    NUMBER_WORD("keep-seconds", "3600", 0, A_BILLION, "how long it keeps messages, if it is made here; 0: for ever"), \
+    TEXT_WORD("user", NULL, "a user's name, with --password-file"), \
+    TEXT_WORD("password-file", NULL, "file of the user's password"), \
+    TEXT_WORD("token-file", NULL, "file of a token"), \
+    TEXT_WORD("creds", NULL, "file of credentials (a JWT and its seed)"), \
+    TEXT_WORD("nkey", NULL, "a public nkey, with --seed-file"), \
+    TEXT_WORD("seed-file", NULL, "file of the nkey's seed"), \
+    FLAG_WORD("tls", "TLS, with the system's authorities unless --ca names others"), \
+    TEXT_WORD("ca", NULL, "file of the authorities that servers' certificates are checked by"), \
+    TEXT_WORD("cert", NULL, "file of this client's certificate, with --key"), \
+    TEXT_WORD("key", NULL, "file of its key"), \
+    TEXT_WORD("host-name", NULL, "the name in the servers' certificates, if it isn't that of --servers")
 
 static inline void must_nats(natsStatus status, const char *call)
 {

@@ -79,10 +79,10 @@ class Server(NatsServer):
 
 
 class Place:
-    """The folder of a scene, and its programs."""
+    """The folder of a scene, its programs, what it chooses at random, and how many seconds it may have faults."""
 
-    def __init__(self, folder, programs):
-        self.folder, self.programs, self.rng = folder, programs, random.Random(1)
+    def __init__(self, folder, programs, seed, seconds):
+        self.folder, self.programs, self.rng, self.seconds = folder, programs, random.Random(seed), seconds
 
     def server(self, name, *lines):
         """A node in a folder of its own, which has the bus's stream."""
@@ -94,9 +94,11 @@ class Place:
 
     def child(self, name, program, *words):
         """Starts a program, which is as patient as the test is."""
-        patient = {"nats_publisher": ["--patience", LONG], "nats_collector": ["--retry", 1000 * LONG]}
+        patient = {"nats_publisher": ("--patience", LONG), "nats_collector": ("--retry", 1000 * LONG)}
+        word, value = patient.get(program.replace("later", "nats"), (None, None))
+        more = [word, value] if word and word not in words else []
         child = Child(name, self.folder)
-        child.start(self.programs[program], *patient.get(program.replace("later", "nats"), []), *words)
+        child.start(self.programs[program], *more, *words)
         return child
 
     def run(self, name, program, *words, status=0):

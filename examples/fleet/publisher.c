@@ -19,13 +19,13 @@
 #include "region_source.h"
 
 static struct word words[] = {
-    {"region", TEXT, NULL, "a region's or a recorder's file; it may be given many times", NULL, 0},
-    {"kernel", TEXT, NULL, "a folder of tracefs, with per_cpu/cpuN/trace_pipe_raw", NULL, 0},
-    {"rings", FLAG, NULL, "rings of this process", NULL, 0},
-    {"window", NUMBER, "256", "pieces that are on the way at most", NULL, 0},
-    {"patience", NUMBER, "60", "seconds to wait at the end", NULL, 0},
+    MANY_WORD("region", "a region's or a recorder's file; it may be given many times"),
+    TEXT_WORD("kernel", NULL, "a folder of tracefs, with per_cpu/cpuN/trace_pipe_raw"),
+    FLAG_WORD("rings", "rings of this process"),
+    NUMBER_WORD("window", "256", 1, 1000000, "pieces that are on the way at most"),
+    NUMBER_WORD("patience", "60", 0, A_BILLION, "seconds to wait at the end"),
     STREAM_WORDS, STATE_WORDS, REGION_WORDS, KERNEL_WORDS, HOST_WORDS, BUS_WORDS, REPORT_WORDS,
-    {NULL, TEXT, NULL, NULL, NULL, 0},
+    LAST_WORD,
 };
 
 static struct source chosen_source(void)

@@ -10,7 +10,8 @@
 #define QUARANTINE "quarantine"
 #define KEPT_LETTERS "TRMESSAG"
 #define QUARANTINE_WORDS \
-    {"quarantine-bytes", NUMBER, "268435456", "bytes of the quarantine; what has no room isn't acknowledged", NULL, 0}
+    NUMBER_WORD("quarantine-bytes", "268435456", 0, UINT64_MAX, \
+        "bytes of the quarantine; what has no room isn't acknowledged")
 
 struct kept_message {
     char letters[8];

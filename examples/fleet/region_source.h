@@ -14,8 +14,8 @@
 #include "tracering_region.h"
 
 #define REGION_WORDS \
-    {"every", NUMBER, "200", "--region: milliseconds after which an open page is sent", NULL, 0}, \
-    {"once", FLAG, NULL, "--region: sends what is there now, and ends", NULL, 0}
+    NUMBER_WORD("every", "200", 1, A_BILLION, "--region: milliseconds after which an open page is sent"), \
+    FLAG_WORD("once", "--region: sends what is there now, and ends")
 
 enum { LOOK_EVERY = 20 }; // milliseconds
 enum { MOST_SLOTS = 1025 };

@@ -12,9 +12,10 @@ struct metric {
 };
 
 #define REPORT_WORDS \
-    {"metrics", TEXT, NULL, "file for the counts in Prometheus' text format", NULL, 0}, \
-    {"metrics-every", NUMBER, "5", "seconds from one to the next", NULL, 0}, \
-    {"metrics-port", NUMBER, NULL, "port of 127.0.0.1 that has them too, at /metrics; 0: any, which is said", NULL, 0}
+    TEXT_WORD("metrics", NULL, "file for the counts in Prometheus' text format"), \
+    NUMBER_WORD("metrics-every", "5", 1, A_BILLION, "seconds from one to the next"), \
+    NUMBER_WORD("metrics-port", NULL, 0, UINT16_MAX, \
+        "port of 127.0.0.1 that has them too, at /metrics; 0: any, which is said")
 
 // ---- Faults: a text is said at once, and then once a minute as long as it comes again.
 

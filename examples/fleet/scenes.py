@@ -8,17 +8,19 @@ import re
 import signal
 import struct
 import subprocess
-import sys
 import time
+from functools import partial
+from itertools import accumulate
 from pathlib import Path
 
 import said_scenes
-from children import HOST, LONG, Child, Failure, MockBrokers, check, until
+from children import ENDS_WITH_US, HOST, LONG, MockBrokers, check, until
 from cluster import NOWHERE, files_of
-from place import HERE, TOP, Place, Server, datas_in, holds_soon, log_bytes, made, pieces_in, records_in
+from place import HERE, TOP, Server, datas_in, holds_soon, log_bytes, made, pieces_in, records_in
 from oracles import fleet as pieces_of
 from oracles.collect import page_reading
 from oracles.image import Fault
+from oracles.region import NoRegion, Region
 
 MAGIC, VERSION = pieces_of.MAGIC, pieces_of.VERSION
 
@@ -142,60 +144,97 @@ def quarantine_full_kafka(place):
 # ---- Logs
 
 
-def opened(place, log, *words):
-    """Has a collector open a log, and stop. Answers what it said."""
+def opening(place, log, *words):
+    """Has a collector open a log."""
     name, servers = f"opener{place.rng.random()}", ["--servers", f"nats://{HOST}:{NOWHERE}"]
-    child = place.child(name, "nats_collector", *servers, "--log", log, "--copy", "a", *words)
+    return place.child(name, "nats_collector", *servers, "--log", log, "--copy", "a", *words)
+
+
+def said_of(place, child):
+    """What a collector says that has opened a log. It then has to stop."""
     until(lambda: "No server" in child.said(), "the log is open", child)
     place.stopped(child)
     return child.said()
 
 
+def opened(place, log, *words):
+    return said_of(place, opening(place, log, *words))
+
+
 def damage(place):
     """A flipped bit costs the piece that it is in, whose bytes are kept; a tail that a crash left is cut off."""
-    server = Server(place.folder)
-    whole = place.stream(server)
+    whole = place.stream(Server(place.folder))
     pieces = [piece.data for piece in pieces_in(whole)]
-    starts = [sum(map(len, pieces[:k])) for k in range(len(pieces))]
-    last = starts[-1]
-    while struct.unpack_from("<I", whole, last + 12)[0]:  # (the last parcel; behind it are ends)
-        last = starts[starts.index(last) - 1]
-    cut_at_last = whole[: last + len(pieces[starts.index(last)])]
+    cases = [*flips(place, whole, pieces), *tails(place, whole, pieces), *cuts(whole, pieces)]
+    cases.append(("marked", whole + pieces_of.mark_bytes("forgotten", 5, 1, 99), is_mark_named))
+    openers = []
+    for name, data, look in cases:
+        log = made(place, name)
+        (log / "000001.log").write_bytes(data)
+        is_damage_selected(place, log, name.startswith(("flip", "tail")))
+        openers.append((opening(place, log), log, look))
+    for opener, log, look in openers:
+        look(log, said_of(place, opener))
+
+
+def is_damage_selected(place, log, is_damaged):
+    """What is damaged in a log that no collector has opened yet is named by log_select, too."""
+    command = [place.programs["log_select"], "--log", log]
+    done = subprocess.run(command, capture_output=True, text=True, errors="replace", check=False)
+    named = "000001.log, bytes " in done.stderr
+    check((done.returncode, named) == ((3, True) if is_damaged else (0, False)), f"{log.name}: {done.stderr}")
+
+
+def flips(place, whole, pieces):
+    """Logs with a flipped bit: their names, their bytes, and what has to be said and left of each."""
+    starts = [*accumulate(map(len, pieces), initial=0)][:-1]
+    # (The last parcel; behind it are ends.)
+    last = max(k for k, piece in enumerate(pieces) if struct.unpack_from("<I", piece, 12)[0] == 0)
+    cut_at_last = whole[: starts[last] + len(pieces[last])]
     bits = [(8 * (starts[3] + 16) + bit, whole) for bit in (0, 3, 9, 16, 40)]
-    bits += [(8 * (last + 16) + bit, cut_at_last) for bit in range(0, 24, 2)]
+    bits += [(8 * (starts[last] + 16) + bit, cut_at_last) for bit in range(0, 24, 2)]
     bits += [(place.rng.randrange(8 * len(whole)), whole) for _ in range(12)]
     for number, (bit, data) in enumerate(bits):
-        log = place.folder / f"log{number}"
-        log.mkdir()
         flipped = bytearray(data)
         flipped[bit // 8] ^= 1 << bit % 8
-        (log / "000001.log").write_bytes(flipped)
-        said = opened(place, log)
-        hit = next(k for k in reversed(range(len(pieces))) if starts[k] <= bit // 8)
-        left = [piece for start, piece in zip(starts, pieces) if start < len(data) and piece != pieces[hit]]
-        check(log_bytes(log) == b"".join(left), f"bit {bit}: other pieces are lost")
-        check((log / "000001.damaged").read_bytes() == flipped, f"bit {bit}: the damaged bytes aren't kept")
-        named = re.search(rf"000001.log, bytes {starts[hit]} to \d+: ", said)
-        check(named, f"bit {bit}: the damage isn't named: {said}")
-        check((log / "000002.log").exists(), f"bit {bit}: the log doesn't go on in a new file")
+        hit = max(k for k, start in enumerate(starts) if start <= bit // 8)
+        left = [piece for k, piece in enumerate(pieces) if starts[k] < len(data) and k != hit]
+        yield f"flip{number}", flipped, partial(is_damage_kept, bit, flipped, starts[hit], b"".join(left))
+
+
+def is_damage_kept(bit, flipped, start, left, log, said):
+    check(log_bytes(log) == left, f"bit {bit}: other pieces are lost")
+    check((log / "000001.damaged").read_bytes() == flipped, f"bit {bit}: the damaged bytes aren't kept")
+    named = re.search(rf"000001.log, bytes {start} to \d+: ", said)
+    check(named, f"bit {bit}: the damage isn't named: {said}")
+    check((log / "000002.log").exists(), f"bit {bit}: the log doesn't go on in a new file")
+
+
+def tails(place, whole, pieces):
+    """Logs with bytes at their ends that no crash leaves."""
     for number, tail in enumerate([bytes(5000), place.rng.randbytes(300), pieces[0][:50] + bytes(100)]):
-        log = made(place, f"tail{number}")
-        (log / "000001.log").write_bytes(whole + tail)
-        said = opened(place, log)
-        check(log_bytes(log) == whole, f"tail {number} costs pieces")
-        check((log / "000001.damaged").read_bytes() == whole + tail, f"tail {number} isn't kept")
-        check(f"bytes {len(whole)} to {len(whole) + len(tail) - 1}: " in said, f"tail {number} isn't named: {said}")
-    log = place.folder / "marked"
-    log.mkdir()
-    (log / "000001.log").write_bytes(whole + pieces_of.mark_bytes("forgotten", 5, 1, 99))
-    check("a mark hides the numbers below 99 of stream 0000000000000005 CPU 1" in opened(place, log), "a mark in a log")
-    for number, length in enumerate([1, 7, 8, 15, 20, 31, 40, 79, 85, len(pieces[0]) - 1]):
-        log = place.folder / f"cut{number}"
-        log.mkdir()
-        (log / "000001.log").write_bytes(whole + pieces[0][:length])
-        said = opened(place, log)
-        check(log_bytes(log) == whole and not [*log.glob("*.damaged")], f"a tail of {length} bytes isn't cut off")
-        check("aren't" not in said and "wasn't written whole" in said, f"a tail of {length} bytes isn't named: {said}")
+        yield f"tail{number}", whole + tail, partial(is_tail_kept, whole, tail)
+
+
+def is_tail_kept(whole, tail, log, said):
+    check(log_bytes(log) == whole, f"{log.name} costs pieces")
+    check((log / "000001.damaged").read_bytes() == whole + tail, f"{log.name} isn't kept")
+    check(f"bytes {len(whole)} to {len(whole) + len(tail) - 1}: " in said, f"{log.name} isn't named: {said}")
+
+
+def cuts(whole, pieces):
+    """Logs whose last piece wasn't written whole."""
+    for length in (1, 7, 8, 15, 20, 31, 40, 79, 85, len(pieces[0]) - 1):
+        yield f"cut{length}", whole + pieces[0][:length], partial(is_cut_off, whole)
+
+
+def is_cut_off(whole, log, said):
+    check(log_bytes(log) == whole and not [*log.glob("*.damaged")], f"the tail of {log.name} isn't cut off")
+    check("aren't" not in said and "wasn't written whole" in said, f"the tail of {log.name} isn't named: {said}")
+
+
+def is_mark_named(_, said):
+    check("a mark hides the numbers below 99 of stream 0000000000000005 CPU 1" in said, "a mark in a log")
 
 
 def selected(place, log, *words):
@@ -253,7 +292,8 @@ def find_by_index(place, log):
 def listed(place, command, *words):
     """The lines that a listing has."""
     more = {"TRACERING": str(place.programs["tracering"]), "LOG_SELECT": str(place.programs["log_select"])}
-    done = subprocess.run([*command, *map(str, words)], env=os.environ | more, capture_output=True, check=False)
+    command = [*ENDS_WITH_US, *command, *map(str, words)]
+    done = subprocess.run(command, env=os.environ | more, capture_output=True, check=False)
     check(done.returncode == 0, f"{command} ends with {done.returncode}: {done.stderr}")
     return done.stdout.decode().split("\n")[:-1]
 
@@ -316,10 +356,13 @@ def told_of(log):
 
 def numbers_left(ring, stream):
     """The numbers of the records that a ring has, by a reader of regions that shares nothing with the publisher."""
-    command = [sys.executable, "-m", "oracles.region", ring]
-    # (A ring that is written meanwhile may not be readable, just then.)
-    left = subprocess.run(command, cwd=TOP / "tests", capture_output=True, text=True, check=False).stdout.split("\n")
-    return [int(line.split()[1]) for line in left if line.startswith(f"{stream:016x}:0 ")]
+    try:
+        region = Region(ring.read_bytes())
+    except (FileNotFoundError, NoRegion):
+        return []
+    # (A ring that is written meanwhile may not be readable whole, just then.)
+    pages = region.pages if region.stream == stream else []
+    return [number for page in pages for number in range(page.first, page.past)]
 
 
 def regions(place):
@@ -327,7 +370,7 @@ def regions(place):
     server = Server(place.folder)
     folder, state = place.folder / "rings", place.folder / "state"
     folder.mkdir()
-    for stream, rate, is_killed in ((1, 400, True), (2, 400, False), (3, 20_000, True)):
+    for stream, rate, is_killed in ((1, 1000, True), (2, 1000, False), (3, 20_000, True)):
         writer = place.child(f"writer{stream}", "region_writer", folder, f"{stream:x}", 2, rate, 100_000)
         until(lambda: numbers_left(folder / "ring.0", stream), "the rings are there", writer)
         rings = [word for cpu in (0, 1) for word in ("--region", folder / f"ring.{cpu}")]
@@ -452,7 +495,7 @@ def numbers_of(told, kind):
 
 def kernel(place):
     """A kernel's pages, with stated and unstated losses, damage, stamps above 2^59, and pages of 8 KiB."""
-    server = Server(place.folder)
+    server, sources, publishers = Server(place.folder), {}, []
     for capture in ("overrun", "live", "exact", "stamps", "clock_tai", "subbuf8"):
         source = Kernel(place.folder / capture, capture, 8192 if capture == "subbuf8" else 4096)
         if capture == "overrun":
@@ -462,17 +505,26 @@ def kernel(place):
             source.cpus[0][2] = bytes(page)
         source.give({cpu: slice(None) for cpu in source.cpus})
         stream = ["--host", len(capture), "--incarnation", sum(map(ord, capture))]
+        sources[len(capture) << 32 | sum(map(ord, capture))] = source
         words = [*server.words, "--kernel", source.folder, *stream]
-        place.stopped(place.counted(f"publisher_{capture}", "nats_publisher", *words)[0])
-        name = len(capture) << 32 | sum(map(ord, capture))
-        found = pieces_of.told_of(pieces_in(place.collect(server, log=capture, name=capture)[1]))
-        for cpu in (0, 1):
-            records, missing, unknown, end = source.told(cpu)
-            told = found[name, cpu]
-            check(told.end == end, f"{capture}: CPU {cpu} ends at {told.end}, and not at {end}")
-            check(told.records == records, f"{capture}: the records of CPU {cpu} are others")
-            check(numbers_of(told, "missing") == missing, f"{capture}: missing numbers of CPU {cpu} are others")
-            check(numbers_of(told, "unknown") == unknown, f"{capture}: unknown numbers of CPU {cpu} are others")
+        publishers.append(place.counted(f"publisher_{capture}", "nats_publisher", *words)[0])
+    for publisher in publishers:
+        place.stopped(publisher)
+    found = pieces_of.told_of(pieces_in(place.collect(server)[1]))
+    check(found.keys() == {(stream, cpu) for stream in sources for cpu in (0, 1)}, f"{[*found]} are there")
+    for (stream, cpu), told in found.items():
+        records, missing, unknown, end = sources[stream].told(cpu)
+        capture = sources[stream].folder.name
+        check(told.end == end, f"{capture}: CPU {cpu} ends at {told.end}, and not at {end}")
+        check(told.records == records, f"{capture}: the records of CPU {cpu} are others")
+        check(numbers_of(told, "missing") == missing, f"{capture}: missing numbers of CPU {cpu} are others")
+        check(numbers_of(told, "unknown") == unknown, f"{capture}: unknown numbers of CPU {cpu} are others")
+
+
+def noted_in(state):
+    """The number of each CPU of a stream below which a publisher may have sent what it read, by its state."""
+    entries = struct.iter_unpack("<4Q", state.read_bytes())
+    return {(stream, cpu): number for stream, cpu, number, made in entries if made}
 
 
 def kernel_killed(place):
@@ -487,17 +539,17 @@ def kernel_killed(place):
     # (A publisher that gets no processor for seconds finds that the server is away, and then reads no page.)
     for at in range(15, 40):
         server.child.signal(signal.SIGSTOP)
+        before = noted_in(state)
         source.give({cpu: slice(at, at + 1) for cpu in source.cpus})
-        if holds_soon(lambda: count("pieces_total") > count("pieces_acknowledged_total")):
+        if holds_soon(lambda: noted_in(state) != before):
             break
         server.child.signal(signal.SIGCONT)
-        until(lambda: count("pieces_total") == count("pieces_acknowledged_total"), "the bus goes on", publisher)
+        until(lambda: noted_in(state) != before, "the publisher goes on", publisher)
     publisher.kill()
     server.child.kill()
     server.start()
     # (What was read of trace_pipe_raw isn't there any more; what wasn't, is.)
-    entries = struct.iter_unpack("<4Q", state.read_bytes())
-    noted = {(stream, cpu): number for stream, cpu, number, made in entries if made}
+    noted = noted_in(state)
     read = {cpu: source.pages_before(cpu, noted[9 << 32 | 1, cpu]) for cpu in source.cpus}
     for cpu in source.cpus:
         source.file(cpu).write_bytes(b"")
@@ -521,16 +573,3 @@ def kernel_killed(place):
 COLLECTING = (marks, versions, quarantine_full, quarantine_full_kafka, damage, rotation, time_of_log)
 PUBLISHING = (regions, regions_replaced, recorder, kernel, kernel_killed)
 SCENES = {scene.__name__: scene for scene in (*COLLECTING, *PUBLISHING, *said_scenes.SAID)}
-
-
-def play(folder, programs, names):
-    for name in names:
-        place = folder / f"scene_{name}"
-        place.mkdir()
-        begun = time.monotonic()
-        try:
-            SCENES[name](Place(place, programs))
-        except Failure as failure:
-            raise Failure(f"{name}: {failure}") from failure
-        Child.kill_all()
-        print(f"fleet: {name}: {SCENES[name].__doc__.split(chr(10))[0]} ({time.monotonic() - begun:.0f} s)", flush=True)

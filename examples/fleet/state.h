@@ -7,11 +7,11 @@
 #include "report.h"
 
 #define STREAM_WORDS \
-    {"host", NUMBER, NULL, "32 high bits of the stream's id (of /etc/machine-id)", NULL, 0}, \
-    {"incarnation", NUMBER, NULL, "32 low bits, others at each start (the start's second)", NULL, 0}
+    NUMBER_WORD("host", NULL, 0, UINT32_MAX, "32 high bits of the stream's id (of /etc/machine-id)"), \
+    NUMBER_WORD("incarnation", NULL, 0, UINT32_MAX, "32 low bits, others at each start (the start's second)")
 
 #define STATE_WORDS \
-    {"state", TEXT, NULL, "file that notes how far was sent; none: a new start knows nothing of this one", NULL, 0}
+    TEXT_WORD("state", NULL, "file that notes how far was sent; none: a new start knows nothing of this one")
 
 struct state_entry {
     uint64_t stream, cpu;

@@ -1,5 +1,5 @@
 // The words of a command. A program has a list of those that it knows, with what each means and stands for if it isn't
-// given, and refuses all others with status 2.
+// given. It refuses with status 2 all others, a word that is given twice, an empty text and a number out of its range.
 #ifndef WORDS_H
 #define WORDS_H
 
@@ -7,16 +7,26 @@
 
 #include <getopt.h>
 
-enum word_kind { FLAG, TEXT, NUMBER };
+// What a number of seconds, of milliseconds or of events is at most.
+enum { A_BILLION = 1000000000 };
+
+enum word_kind { FLAG, TEXT, TEXTS, NUMBER };
 
 struct word {
     const char *name;
     enum word_kind kind;
     const char *value; // null: it isn't given, and nothing stands for it
     const char *help;
-    const char **all; // what was given, of a word that may be given many times
+    uint64_t least, most; // of a number
+    const char **all; // what was given: of TEXTS there may be many
     size_t count;
 };
+
+#define FLAG_WORD(name, help) {name, FLAG, NULL, help, 0, 0, NULL, 0}
+#define TEXT_WORD(name, value, help) {name, TEXT, value, help, 0, 0, NULL, 0}
+#define MANY_WORD(name, help) {name, TEXTS, NULL, help, 0, 0, NULL, 0}
+#define NUMBER_WORD(name, value, least, most, help) {name, NUMBER, value, help, least, most, NULL, 0}
+#define LAST_WORD {NULL, TEXT, NULL, NULL, 0, 0, NULL, 0}
 
 static struct word *known_words; // the last one has no name
 
@@ -42,19 +52,26 @@ static inline struct word *word_named(const char *name)
     die(name, "the program asks for a word that it doesn't know");
 }
 
-static inline void check_number(const char *name, const char *value)
+static inline void check_number(const struct word *word, const char *value)
 {
-    char *end;
+    char *end, why[80];
     errno = 0;
-    (void)strtoull(value, &end, 10);
+    uint64_t number = strtoull(value, &end, 10);
     if (errno || *end || *value < '0' || *value > '9')
-        refuse_words(name, "it is no number of 64 bits");
+        refuse_words(word->name, "it is no number of 64 bits");
+    (void)snprintf(why, sizeof why, "it is %" PRIu64 " to %" PRIu64, word->least, word->most);
+    if (number < word->least || number > word->most)
+        refuse_words(word->name, why);
 }
 
 static inline void give_word(struct word *word, const char *value)
 {
+    if (word->count && word->kind != TEXTS)
+        refuse_words(word->name, "it is given twice");
     if (word->kind == NUMBER)
-        check_number(word->name, value);
+        check_number(word, value);
+    else if (word->kind != FLAG && !*value)
+        refuse_words(word->name, "it is empty");
     word->value = value;
     word->all = realloc(word->all, (word->count + 1) * sizeof *word->all);
     if (!word->all)
