@@ -14,3 +14,5 @@ pub mod AllRead
 pub mod Told
 pub mod Adds
 mod Followed
+pub mod RawTexts
+pub mod PagedWhole

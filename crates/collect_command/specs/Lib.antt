@@ -5,5 +5,6 @@ pub mod Faults
 pub mod Gathered
 pub mod Listings
 pub mod Runs
+pub mod Paged
 pub mod streams
 pub mod recovery
