@@ -16,3 +16,5 @@ pub mod Adds
 mod Followed
 pub mod RawTexts
 pub mod PagedWhole
+mod PagedPrints
+mod RawCollected

@@ -1,7 +1,7 @@
 -- What is said of raw files, each of a CPU of its own, is what is said of the pages of all CPUs.
 use Rattle.std.proofs.Common.{◌≡◌, ℕ, zero, suc, ◌+◌, ◌<◌, ◌≤◌, Bool, true, false, true≢false, cond, ⊎_elim}
 use Rattle.std.proofs.Common.{List, [], ◌∷◌, ◌++◌, length, map, flat_map, append-nil, Option, None, refl, sym, ap, ap₂}
-use Rattle.std.proofs.Common.{◌∙◌, subst, arith, eqb-true, eq-eqb, ne_eqb}
+use Rattle.std.proofs.Common.{append_assoc, ◌∙◌, subst, arith, eqb-true, eq-eqb, ne_eqb}
 use Rattle.std.proofs.lemmas.Bool.{cases_lt}
 use Rattle.std.specs.Prelude.{◌==◌, ◌&&◌, if◌then◌else◌}
 use Rattle.std.specs.List.{enumerate_from, AllByRecursion}
@@ -15,13 +15,16 @@ use Rattle.capture.proofs.Told.{all-told-unknown}
 use Rattle.capture_text.specs.declared.form.Form.{Form}
 use Rattle.capture_text.specs.Selection.{Selected}
 use Rattle.capture_text.specs.Window.{KnownBound}
-use Rattle.capture_text.specs.Listed.{listed_run, listed_runs, listed_losses, listed_damages}
+use Rattle.capture_text.specs.Printing.{Detail as LineDetail}
+use Rattle.trace_model.specs.Listing.{Line as ModelLine}
+use Rattle.capture_text.specs.Listed.{listed_line, listed_run, listed_runs, listed_losses, listed_damages}
 use Rattle.page_lines.specs.Spread.{OwnPages, RiseBelow, spread}
 use Rattle.page_lines.specs.Tallies.{runs_from}
 use Rattle.collect_command.specs.Gathered.{AreCpuPages, AreCpusPages}
 use Rattle.collect_command.specs.Listings.{all_unknown, all_damaged, all_sums, are_all_intact}
+use Rattle.collect_command.specs.Listings.{bounds_by, listing_text}
 use Rattle.collect_command.specs.Paged.{RawFile, own_of, part_of, captures_of, raw_runs, raw_unknown, raw_damaged}
-use Rattle.collect_command.specs.Paged.{raw_intact, IsRaw}
+use Rattle.collect_command.specs.Paged.{raw_intact, raw_losses, IsRaw}
 
 -- ---- all CPUs, of which some have a raw file
 
@@ -226,3 +229,33 @@ pages_same size raws rise are_raw =
       same each.1 (parts_behind size parts raw files are),
     ))
     raws rise are_raw (λ at from. refl)
+
+-- ---- the text
+
+-- what is lost of the files, behind the lines, is what is printed of their captures
+pub raw_text : (form : Form) (detail : LineDetail) (selected : Selected) (size : ℕ) (raws : List RawFile)
+    → RiseBelow 0 MAX_CPUS (map own_of raws) → (lines : List ModelLine)
+    → flat_map (listed_line form detail selected) lines ++ raw_losses form (bounds_by selected lines) size raws
+    ≡ listing_text form detail selected (λ (at : ℕ). None) (map (part_of size) raws) (record {
+      lines = lines;
+      runs = map (runs_from 0 0) (captures_of raws);
+    }) (captures_of raws)
+raw_text form detail selected size raws rise lines =
+    let bounds = bounds_by selected lines in
+    let records = flat_map (listed_line form detail selected) lines in
+    let runs = raw_runs form bounds raws in
+    let unknown = raw_unknown form bounds raws in
+    let damaged = raw_damaged form bounds size raws in
+    let missing = map (runs_from 0 0) (captures_of raws) in
+    let all_runs = listed_runs form bounds missing in
+    let unknown_of_all = all_unknown form bounds 0 (captures_of raws) in
+    let damaged_of_all = all_damaged form bounds (map (part_of size) raws) 0 (captures_of raws) in
+    let all = ((records ++ all_runs) ++ unknown_of_all) ++ damaged_of_all in
+    sym (append_assoc records (runs ++ unknown) damaged)
+    ∙ ap (λ (t : List ℕ). t ++ damaged) (sym (append_assoc records runs unknown))
+    ∙ ap (λ (t : List ℕ). ((records ++ t) ++ unknown) ++ damaged) (sym (runs_same form bounds raws rise))
+    ∙ ap (λ (t : List ℕ). ((records ++ all_runs) ++ t) ++ damaged) (sym (unknown_same form bounds raws rise))
+    ∙ ap (λ (t : List ℕ). ((records ++ all_runs) ++ unknown_of_all) ++ t)
+    (sym (damaged_same form bounds size raws rise))
+    ∙ sym (append-nil all)
+    ∙ ap (λ (t : List ℕ). all ++ t) (sym (sums_none form selected missing 0 (captures_of raws)))

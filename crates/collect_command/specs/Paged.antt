@@ -1,5 +1,6 @@
 -- Raw files whose pages are read one after the other.
-use Rattle.std.specs.Prelude.{◌≡◌, ◌<◌, ◌≤◌, ◌^◌, ℕ, suc, Bool, true, false, List, [], ◌∷◌, flat_map, map, length}
+use Rattle.std.specs.Prelude.{◌≡◌, ◌<◌, ◌≤◌, ◌^◌, ℕ, suc, Bool, true, false, List, [], ◌∷◌, ◌++◌, flat_map, map}
+use Rattle.std.specs.Prelude.{length}
 use Rattle.std.specs.Prelude.{Option, None, ⊤}
 use Rattle.std.specs.Io.KnownBytes.{IsAtEnd as IsEnd}
 use Rattle.std.specs.List.{list_all, AllByRecursion}
@@ -12,9 +13,19 @@ use Rattle.capture.specs.files.Inputs.{AreRead}
 use Rattle.capture.specs.files.Captures.{measured}
 use Rattle.capture.specs.files.Losses.{are_intact}
 use Rattle.capture_text.specs.declared.form.Form.{Form}
+use Rattle.capture_text.specs.Printing.{Detail as LineDetail}
+use Rattle.capture_text.specs.Selection.{Selected, selection_seen}
+use Rattle.collect_command.specs.declared.collect.Collecting.{Collecting}
+use Rattle.collect_command.specs.Following.{formats_given}
+use Rattle.collect_command.specs.Runs.{lines_for, marks_for, text_in}
+use Rattle.collect_command.specs.Listings.{IsListed, detail_by, is_unnamed, with_marks}
+use Rattle.collect_command.specs.declared.ending.Listed.{Listed}
+use Rattle.collect_command.specs.declared.ending.Ending.{Ending}
+use Rattle.collect_command.specs.declared.ending.Ending.TheVariants.{Done, Damaged, Hidden, MalformedFile, Malformed}
+use Rattle.collect_command.specs.declared.ending.Ending.TheVariants.{Numbers, NoMemory, NotRead, TooLong, NotWritten}
 use Rattle.capture_text.specs.Window.{KnownBound}
 use Rattle.capture_text.specs.Listed.{listed_run, listed_losses, listed_damages}
-use Rattle.page_lines.specs.Spread.{OwnPages, NoneFalls, own_lines, spread}
+use Rattle.page_lines.specs.Spread.{OwnPages, NoneFalls, RiseBelow, own_lines, spread}
 use Rattle.page_lines.specs.Tallies.{IsTally, runs_from}
 use Rattle.page_lines.specs.Sources.{Reading, IsFresh, Passes}
 use Rattle.trace_model.specs.Listing.{Line as ModelLine}
@@ -51,6 +62,11 @@ abbrev pub raw_damaged : Form → (bounds : ℕ → Option KnownBound) → (size
 raw_damaged form bounds size raws =
     flat_map (λ raw. listed_damages form (bounds raw.cpu) (measured (part_of size raw) ∷ []) raw.cpu
     (damages_from 0 0 raw.pages)) raws
+
+-- what was lost of each of them
+abbrev pub raw_losses : Form → (bounds : ℕ → Option KnownBound) → (size : ℕ) → List RawFile → List ℕ
+raw_losses form bounds size raws =
+    (raw_runs form bounds raws ++ raw_unknown form bounds raws) ++ raw_damaged form bounds size raws
 
 -- each page of each of them can be read
 abbrev pub raw_intact : List RawFile → Bool
@@ -125,3 +141,43 @@ module _ {R : Type 0} (remaining : R → Option (List ℕ)) (failed : R → Bool
       pub read : AreRead remaining failed inputs (map input_of news) (map file_of raws)
       pub are_raw : AllByRecursion (IsRaw size) raws
       pub are_plain : AllByRecursion (IsPlain size) raws
+
+-- ---- a listing
+
+-- all inputs are listed to their ends
+abbrev pub IsToTheEnd : Ending → Type 0
+IsToTheEnd Done = ⊤
+IsToTheEnd Damaged = ⊤
+IsToTheEnd Hidden = ⊥
+IsToTheEnd (MalformedFile input fault) = ⊥
+IsToTheEnd (Malformed input) = ⊥
+IsToTheEnd Numbers = ⊥
+IsToTheEnd NoMemory = ⊥
+IsToTheEnd (NotRead input) = ⊥
+IsToTheEnd (TooLong input) = ⊥
+IsToTheEnd NotWritten = ⊥
+
+-- Inputs were read to their ends, each is a raw file of a later CPU than the one before, and the captures that they are
+-- were listed.
+pub record ListsRaw {R : Type 0} (remaining : R → Option (List ℕ)) (has_failed : R → Bool) (form : Form)
+    (detail : LineDetail) (selected : Selected) (size : ℕ) (inputs : List (Input R)) (contents after : Option (List ℕ))
+    (failed : Bool) (listed : Listed) : Type 0 where
+  pub new : List (Input R)
+  pub raws : List RawFile
+  pub read : AreRead remaining has_failed inputs new (map file_of raws)
+  pub rise : RiseBelow 0 MAX_CPUS (map own_of raws)
+  pub are_raw : AllByRecursion (IsRaw size) raws
+  pub are_plain : AllByRecursion (IsPlain size) raws
+  pub is_listed : IsListed form detail selected (λ cpu. None) (map (part_of size) raws) (captures_of raws) contents after
+      failed listed
+
+-- The same, as it is asked for, with what is given beside the files; and it is said whether the pattern names none of the
+-- events.
+pub record ListsRawSo {R : Type 0} (remaining : R → Option (List ℕ)) (has_failed : R → Bool) (collecting : Collecting)
+    (inputs : List (Input R)) (contents after : Option (List ℕ)) (failed : Bool) (listed : Listed) : Type 0 where
+  pub lists : ListsRaw remaining has_failed collecting.form
+      (detail_by collecting.detail (formats_given collecting) (lines_for (text_in collecting.tasks) [])
+      (lines_for (text_in collecting.symbols) []))
+      (with_marks (marks_for collecting (formats_given collecting)) (selection_seen collecting.selection))
+      collecting.page inputs contents after failed listed
+  pub unnamed_is : listed.is_unnamed ≡ is_unnamed (marks_for collecting (formats_given collecting))

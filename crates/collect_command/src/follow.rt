@@ -223,7 +223,7 @@ fn follow_inputs<S: Happenings, W: Sink>(
 }
 
 /// Nothing but what is given is known.
-fn nothing_captured(alloc: Global, collecting: &Collecting<'_>) -> Captured
+pub(crate) fn nothing_captured(alloc: Global, collecting: &Collecting<'_>) -> Captured
     ensures { IsNothing collecting.now result }
 {
     Captured {

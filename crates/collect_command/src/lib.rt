@@ -2,6 +2,7 @@
 //! prints one listing by time with what was lost.
 #![tactic(auto)]
 
+mod by_page;
 mod collect;
 mod ending;
 mod events;
@@ -11,10 +12,12 @@ mod gather;
 pub mod laws;
 mod listing;
 mod memory;
+mod paged;
 mod pattern;
 pub mod recovery;
 pub mod streams;
 
+pub use by_page::collect_pages;
 pub use collect::{Collecting, Detail, collect_to};
 pub use ending::{Collected, Ending, Listed, Outcome};
 pub use follow::{LiveCollected, follow_to};

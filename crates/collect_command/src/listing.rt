@@ -115,7 +115,7 @@ fn are_intact(cpus: &[CpuCapture]) -> bool
 }
 
 /// How a listing ends.
-fn ending_of(is_written: bool, is_intact: bool) -> Ending
+pub(crate) fn ending_of(is_written: bool, is_intact: bool) -> Ending
     ensures { result ≡ ending_of is_written is_intact }
 {
     if !is_written {
