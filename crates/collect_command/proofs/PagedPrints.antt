@@ -193,20 +193,6 @@ none_between from until past =
     ap (λ (b : Bool). if b then (from, until - 1) ∷ [] else []) none
 
 module _ {W : Type 0} {g : Ghosts W} where
-  pub put_run_more : (line : ℕ × ℕ → List ℕ) (runs : List (RecordNo × RecordNo)) (k : ℕ) (run : RecordNo × RecordNo)
-      {o0 o1 o2 : Out W g} → k < length runs
-      → Puts (flat_map line (map run_numbers (take k runs))) o0 o1
-      → Puts (line (run_numbers (get_or runs k run))) o1 o2
-      → Puts (flat_map line (map run_numbers (take (k + 1) runs))) o0 o2
-  put_run_more line runs k run {o0} {o1} {o2} below before own =
-      let found = get_or runs k run in
-      put_more _ _ _ o0 o1 o2
-      (ap (λ (rs : List (RecordNo × RecordNo)). flat_map line (map run_numbers rs)) (take_more runs k run below)
-      ∙ ap (flat_map line) (map-append run_numbers (take k runs) (found ∷ []))
-      ∙ flat_map-append line (map run_numbers (take k runs)) (run_numbers found ∷ [])
-      ∙ ap (λ (t : List ℕ). flat_map line (map run_numbers (take k runs)) ++ t) (append-nil (line (run_numbers found))))
-      before own
-
   runs_put : (line : ℕ × ℕ → List ℕ) (tally : Tally) (runs : List (RecordNo × RecordNo)) (k : ℕ) {o0 o1 : Out W g}
       → runs ≡ tally.missing.items → length runs ≤ k → Puts (flat_map line (map run_numbers (take k runs))) o0 o1
       → Puts (flat_map line (map run_numbers tally.missing.items)) o0 o1

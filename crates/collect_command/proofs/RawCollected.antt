@@ -1,11 +1,10 @@
 -- Raw files that were listed while they were read are listed as `collect` lists them.
-use Rattle.std.proofs.Common.{◌≡◌, ◌∙◌, ℕ, Bool, false, List, [], ◌++◌, map, Option, None, refl, sym, ap, subst, inl}
+use Rattle.std.proofs.Common.{◌≡◌, ◌∙◌, ℕ, Bool, false, List, [], ◌++◌, map, Option, None, sym, ap, subst, inl}
 use Rattle.trace_dat.specs.Contents.{EventFormat}
 use Rattle.trace_dat.specs.declared.kernel_texts.counters.Counters.{Counters}
-use Rattle.capture.specs.Pages.{Page}
 use Rattle.capture.specs.declared.files.captured.Input.{Input}
 use Rattle.capture.specs.files.Captures.{texts_held}
-use Rattle.capture.specs.files.Files.{File, ArePartsOf, all_others, is_in_any}
+use Rattle.capture.specs.files.Files.{ArePartsOf, all_others, is_in_any}
 use Rattle.capture.specs.files.Losses.{cpu_counters_in, overrun_by, overrun_in}
 use Rattle.capture_text.specs.Printing.{Detail as LineDetail}
 use Rattle.capture_text.specs.Selection.{Selected, selection_seen}
@@ -16,7 +15,7 @@ use Rattle.collect_command.specs.Gathered.{AreCpusPages}
 use Rattle.collect_command.specs.Listings.{IsListed, detail_by, is_unnamed, with_marks}
 use Rattle.collect_command.specs.Runs.{CollectsAll, detail_for, is_missing, lines_for, marks_for, selected_for, text_in}
 use Rattle.collect_command.specs.Paged.{ListsRawSo, captures_of, file_of, part_of}
-use Rattle.collect_command.proofs.PagedWhole.{plain_counters, plain_formats, plain_instances, plain_others, plain_parts}
+use Rattle.collect_command.proofs.PagedWhole.{plain_counters, plain_formats, plain_others, plain_parts}
 use Rattle.collect_command.proofs.PagedWhole.{plain_symbols, plain_tasks}
 use Rattle.collect_command.proofs.RawTexts.{captures_count, pages_same}
 

@@ -28,8 +28,8 @@ use Rattle.collect_command.specs.Paged.{raw_intact, raw_losses, IsRaw}
 
 -- ---- all CPUs, of which some have a raw file
 
--- What holds of the pages of all CPUs from one on, if it holds at the end, and with one CPU more before: one that has no
--- raw file, or one that has the first of those that are left.
+-- What holds of the pages of all CPUs from one on, if it holds at the end, and with one CPU more before: one that has
+-- no raw file, or one that has the first of those that are left.
 module _ (P : (cpu : ℕ) → List (List Page) → List RawFile → Type 0) (end : ℕ)
     (at_end : (cpu : ℕ) → P cpu [] [])
     (without : (cpu : ℕ) (captures : List (List Page)) (raws : List RawFile)

@@ -168,11 +168,11 @@ pub record ListsRaw {R : Type 0} (remaining : R → Option (List ℕ)) (has_fail
   pub rise : RiseBelow 0 MAX_CPUS (map own_of raws)
   pub are_raw : AllByRecursion (IsRaw size) raws
   pub are_plain : AllByRecursion (IsPlain size) raws
-  pub is_listed : IsListed form detail selected (λ cpu. None) (map (part_of size) raws) (captures_of raws) contents after
-      failed listed
+  pub is_listed : IsListed form detail selected (λ cpu. None) (map (part_of size) raws) (captures_of raws) contents
+      after failed listed
 
--- The same, as it is asked for, with what is given beside the files; and it is said whether the pattern names none of the
--- events.
+-- The same, as it is asked for, with what is given beside the files; and it is said whether the pattern names none of
+-- the events.
 pub record ListsRawSo {R : Type 0} (remaining : R → Option (List ℕ)) (has_failed : R → Bool) (collecting : Collecting)
     (inputs : List (Input R)) (contents after : Option (List ℕ)) (failed : Bool) (listed : Listed) : Type 0 where
   pub lists : ListsRaw remaining has_failed collecting.form

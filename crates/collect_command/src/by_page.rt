@@ -22,8 +22,8 @@ use page_lines::PageLines;
 use std::alloc::Global;
 use trace_model::NoMemory;
 
-/// Prints what the pages of sources have and miss, with the fields of each record's event. If memory is refused, nothing
-/// is written.
+/// Prints what the pages of sources have and miss, with the fields of each record's event. If memory is refused,
+/// nothing is written.
 fn print_fields<R: Source + Drop, W: Sink>(
     alloc: Global,
     collecting: &Collecting<'_>,
@@ -53,7 +53,14 @@ fn print_fields<R: Source + Drop, W: Sink>(
     let naming = Naming::Fields(texts.names, &fields, beside);
     let form = collecting.form;
     print_pages(
-        alloc, form, naming, selection, malformed, collecting.page, sources, writer,
+        alloc,
+        form,
+        naming,
+        selection,
+        malformed,
+        collecting.page,
+        sources,
+        writer,
     )
 }
 
@@ -83,15 +90,11 @@ fn print_named<R: Source + Drop, W: Sink>(
     match collecting.detail {
         Detail::Payload => {
             let naming = Naming::Payload;
-            print_pages(
-                alloc, form, naming, selection, none, page, sources, writer,
-            )
+            print_pages(alloc, form, naming, selection, none, page, sources, writer)
         }
         Detail::Names => {
             let naming = Naming::Names(texts.names, texts.tasks);
-            print_pages(
-                alloc, form, naming, selection, none, page, sources, writer,
-            )
+            print_pages(alloc, form, naming, selection, none, page, sources, writer)
         }
         Detail::Fields => print_fields(alloc, collecting, texts, selection, sources, writer),
     }
@@ -142,8 +145,8 @@ fn list_or_tell<R: Source + Drop, W: Sink>(
     }
 }
 
-/// Lists raw files, each of which one of these sources reads, while they are read: one page of each is held. Each has to
-/// be of a later CPU than the one before, and its moments may not fall; else, and if a file isn't raw, the listing ends
+/// Lists raw files, each of which one of these sources reads, while they are read: one page of each is held. Each has
+/// to be of a later CPU than the one before, and its moments may not fall; else, and if a file isn't raw, the listing ends
 /// as if a read had failed.
 pub fn collect_pages<R: Source + Drop, W: Sink>(
     alloc: Global,

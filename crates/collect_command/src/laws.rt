@@ -17,10 +17,12 @@ ghost use Rattle.page_lines.specs.Spread.{RiseBelow};
 ghost use Rattle.page_lines.specs.Tallies.{runs_from};
 ghost use Rattle.collect_command.specs.Gathered.{AreCpusPages};
 ghost use Rattle.collect_command.specs.Listings.{all_damaged, all_sums, all_unknown, are_all_intact};
-ghost use Rattle.collect_command.specs.Paged.{AreOpened, AreRawOf, AreWhole, CpusRise, HasEnded, IsPlain, IsRaw, RawFile};
+ghost use Rattle.collect_command.specs.Paged.{AreOpened, AreRawOf, AreWhole, CpusRise, HasEnded, IsPlain};
+ghost use Rattle.collect_command.specs.Paged.{IsRaw, RawFile};
 ghost use Rattle.collect_command.specs.Paged.{captures_of, file_of, own_of, part_of, raw_damaged, raw_intact, raw_runs};
 ghost use Rattle.collect_command.specs.Paged.{raw_unknown};
-ghost use Rattle.capture.specs.files.Files.{File, ArePartsOf, all_formats, all_lines, all_others, is_in_any, symbols_of};
+ghost use Rattle.capture.specs.files.Files.{File, ArePartsOf, all_formats, all_lines, all_others};
+ghost use Rattle.capture.specs.files.Files.{is_in_any, symbols_of};
 ghost use Rattle.capture.specs.files.Files.{tasks_of};
 ghost use Rattle.collect_command.specs.declared.collect.Collecting.{Collecting as CollectingSeen};
 ghost use Rattle.collect_command.specs.declared.ending.Listed.{Listed as ListedSeen};
@@ -37,8 +39,8 @@ pub fn one_output()
         ListsFiles same files (Some start) (Some other) false too → (text ≡ other) × SayTheSame one too }
 {}
 
-/// Sources of pages that were opened for inputs, and whose lines were passed until none was left, have read these inputs
-/// to their ends: they are raw files, and the lines are those of their pages.
+/// Sources of pages that were opened for inputs, and whose lines were passed until none was left, have read these
+/// inputs to their ends: they are raw files, and the lines are those of their pages.
 pub fn sources_that_have_ended_have_read_raw_files<R: Source>()
     ensures whole { (size : ℕ) (inputs : List (Input R)) (sources news : List (Reading R))
         (lists : List (List ModelLine)) → 48 ≤ size → AreOpened R.remaining size inputs sources

@@ -9,7 +9,8 @@ ghost use Rattle.capture_text.specs.Printing.{Detail};
 ghost use Rattle.capture_text.specs.Selection.{selection_seen};
 ghost use Rattle.text_values.specs.Putting.{Puts};
 ghost use Rattle.page_lines.specs.Tallies.{IsTally, runs_from};
-ghost use Rattle.collect_command.specs.Paged.{RawFile, AreRawOf, CpusRise, HasEnded, raw_runs, raw_unknown, raw_damaged};
+ghost use Rattle.collect_command.specs.Paged.{RawFile, AreRawOf, CpusRise, HasEnded, raw_runs};
+ghost use Rattle.collect_command.specs.Paged.{raw_unknown, raw_damaged};
 ghost use Rattle.collect_command.specs.Paged.{raw_intact, raw_losses, AreOpened, IsToTheEnd, ListsRaw};
 ghost use Rattle.collect_command.specs.Listings.{Describes};
 

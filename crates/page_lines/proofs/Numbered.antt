@@ -1,5 +1,6 @@
 -- The records of pages are those of their parcels, by rising number.
-use Rattle.std.proofs.Common.{◌≡◌, ◌⊎◌, inl, inr, ⊎_elim, ℕ, zero, suc, ◌+◌, ◌<◌, ◌≤◌, List, [], ◌∷◌, ◌++◌, length, Some}
+use Rattle.std.proofs.Common.{◌≡◌, ◌⊎◌, inl, inr, ⊎_elim, ℕ, zero, suc, ◌+◌, ◌<◌, ◌≤◌, List}
+use Rattle.std.proofs.Common.{[], ◌∷◌, ◌++◌, length, Some}
 use Rattle.std.proofs.Common.{refl, sym, ap, ◌∙◌, subst, arith}
 use Rattle.std.specs.Prelude.{⊤}
 use Rattle.std.specs.List.{slice_get, enumerate_from}
@@ -127,7 +128,8 @@ all_of_parcels cpu fill next (intact read ∷ pages) n r h =
     (λ (has : Has (parcels_from cpu (suc fill) (behind next (intact read)) pages) cpu n r).
     let found = all_of_parcels cpu (suc fill) (behind next (intact read)) pages n r has in
     (length own + found.0, get_behind own rest found.0 ∙ found.1))
-    (has_either (parcel_at cpu fill next read) (parcels_from cpu (suc fill) (behind next (intact read)) pages) cpu n r h)
+    (has_either (parcel_at cpu fill next read) (parcels_from cpu (suc fill) (behind next (intact read)) pages) cpu n r
+    h)
 
 pub records_are : (cpu fill next : ℕ) (pages : List Page)
     → AreRecordsOf (parcels_from cpu fill next pages) cpu (entries_from next pages)

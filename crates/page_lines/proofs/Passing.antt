@@ -146,8 +146,8 @@ module _ {R : Type 0} (remaining : R → Option (List ℕ)) where
       size_is = q.size_is ∙ p.size_is;
       cpu_is = q.cpu_is ∙ p.cpu_is;
       bytes = p.bytes ++ q.bytes;
-      consumed = Consumes-trans (remaining a.reader) (remaining b.reader) (remaining c.reader) p.bytes q.bytes p.consumed
-          q.consumed;
+      consumed = Consumes-trans (remaining a.reader) (remaining b.reader) (remaining c.reader) p.bytes q.bytes
+          p.consumed q.consumed;
       pages = p.pages ++ q.pages;
       plain = plain_both b.is_last refl;
       whole = whole_both b.is_last refl;

@@ -13,7 +13,8 @@ use Rattle.time_merge.specs.LineOrder.{line_of, comes_before}
 use Rattle.time_merge.specs.Stretches.{RiseTo}
 use Rattle.time_merge.specs.Walks.{TakesAll}
 use Rattle.time_merge.proofs.StretchWalks.{stretch_sorted}
-use Rattle.page_lines.specs.Sources.{Reading, ArePlain, Passes, PassesLine, IsFresh, IsNotAfter, NeverFall, ReadsAll, lines_from}
+use Rattle.page_lines.specs.Sources.{Reading, ArePlain, Passes, PassesLine, IsFresh, IsNotAfter}
+use Rattle.page_lines.specs.Sources.{NeverFall, ReadsAll, lines_from}
 use Rattle.page_lines.proofs.Passing.{passes_none, passes_both}
 
 module _ {R : Type 0} (remaining : R → Option (List ℕ)) where

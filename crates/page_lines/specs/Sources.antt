@@ -1,5 +1,6 @@
 -- A source of the lines of a CPU's pages.
-use Rattle.std.specs.Prelude.{◌≡◌, ◌*◌, ◌<◌, ◌≤◌, ◌+◌, ℕ, Bool, true, false, List, [], ◌∷◌, ◌++◌, length, map, take, drop}
+use Rattle.std.specs.Prelude.{◌≡◌, ◌*◌, ◌<◌, ◌≤◌, ◌+◌, ℕ, Bool, true, false, List, [], ◌∷◌}
+use Rattle.std.specs.Prelude.{◌++◌, length, map, take, drop}
 use Rattle.std.specs.Prelude.{Option, Some, None, ⊤, slice_range}
 use Rattle.std.specs.Io.KnownBytes.{Consumes}
 use Rattle.trace_model.specs.Listing.{Line as ModelLine}

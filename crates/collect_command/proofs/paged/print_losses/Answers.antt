@@ -1,4 +1,4 @@
-use Rattle.std.proofs.Common.{◌≡◌, ◌∙◌, ◌++◌, List, ℕ, ap, subst, append_assoc}
+use Rattle.std.proofs.Common.{◌∙◌, ◌++◌, List, ℕ, ap, subst, append_assoc}
 use Rattle.text_values.specs.Putting.{HasPut}
 use Rattle.capture_text.specs.Printed.{bounds_of}
 use Rattle.collect_command.specs.Paged.{raw_runs, raw_unknown, raw_damaged}
@@ -15,4 +15,5 @@ returns g c raws are start text put =
     c.print_damaged.ensures raws are start ((text ++ runs) ++ unknown)
     (c.print_unknown.ensures raws are start (text ++ runs) (c.print_runs.ensures raws are start text put)) in
     subst (λ (t : List ℕ). HasPut start t c.print_damaged.new.out)
-    (ap (λ (t : List ℕ). t ++ damaged) (append_assoc text runs unknown) ∙ append_assoc text (runs ++ unknown) damaged) all
+    (ap (λ (t : List ℕ). t ++ damaged) (append_assoc text runs unknown)
+    ∙ append_assoc text (runs ++ unknown) damaged) all

@@ -1,5 +1,6 @@
-use Rattle.std.proofs.Common.{rules, ◌≡◌, ◌++◌, ℕ, List, [], Bool, true, false, Option, None, flat_map, map, ◌∙◌, ap, ap₂, sym}
-use Rattle.std.proofs.Common.{subst, ◌+◌, ◌-◌, ◌^◌, min, arith, append-nil, append_assoc}
+use Rattle.std.proofs.Common.{rules, ◌≡◌, ◌++◌, ℕ, List, [], Bool, true, false, Option, None, flat_map}
+use Rattle.std.proofs.Common.{map, ◌∙◌, ap, ap₂, sym}
+use Rattle.std.proofs.Common.{subst, ◌+◌, ◌-◌, ◌^◌, min, arith}
 use Rattle.std.specs.Prelude.{count_by, fold}
 use Rattle.std.specs.Result.{is_ok}
 use Rattle.std.specs.List.{AllByRecursion}
@@ -13,7 +14,7 @@ use Rattle.capture_text.specs.declared.form.Form.{Form}
 use Rattle.capture_text.specs.declared.printer.Printer.{Printer}
 use Rattle.capture_text.specs.Selection.{selection_seen}
 use Rattle.capture_text.specs.Window.{KnownBound, bound_at, bound_by, listed_bound, noted_of}
-use Rattle.capture_text.specs.Listed.{listed_line, is_listed_cut, listed_runs}
+use Rattle.capture_text.specs.Listed.{listed_line, is_listed_cut}
 use Rattle.capture_text.specs.Printed.{bounds_of}
 use Rattle.command_io.specs.Written.{IsTextWritten}
 use Rattle.text_values.specs.Putting.{start_of, contents_of, has_failed, HasPut}
@@ -23,10 +24,10 @@ use Rattle.page_lines.proofs.Listing.{lines_listed, runs_listed}
 use Rattle.collect_command.specs.declared.ending.Listed.{Listed}
 use Rattle.collect_command.specs.declared.ending.Ending.{Ending}
 use Rattle.collect_command.specs.declared.ending.Ending.TheVariants.{NotWritten}
-use Rattle.collect_command.specs.Listings.{bounds_by, all_unknown, all_damaged, all_sums, ending_of, are_all_intact}
+use Rattle.collect_command.specs.Listings.{bounds_by, ending_of, are_all_intact}
 use Rattle.collect_command.specs.Listings.{listing_text, IsListed}
-use Rattle.collect_command.specs.Paged.{AreRawOf, CpusRise, HasEnded, captures_of, own_of, part_of, input_of, raw_losses}
-use Rattle.collect_command.specs.Paged.{raw_runs, raw_unknown, raw_damaged}
+use Rattle.collect_command.specs.Paged.{AreRawOf, CpusRise, HasEnded, captures_of, own_of, part_of}
+use Rattle.collect_command.specs.Paged.{input_of, raw_losses}
 use Rattle.collect_command.proofs.PagedWhole.{whole_of, cpus_rise}
 use Rattle.collect_command.proofs.RawTexts.{intact_same, raw_text}
 use Rattle.collect_command.proofs.Printing.{walked, walked_form, walked_selection, walked_cut, walked_bound}

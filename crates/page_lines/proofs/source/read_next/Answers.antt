@@ -15,6 +15,7 @@ returns-in_ok-read_image-clause-read g c =
     length-take-le c.in-Ok.count c.fill_piece.new.piece c.in-Ok.ensures.bound in
     let some : 0 < length bytes = omega (arith, long, c.if-count-gt0.true) in
     let fits : length bytes ≤ size = grind (arith, common_steps) in
-    subst (λ (n : ℕ). ReadsNext size unread left c.args.tally.now n c.read_image.new.tally c.read_image.new.at_hand) long
+    subst (λ (n : ℕ). ReadsNext size unread left c.args.tally.now n c.read_image.new.tally c.read_image.new.at_hand)
+    long
     (next_read size unread left c.args.tally.now c.read_image.new.tally bytes c.read_image.new.at_hand some fits
     c.in-Ok.ensures.taken c.in_ok-read_image.ensures.read)

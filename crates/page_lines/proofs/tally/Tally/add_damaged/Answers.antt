@@ -7,4 +7,5 @@ pub returns-clause-added : goal.returns-clause-added
 returns-clause-added c page found =
     let counted : c.in_ok-pages.pages ≡ c.args.self.now.pages + 1 = grind (arith, common_steps) in
     let few : c.in_ok-pages.pages < 2 ^ 64 = grind (arith, common_steps) in
-    adds_damaged c.args.self.now _ _ page c.args.fault found refl c.in_ok-push.ensures.items refl refl refl refl counted few
+    adds_damaged c.args.self.now _ _ page c.args.fault found refl c.in_ok-push.ensures.items refl refl refl refl
+    counted few
