@@ -1,7 +1,10 @@
 """Pipes with names, into which the pages of captures are written while a program reads them."""
 
+import fcntl
 import os
 import random
+import struct
+import termios
 import threading
 import time
 
@@ -21,6 +24,7 @@ class Pipe(threading.Thread):
         try:
             with open(self.path, "wb", buffering=0) as pipe:
                 self.write(pipe)
+                self.wait_until_read(pipe)
                 self.written.set()
                 if not self.is_closed:
                     self.may_close.wait(SECONDS)
@@ -35,3 +39,13 @@ class Pipe(threading.Thread):
             at += count
             if self.chance.random() < 0.2:
                 time.sleep(self.chance.random() * 0.02)
+
+    @staticmethod
+    def wait_until_read(pipe):
+        """Waits until all of the pipe is read, for at most so many seconds."""
+        end = time.monotonic() + SECONDS
+        while time.monotonic() < end:
+            (left,) = struct.unpack("i", fcntl.ioctl(pipe, termios.FIONREAD, bytes(4)))
+            if not left:
+                return
+            time.sleep(0.01)
