@@ -1,9 +1,11 @@
 //! The command `collect`: over captures, or over streams of parcels.
-ghost use Rattle.std.specs.Prelude.{◌≡◌, ◌⊎◌, ◌↔◌, IsTrue, All, length};
+ghost use Rattle.std.specs.Prelude.{◌≡◌, ◌⊎◌, ◌↔◌, false, map, IsTrue, All, length};
+ghost use Rattle.command_io.specs.Ends.{has_failed};
 ghost use Rattle.command_line.specs.Calls.{IsInRange};
 ghost use Rattle.parcel_streams.specs.source.Reading.{BeginsStream};
-ghost use Rattle.parcel_streams.specs.source.Readers.{peeked_unread};
+ghost use Rattle.parcel_streams.specs.source.Readers.{peeked_reader, peeked_unread};
 
+use crate::by_page::{collect_by_page, paged_files};
 use crate::captures::collect_captures;
 use crate::follow::follow_captures;
 use crate::inputs::{Reader, Trial, open_inputs};
@@ -74,6 +76,26 @@ fn is_for_captures(asked: &CollectCall<'_>) -> bool {
         || asked.pids.is_some()
 }
 
+/// Lists captures, and gives the exit status: while they are read if that can be, and else when all are read.
+fn list_captures<'b>(
+    rt: &HostRuntime,
+    asked: &CollectCall<'b>,
+    inputs: Vec<Input<Reader<'_>>>,
+    is_watched: bool,
+    is_unseen: bool,
+) -> Result<u8, Trial<'b>>
+    requires range { IsInRange asked.now }
+    requires cpus { map (λ input. input.cpu) inputs.items ≡ map (λ file. file.cpu) asked.now.files.items }
+    requires sound { All (λ input. has_failed (peeked_reader input.reader) ≡ false) inputs.items }
+{
+    if asked.instance.is_none() {
+        if let Some(files) = paged_files(rt, asked, is_watched)? {
+            return collect_by_page(rt, asked, &files, is_watched, is_unseen);
+        }
+    }
+    collect_captures(rt, asked, inputs, is_unseen)
+}
+
 /// Lists the files, and gives the exit status.
 fn list<'b, T: Threads + Wait + Copy + Send + 'static>(
     rt: &HostRuntime,
@@ -106,7 +128,7 @@ fn list<'b, T: Threads + Wait + Copy + Send + 'static>(
     if is_for_streams {
         return Ok(refuse(rt, NOT_FOR_CAPTURES));
     }
-    collect_captures(rt, asked, inputs, is_unseen)
+    list_captures(rt, asked, inputs, is_watched, is_unseen)
 }
 
 /// Carries out `collect`, and gives the exit status. Threads are started for `--follow` alone.

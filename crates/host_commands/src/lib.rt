@@ -2,6 +2,7 @@
 //! of them, and what is said of a file that can't be read.
 #![tactic(auto)]
 
+mod by_page;
 mod captures;
 mod choose;
 mod feed;
