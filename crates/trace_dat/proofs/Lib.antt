@@ -4,6 +4,7 @@ pub mod EachLoop
 pub mod ChainLoop
 pub mod Spelled
 pub mod SpelledFile
+pub mod Placed
 pub mod SpelledSections
 pub mod SpelledWhole
 pub mod FieldsRead

@@ -1,24 +1,21 @@
 -- What an option leads to doesn't depend on where the option is in the file.
-use Rattle.std.proofs.Common.{◌≡◌, ◌==◌, ℕ, zero, suc, ◌+◌, false, cond, ltb, List, [], ◌∷◌, ◌++◌, length, take, drop}
-use Rattle.std.proofs.Common.{flat_map, Option, Some, None, Ok, refl, sym, ap, ◌∙◌, inl, inr}
+use Rattle.std.proofs.Common.{◌≡◌, ◌==◌, ℕ, ◌+◌, false, cond, ltb, List, [], ◌∷◌, ◌++◌, length, take, drop}
+use Rattle.std.proofs.Common.{flat_map, Option, Some, None, Ok, refl, sym, ap, subst, ◌∙◌, inl, inr}
 use Rattle.std.specs.List.{position}
-use Rattle.std.specs.Int.{Width, w32, w64, byte_len, from_le_bytes}
-use Rattle.trace_dat.specs.declared.entries.TheConstants.{BUFFER, COUNTERS, FORMATS, RING_FORMATS}
+use Rattle.std.specs.Int.{Width, w64, byte_len, from_le_bytes}
+use Rattle.trace_dat.specs.declared.entries.TheConstants.{BUFFER, COUNTERS, MACHINE}
 use Rattle.trace_dat.specs.Parts.{FilePart}
 use Rattle.trace_dat.specs.Fields.{Reading, ◌>>=◌, front, behind, part_at, number_at, text_at, text_to, pointed_at}
-use Rattle.trace_dat.specs.Fields.{range_at, all_at, each_of}
-use Rattle.trace_dat.specs.Contents.{EventFormat, TraceBuffer}
+use Rattle.trace_dat.specs.Fields.{each_of}
+use Rattle.trace_dat.specs.Contents.{TraceBuffer}
 use Rattle.trace_dat.specs.Entries.{FileOption}
-use Rattle.trace_dat.specs.Buffers.{pages_at, numbered_pages_at, buffer_at, instance_at, instance_of, stated_buffer_at}
-use Rattle.trace_dat.specs.Buffers.{buffer_of, counters_of}
-use Rattle.trace_dat.specs.declared.traced_kernel.NameList.{NameList}
-use Rattle.trace_dat.specs.declared.entries.TheConstants.{MACHINE}
-use Rattle.trace_dat.specs.TracedKernel.{section_of, list_at, list_of, before_zero, machine_of, later_of, machine_among}
-use Rattle.trace_dat.specs.Sections.{ring_formats_at, event_formats_at, formats_of}
+use Rattle.trace_dat.specs.Buffers.{buffer_at, instance_at, instance_of, counters_of}
+use Rattle.trace_dat.specs.TracedKernel.{before_zero, machine_of, later_of, machine_among}
+use Rattle.trace_dat.specs.Spelling.{AreFrom}
 use Rattle.trace_dat.proofs.Loops.{same_value}
 use Rattle.trace_dat.proofs.Spelled.{bind_ok, guard_ok}
 use Rattle.trace_dat.proofs.SpelledFile.{chosen}
-use Rattle.trace_dat.proofs.FieldsRead.{step}
+use Rattle.trace_dat.proofs.FieldsRead.{step, same_part}
 
 -- If two parts have the same bytes, the field gives the same value, and the parts after it have the same bytes.
 abbrev pub IsSame : {A : Type 0} → (FilePart → Reading (A × FilePart)) → Type 0
@@ -153,144 +150,16 @@ machine_same (x ∷ xs) (y ∷ ys) same =
 
 -- ---- version 7
 
-ring_same : (file : List ℕ) (p q : FilePart) (found : List EventFormat) → p.bytes ≡ q.bytes
-    → ring_formats_at file p ≡ Ok found → ring_formats_at file q ≡ Ok found
-unfolding ring_formats_at
-ring_same file p q found same e =
-    let a = bind_ok (pointed_at file p) _ found e in
-    let pointer = pointer_same file p q a.0.0 a.0.1 same a.1 in
-    step (pointed_at file q) (a.0.0, pointer.0) _ _ pointer.2 a.2
-
-event_same : (file : List ℕ) (p q : FilePart) (found : List EventFormat) → p.bytes ≡ q.bytes
-    → event_formats_at file p ≡ Ok found → event_formats_at file q ≡ Ok found
-unfolding event_formats_at
-event_same file p q found same e =
-    let a = bind_ok (pointed_at file p) _ found e in
-    let pointer = pointer_same file p q a.0.0 a.0.1 same a.1 in
-    step (pointed_at file q) (a.0.0, pointer.0) _ _ pointer.2 a.2
-
-formats_of_same : (file : List ℕ) → GivesSame (formats_of file)
-unfolding formats_of
-formats_of_same file x y found id body e =
-    if_same x.id y.id RING_FORMATS (ring_formats_at file x.body) (ring_formats_at file y.body)
-    (cond (x.id == FORMATS) (event_formats_at file x.body) (Ok []))
-    (cond (y.id == FORMATS) (event_formats_at file y.body) (Ok [])) found id
-    (λ h. ring_same file x.body y.body found body h)
-    (λ h. if_same x.id y.id FORMATS (event_formats_at file x.body) (event_formats_at file y.body)
-    (Ok []) (Ok []) found id
-    (λ k. event_same file x.body y.body found body k) (λ k. k) h)
-    e
-
-range_same : (file : List ℕ) → IsSame (range_at file)
-unfolding range_at
-range_same file p q found rest same e =
-    let a = bind_ok (pointed_at file p) _ (found, rest) e in
-    let b = bind_ok (number_at w64 a.0.1) _ (found, rest) a.2 in
-    let g = guard_ok (ltb (length a.0.0.bytes) b.0.0) _ (take b.0.0 a.0.0.bytes, b.0.1) (found, rest) b.2 in
-    let pointer = pointer_same file p q a.0.0 a.0.1 same a.1 in
-    let size = number_same w64 a.0.1 pointer.0 b.0.0 b.0.1 pointer.1 b.1 in (
-      size.0,
-      sym (ap (λ x. x.1.bytes) g.1) ∙ size.1,
-      step (pointed_at file q) (a.0.0, pointer.0) _ _ pointer.2
-          (step (number_at w64 pointer.0) (b.0.0, size.0) _ _ size.2 (rw g.0 (ap (λ x. Ok (x.0, size.0)) g.1))),
-    )
-
-pages_same : (file : List ℕ) (cpu : ℕ) → IsSame (pages_at file cpu)
-unfolding pages_at
-pages_same file cpu p q found rest same e =
-    let a = bind_ok (range_at file p) _ (found, rest) e in
-    let range = range_same file p q a.0.0 a.0.1 same a.1 in
-    let is = same_value (record { cpu = cpu; pages = a.0.0 } ∷ [], a.0.1) (found, rest) a.2 in (
-      range.0,
-      sym (ap (λ x. x.1.bytes) is) ∙ range.1,
-      step (range_at file q) (a.0.0, range.0) _ _ range.2 (ap (λ x. Ok (x.0, range.0)) is),
-    )
-
-numbered_same : (file : List ℕ) → IsSame (numbered_pages_at file)
-unfolding numbered_pages_at
-numbered_same file p q found rest same e =
-    let a = bind_ok (number_at w32 p) (λ cpu. pages_at file cpu.0 cpu.1) (found, rest) e in
-    let cpu = number_same w32 p q a.0.0 a.0.1 same a.1 in
-    let pages = pages_same file a.0.0 a.0.1 cpu.0 found rest cpu.1 a.2 in
-    (pages.0, pages.1, step (number_at w32 q) (a.0.0, cpu.0) _ _ cpu.2 pages.2)
-
-all_same : {A : Type 0} (field : ℕ → FilePart → Reading (List A × FilePart)) → ((i : ℕ) → IsSame (field i))
-    → (count i : ℕ) → IsSame (all_at field i count)
-unfolding all_at
-all_same field each zero i p q found rest same e =
-    let is = same_value ([], p) (found, rest) e in
-    (q, sym (ap (λ x. x.1.bytes) is) ∙ same, ap (λ x. Ok (x.0, q)) is)
-all_same field each (suc count) i p q found rest same e =
-    let a = bind_ok (field i p) _ (found, rest) e in
-    let b = bind_ok (all_at field (i + 1) count a.0.1) _ (found, rest) a.2 in
-    let first = each i p q a.0.0 a.0.1 same a.1 in
-    let others = all_same field each count (i + 1) a.0.1 first.0 b.0.0 b.0.1 first.1 b.1 in
-    let is = same_value (a.0.0 ++ b.0.0, b.0.1) (found, rest) b.2 in (
-      others.0,
-      sym (ap (λ x. x.1.bytes) is) ∙ others.1,
-      step (field i q) (a.0.0, first.0) _ _ first.2
-          (step (all_at field (i + 1) count first.0) (b.0.0, others.0) _ _ others.2 (ap (λ x. Ok (x.0, others.0)) is)),
-    )
-
-stated_buffer_same : (file : List ℕ) (p q : FilePart) (found : List TraceBuffer) → p.bytes ≡ q.bytes
-    → stated_buffer_at file p ≡ Ok found → stated_buffer_at file q ≡ Ok found
-unfolding stated_buffer_at
-stated_buffer_same file p q found same e =
-    let a = bind_ok (pointed_at file p) _ found e in
-    let b = bind_ok (text_at a.0.1) _ found a.2 in
-    let c = bind_ok (text_at b.0.1) _ found b.2 in
-    let d = bind_ok (number_at w32 c.0.1) _ found c.2 in
-    let f = bind_ok (number_at w32 d.0.1) _ found d.2 in
-    let g = bind_ok (all_at (λ _. numbered_pages_at file) 0 f.0.0 f.0.1) _ found f.2 in
-    let pointer = pointer_same file p q a.0.0 a.0.1 same a.1 in
-    let name = text_same a.0.1 pointer.0 b.0.0 b.0.1 pointer.1 b.1 in
-    let clock = text_same b.0.1 name.0 c.0.0 c.0.1 name.1 c.1 in
-    let size = number_same w32 c.0.1 clock.0 d.0.0 d.0.1 clock.1 d.1 in
-    let count = number_same w32 d.0.1 size.0 f.0.0 f.0.1 size.1 f.1 in
-    let cpus =
-    all_same (λ _. numbered_pages_at file) (λ i. numbered_same file) f.0.0 0 f.0.1 count.0 g.0.0 g.0.1 count.1 g.1 in
-    step (pointed_at file q) (a.0.0, pointer.0) _ _ pointer.2
-    (step (text_at pointer.0) (b.0.0, name.0) _ _ name.2
-    (step (text_at name.0) (c.0.0, clock.0) _ _ clock.2
-    (step (number_at w32 clock.0) (d.0.0, size.0) _ _ size.2
-    (step (number_at w32 size.0) (f.0.0, count.0) _ _ count.2
-    (step (all_at (λ _. numbered_pages_at file) 0 f.0.0 count.0) (g.0.0, cpus.0) _ _ cpus.2 g.2)))))
-
-buffer_of_same : (file : List ℕ) → GivesSame (buffer_of file)
-unfolding buffer_of
-buffer_of_same file x y found id body e =
-    if_same x.id y.id BUFFER (stated_buffer_at file x.body) (stated_buffer_at file y.body) (Ok []) (Ok []) found id
-    (λ h. stated_buffer_same file x.body y.body found body h) (λ h. h) e
-
-pub formats_same : (file : List ℕ) (xs ys : List FileOption) (found : List EventFormat) → AreSame xs ys
-    → each_of (formats_of file) xs ≡ Ok found → each_of (formats_of file) ys ≡ Ok found
-formats_same file xs ys found same e = each_same (formats_of file) (formats_of_same file) xs ys found same e
-
-pub buffers_same : (file : List ℕ) (xs ys : List FileOption) (found : List TraceBuffer) → AreSame xs ys
-    → each_of (buffer_of file) xs ≡ Ok found → each_of (buffer_of file) ys ≡ Ok found
-buffers_same file xs ys found same e = each_same (buffer_of file) (buffer_of_same file) xs ys found same e
-
-list_at_same : (list : NameList) (file : List ℕ) (p q : FilePart) (found : List (List ℕ)) → p.bytes ≡ q.bytes
-    → list_at list file p ≡ Ok found → list_at list file q ≡ Ok found
-unfolding list_at
-list_at_same list file p q found same e =
-    let a = bind_ok (pointed_at file p) _ found e in
-    let pointer = pointer_same file p q a.0.0 a.0.1 same a.1 in
-    step (pointed_at file q) (a.0.0, pointer.0) _ _ pointer.2 a.2
-
-list_of_same : (list : NameList) (file : List ℕ) → GivesSame (list_of list file)
-unfolding list_of
-list_of_same list file x y found id body e =
-    if_same x.id y.id (section_of list) (list_at list file x.body) (list_at list file y.body) (Ok []) (Ok []) found
-    id (λ h. list_at_same list file x.body y.body found body h) (λ h. h) e
-
-pub lists_same : (list : NameList) (file : List ℕ) (xs ys : List FileOption) (found : List (List ℕ)) → AreSame xs ys
-    → each_of (list_of list file) xs ≡ Ok found → each_of (list_of list file) ys ≡ Ok found
-lists_same list file xs ys found same e =
-    each_same (list_of list file) (list_of_same list file) xs ys found same e
-
-pub AreSame-append : (xs ys zs ts : List FileOption) → AreSame xs ys → AreSame zs ts → AreSame (xs ++ zs) (ys ++ ts)
-AreSame-append [] [] zs ts same more = more
-AreSame-append [] (y ∷ ys) zs ts same more = absurd same
-AreSame-append (x ∷ xs) [] zs ts same more = absurd same
-AreSame-append (x ∷ xs) (y ∷ ys) zs ts same more = (same.0, same.1, AreSame-append xs ys zs ts same.2 more)
+-- options that are equal and in the same places are the same
+pub same_options : (at : ℕ) (xs ys : List FileOption) → AreFrom at xs → AreFrom at ys → AreSame xs ys → xs ≡ ys
+same_options at [] [] p q same = refl
+same_options at [] (y ∷ ys) p q same = absurd same
+same_options at (x ∷ xs) [] p q same = absurd same
+same_options at (x ∷ xs) (y ∷ ys) p q same =
+    let body : x.body ≡ y.body = same_part x.body y.body (p.0 ∙ sym q.0) same.1 in
+    let first : x ≡ y =
+    ap (λ id. record { id = id; body = x.body }) same.0 ∙ ap (λ part. record { id = y.id; body = part }) body in
+    let placed : AreFrom (at + 6 + length x.body.bytes) ys =
+    subst (λ bs. AreFrom (at + 6 + length bs) ys) (sym same.1) q.1 in
+    let others : xs ≡ ys = same_options (at + 6 + length x.body.bytes) xs ys p.1 placed same.2 in
+    ap (λ o. o ∷ xs) first ∙ ap (λ os. y ∷ os) others

@@ -1,6 +1,6 @@
 -- A file that is spelled as version 7 is read so.
 use Rattle.std.proofs.Common.{◌≡◌, ◌==◌, ℕ, zero, suc, ◌+◌, ◌%◌, ◌≤◌, false, List, [], ◌∷◌, ◌++◌, length, drop}
-use Rattle.std.proofs.Common.{flat_map, Some, None, Ok, refl, ap, ◌∙◌, arith, nat_eq}
+use Rattle.std.proofs.Common.{flat_map, Some, None, Ok, refl, sym, ap, subst, ◌∙◌, arith, nat_eq}
 use Rattle.std.specs.List.{starts_with}
 use Rattle.std.specs.Prelude.{codes}
 use Rattle.std.specs.Int.{w16, w32, w64, to_le_bytes}
@@ -18,12 +18,12 @@ use Rattle.trace_dat.specs.TracedKernel.{list_of, machine_among}
 use Rattle.trace_dat.specs.Sections.{section_body_at, section_at, Place, linked_at, link_from, link_at}
 use Rattle.trace_dat.specs.Sections.{options_of_chain, formats_of}
 use Rattle.trace_dat.specs.Versions.{ended, magic, machine, plain_word, version_at, version_seven, reading_of}
-use Rattle.trace_dat.specs.Spelling.{block, options_bytes, HasSection, HasOptions, Linked, IsChain, IsSeven}
+use Rattle.trace_dat.specs.Spelling.{block, options_bytes, HasSection, HasOptions, Linked, AreFrom, IsChain, IsSeven}
 use Rattle.trace_dat.proofs.Spelled.{wide16, wide32, wide64}
 use Rattle.trace_dat.proofs.FieldsRead.{step, Begins, Begins-split, behind_is, number_reads, block_reads, text_reads}
 use Rattle.trace_dat.proofs.FieldsRead.{word_begins, expected_reads}
-use Rattle.trace_dat.proofs.OptionsSame.{AreSame, AreSame-append, formats_same, buffers_same, counters_same}
-use Rattle.trace_dat.proofs.OptionsSame.{machine_same, lists_same}
+use Rattle.trace_dat.proofs.OptionsSame.{same_options}
+use Rattle.trace_dat.proofs.Placed.{options_placed, section_placed}
 use Rattle.trace_dat.proofs.SixRead.{options_read, pointer_reads, same_contents}
 
 -- the part of a file from an offset on
@@ -64,8 +64,7 @@ place_of least at bytes = record { least = least; pointer = record { at = at; by
 -- the options of a section that are read are these, and the next pointer is in these bytes
 abbrev ReadsLinked : List ℕ → ℕ → List FileOption → List ℕ → Type 0
 ReadsLinked file offset options next =
-    (found : List FileOption) × AreSame options found
-    × ((at : ℕ) × (linked_at (from_offset file offset) ≡ Ok (found, Some (place_of (offset + 1) at next))))
+    (at : ℕ) × (linked_at (from_offset file offset) ≡ Ok (options, Some (place_of (offset + 1) at next)))
 
 linked_reads : (file : List ℕ) (offset : ℕ) (options : List FileOption) (next : List ℕ)
     → HasOptions file offset options next → ReadsLinked file offset options next
@@ -77,15 +76,16 @@ linked_reads file offset options next h =
     let whole : Begins body (options_bytes options ++ block w32 next) rest = record { whole = h.whole; after = refl } in
     let a = Begins-split body (options_bytes options) (block w32 next) rest whole in
     let o = options_read options body a.0 h.options_fit a.1 in
-    let k = block_reads w32 wide32 next a.0 rest h.next_fits a.2 in (
-      o.0,
-      o.1,
-      (
-        k.0,
-        step (section_at OPTIONS (from_offset file offset)) body _ _ s.1
-            (step (options_at body) (o.0, a.0) _ _ o.2
-            (step (block_at w32 a.0) (record { at = k.0; bytes = next }, rest) _ _ k.1 refl)),
-      ),
+    let k = block_reads w32 wide32 next a.0 rest h.next_fits a.2 in
+    let placed : AreFrom (offset + 16) o.0 =
+    subst (λ at. AreFrom at o.0) (section_placed OPTIONS (from_offset file offset) body s.1)
+    (options_placed (length h.body + 1) body (o.0, a.0) o.2) in
+    let read : options_at body ≡ Ok (options, a.0) =
+    o.2 ∙ ap (λ os. Ok (os, a.0)) (sym (same_options (offset + 16) options o.0 h.placed placed o.1)) in (
+      k.0,
+      step (section_at OPTIONS (from_offset file offset)) body _ _ s.1
+          (step (options_at body) (options, a.0) _ _ read
+          (step (block_at w32 a.0) (record { at = k.0; bytes = next }, rest) _ _ k.1 refl)),
     )
 
 -- the part after a pointer
@@ -99,8 +99,7 @@ pointer_begins at n bytes rest whole = record { whole = whole; after = refl }
 -- the options of a chain that are read are these
 abbrev ReadsChain : List ℕ → ℕ → Place → List Linked → Type 0
 ReadsChain file count place links =
-    (found : List FileOption) × AreSame (flat_map (λ link. link.options) links) found
-    × (options_of_chain file count place ≡ Ok found)
+    options_of_chain file count place ≡ Ok (flat_map (λ link. link.options) links)
 
 chain_reads : (file : List ℕ) (links : List Linked) (count least at : ℕ) (bytes : List ℕ)
     → length file + 2 ≤ least + count → least ≤ length file + 1 → IsChain file least bytes links
@@ -113,7 +112,7 @@ chain_reads file [] (suc count) least at bytes enough early chain =
     let begins = pointer_begins at 0 bytes chain.0 chain.1 in
     let number = number_reads w64 wide64 0 place.pointer rest (omega arith) begins in
     let link : link_at file place ≡ Ok ([], None) = step (number_at w64 place.pointer) (0, rest) _ _ number refl in
-    ([], tt, step (link_at file place) ([], None) _ _ link refl)
+    step (link_at file place) ([], None) _ _ link refl
 chain_reads file (first ∷ links) (suc count) least at bytes enough early chain =
     let offset = first.offset in
     let place : Place = place_of least at bytes in
@@ -121,23 +120,20 @@ chain_reads file (first ∷ links) (suc count) least at bytes enough early chain
     let begins = pointer_begins at offset bytes chain.0 chain.1 in
     let inside : offset ≤ length file = chain.4.section.inside in
     let l = linked_reads file offset first.options first.next chain.4 in
-    let next : Place = place_of (offset + 1) l.2.0 first.next in
-    let from : link_from file place ≡ Ok (l.0, Some next) =
+    let next : Place = place_of (offset + 1) l.0 first.next in
+    let from : link_from file place ≡ Ok (first.options, Some next) =
     step (pointed_at file place.pointer) (from_offset file offset, rest) _ _
     (pointer_reads file offset place.pointer rest chain.6 inside begins)
-    (rw (le-ltb offset least chain.3) l.2.1) in
-    let link : link_at file place ≡ Ok (l.0, Some next) =
+    (rw (le-ltb offset least chain.3) l.1) in
+    let link : link_at file place ≡ Ok (first.options, Some next) =
     step (number_at w64 place.pointer) (offset, rest) _ _
     (number_reads w64 wide64 offset place.pointer rest chain.6 begins)
     (rw (ne_eqb offset 0 chain.2) from) in
     let still_enough : length file + 2 ≤ offset + 1 + count = omega (arith, enough, chain.3) in
     let others =
-    chain_reads file links count (offset + 1) l.2.0 first.next still_enough (omega (arith, inside)) chain.5 in (
-      l.0 ++ others.0,
-      AreSame-append first.options l.0 (flat_map (λ link. link.options) links) others.0 l.1 others.1,
-      step (link_at file place) (l.0, Some next) _ _ link
-          (step (options_of_chain file count next) others.0 _ _ others.2 refl),
-    )
+    chain_reads file links count (offset + 1) l.0 first.next still_enough (omega (arith, inside)) chain.5 in
+    step (link_at file place) (first.options, Some next) _ _ link
+    (step (options_of_chain file count next) (flat_map (λ link. link.options) links) _ _ others refl)
 
 -- ---- the whole
 
@@ -152,25 +148,19 @@ seven_reads file contents seven at =
     let options = flat_map (λ link. link.options) seven.links in
     let chain =
     chain_reads file seven.links (length file + 2) 0 b.at seven.pointer (omega arith) (omega arith) seven.chain in
-    let counters = seven.counters ∙ counters_same options chain.0 chain.1 in
-    let said = seven.machine ∙ machine_same options chain.0 chain.1 in
     let same =
-    same_contents contents contents.formats contents.buffers (flat_map counters_of chain.0) contents.symbols
-    contents.tasks (machine_among chain.0) refl refl counters refl refl said in
+    same_contents contents contents.formats contents.buffers (flat_map counters_of options) contents.symbols
+    contents.tasks (machine_among options) refl refl seven.counters refl refl seven.machine in
     let place : Place = record { least = 0; pointer = b } in
     step (expected_at plain_word Compressed part) a _ _
     (expected_reads plain_word Compressed part a (record { whole = refl; after = refl }))
     (step (text_at a) (seven.release, b) _ _
     (text_reads seven.release a b seven.release_ends (record { whole = refl; after = refl }))
-    (step (options_of_chain file (length file + 2) place) chain.0 _ _ chain.2
-    (step (each_of (formats_of file) chain.0) contents.formats _ _
-    (formats_same file options chain.0 contents.formats chain.1 seven.formats)
-    (step (each_of (buffer_of file) chain.0) contents.buffers _ _
-    (buffers_same file options chain.0 contents.buffers chain.1 seven.buffers)
-    (step (each_of (list_of Symbols file) chain.0) contents.symbols _ _
-    (lists_same Symbols file options chain.0 contents.symbols chain.1 seven.symbols)
-    (step (each_of (list_of Tasks file) chain.0) contents.tasks _ _
-    (lists_same Tasks file options chain.0 contents.tasks chain.1 seven.tasks)
+    (step (options_of_chain file (length file + 2) place) options _ _ chain
+    (step (each_of (formats_of file) options) contents.formats _ _ seven.formats
+    (step (each_of (buffer_of file) options) contents.buffers _ _ seven.buffers
+    (step (each_of (list_of Symbols file) options) contents.symbols _ _ seven.symbols
+    (step (each_of (list_of Tasks file) options) contents.tasks _ _ seven.tasks
     (ap (λ x. Ok x) same)))))))
 
 version_seven_reads : (part rest : FilePart) (more : List ℕ) → part.bytes ≡ ended (codes "7") ++ more

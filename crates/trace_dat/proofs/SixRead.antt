@@ -1,29 +1,29 @@
 -- A file that is spelled as version 6 is read so.
-use Rattle.std.proofs.Common.{◌≡◌, ◌==◌, ℕ, zero, suc, ◌+◌, ◌<◌, ◌≤◌, true, false, ltb, List, [], ◌∷◌, ◌++◌, length}
-use Rattle.std.proofs.Common.{take, drop, flat_map, Option, Some, None, Ok, refl, sym, ap, subst, ◌∙◌, append_assoc}
+use Rattle.std.proofs.Common.{◌≡◌, ◌==◌, ℕ, zero, suc, ◌+◌, ◌-◌, ◌*◌, ◌<◌, ◌≤◌, true, false, List, [], ◌∷◌, ◌++◌}
+use Rattle.std.proofs.Common.{length, drop, flat_map, Option, Some, None, Ok, refl, sym, ap, subst, ◌∙◌, append_assoc}
 use Rattle.std.proofs.Common.{arith, length-append, nat_eq}
 use Rattle.std.specs.Prelude.{codes, unwrap_or}
 use Rattle.std.specs.List.{AllByRecursion, starts_with}
 use Rattle.std.specs.Int.{w16, w32, w64, to_le_bytes}
 use Rattle.std.proofs.lemmas.Bool.{le-ltb, ne_eqb}
-use Rattle.std.proofs.lemmas.List.{length-drop}
 use Rattle.trace_dat.specs.declared.fault.Cause.TheVariants.{NotTraceDat, OtherMachine, Misplaced}
 use Rattle.trace_dat.specs.declared.read.Version.TheVariants.{Six}
 use Rattle.trace_dat.specs.declared.entries.TheConstants.{DONE}
 use Rattle.trace_dat.specs.Parts.{FilePart}
-use Rattle.trace_dat.specs.Fields.{number_at, block_at, expected_at, pointed_at, range_at, all_at, each_of}
-use Rattle.trace_dat.specs.Contents.{EventFormat, Recorded, TraceBuffer, Contents}
+use Rattle.trace_dat.specs.Fields.{number_at, block_at, expected_at, pointed_at, extent_of, range_at, all_at, each_of}
+use Rattle.trace_dat.specs.Contents.{EventFormat, TraceBuffer, Contents}
 use Rattle.trace_dat.specs.Entries.{FileOption, body_at, option_at, options_among, options_at}
 use Rattle.trace_dat.specs.Buffers.{ranges_word, pages_at, buffer_at, instance_of, counters_of}
 use Rattle.trace_dat.specs.Versions.{ended, magic, machine, options_word, all_formats_at, stated_options_at}
-use Rattle.trace_dat.specs.TracedKernel.{lists_at, machine_among}
 use Rattle.trace_dat.specs.Versions.{version_six, version_at, reading_of}
+use Rattle.trace_dat.specs.TracedKernel.{lists_at, machine_among}
 use Rattle.trace_dat.specs.Spelling.{Fits, OptionFits, RangeFits, block, six_bytes, six_formats, option_bytes}
-use Rattle.trace_dat.specs.Spelling.{options_bytes, stated_bytes, Range, range_bytes, IsInside, numbered_pages}
-use Rattle.trace_dat.specs.Spelling.{SixParts, IsSix}
+use Rattle.trace_dat.specs.Spelling.{options_bytes, stated_bytes, Range, range_bytes, recorded_of, numbered_pages}
+use Rattle.trace_dat.specs.Spelling.{SixParts, six_file_bytes, IsSix}
 use Rattle.trace_dat.proofs.Spelled.{wide16, wide32, wide64}
 use Rattle.trace_dat.proofs.FieldsRead.{step, Begins, Begins-split, Begins-nothing, behind_is, number_reads}
-use Rattle.trace_dat.proofs.FieldsRead.{block_reads, word_begins, expected_reads, all_read, front_reads}
+use Rattle.trace_dat.proofs.FieldsRead.{block_reads, word_begins, expected_reads, front_reads}
+use Rattle.trace_dat.proofs.SpelledFile.{ranges_length, main_buffer}
 use Rattle.trace_dat.proofs.OptionsSame.{AreSame, instances_same, counters_same, machine_same}
 
 -- ---- options
@@ -128,51 +128,48 @@ pointer_reads file offset part rest fits inside p =
     step (number_at w64 part) (offset, rest) _ _ (number_reads w64 wide64 offset part rest fits p)
     (rw (le-ltb (length file) offset inside) refl)
 
-range_reads : (file : List ℕ) (range : Range) (part rest : FilePart) → RangeFits range → IsInside file range
-    → Begins part (range_bytes range) rest → range_at file part ≡ Ok (take range.size (drop range.offset file), rest)
+range_reads : (file : List ℕ) (range : Range) (part rest : FilePart) → RangeFits range
+    → Begins part (range_bytes range) rest
+    → range_at file part ≡ Ok (extent_of file part.at range.offset range.size, rest)
 unfolding range_at
-range_reads file range part rest fits inside p =
+range_reads file range part rest fits p =
     let s = Begins-split part (to_le_bytes w64 range.offset) (to_le_bytes w64 range.size) rest p in
-    let there : FilePart = record { at = range.offset; bytes = drop range.offset file } in
-    let enough : ltb (length (drop range.offset file)) range.size ≡ false =
-    le-ltb _ _ (omega (arith, inside, length-drop range.offset file)) in
-    step (pointed_at file part) (there, s.0) _ _
-    (pointer_reads file range.offset part s.0 fits.0 (omega (arith, inside)) s.1)
-    (step (number_at w64 s.0) (range.size, rest) _ _ (number_reads w64 wide64 range.size s.0 rest fits.1 s.2)
-    (rw enough refl))
+    step (number_at w64 part) (range.offset, s.0) _ _ (number_reads w64 wide64 range.offset part s.0 fits.0 s.1)
+    (step (number_at w64 s.0) (range.size, rest) _ _ (number_reads w64 wide64 range.size s.0 rest fits.1 s.2) refl)
 
-abbrev one_cpu : List ℕ → ℕ → Range → List Recorded
-one_cpu file cpu range = record { cpu = cpu; pages = take range.size (drop range.offset file) } ∷ []
-
-abbrev IsRange : List ℕ → Range → Type 0
-IsRange file range = RangeFits range × IsInside file range
-
-pages_read : (file : List ℕ) (cpu : ℕ) (range : Range) (part rest : FilePart) → IsRange file range
-    → Begins part (range_bytes range) rest → pages_at file cpu part ≡ Ok (one_cpu file cpu range, rest)
+pages_read : (file : List ℕ) (cpu : ℕ) (range : Range) (part rest : FilePart) → RangeFits range
+    → Begins part (range_bytes range) rest → pages_at file cpu part ≡ Ok (recorded_of file part.at cpu range ∷ [], rest)
 unfolding pages_at
 pages_read file cpu range part rest fits p =
-    step (range_at file part) (take range.size (drop range.offset file), rest) _ _
-    (range_reads file range part rest fits.0 fits.1 p) refl
+    step (range_at file part) (extent_of file part.at range.offset range.size, rest) _ _
+    (range_reads file range part rest fits p) refl
 
-both : (file : List ℕ) (ranges : List Range) → AllByRecursion RangeFits ranges → AllByRecursion (IsInside file) ranges
-    → AllByRecursion (IsRange file) ranges
-both file [] fits inside = tt
-both file (range ∷ ranges) fits inside = ((fits.0, inside.0), both file ranges fits.1 inside.1)
+cpus_read : (file : List ℕ) (ranges : List Range) (cpu : ℕ) (part rest : FilePart) → AllByRecursion RangeFits ranges
+    → Begins part (flat_map range_bytes ranges) rest
+    → all_at (pages_at file) cpu (length ranges) part ≡ Ok (numbered_pages file part.at cpu ranges, rest)
+unfolding all_at
+cpus_read file [] cpu part rest fits p = ap (λ r. Ok ([], r)) (Begins-nothing part rest p)
+cpus_read file (range ∷ ranges) cpu part rest fits p =
+    let s = Begins-split part (range_bytes range) (flat_map range_bytes ranges) rest p in
+    let next : numbered_pages file s.0.at (cpu + 1) ranges ≡ numbered_pages file (part.at + 16) (cpu + 1) ranges =
+    ap (λ at. numbered_pages file at (cpu + 1) ranges) s.1.after in
+    step (pages_at file cpu part) (recorded_of file part.at cpu range ∷ [], s.0) _ _
+    (pages_read file cpu range part s.0 fits.0 s.1)
+    (step (all_at (pages_at file) (cpu + 1) (length ranges) s.0) (numbered_pages file s.0.at (cpu + 1) ranges, rest) _ _
+    (cpus_read file ranges (cpu + 1) s.0 rest fits.1 s.2)
+    (ap (λ xs. Ok (recorded_of file part.at cpu range ∷ xs, rest)) next))
 
 buffer_reads : (file : List ℕ) (page_size : ℕ) (ranges : List Range) (part rest : FilePart)
-    → AllByRecursion RangeFits ranges → AllByRecursion (IsInside file) ranges
-    → Begins part (ranges_word ++ flat_map range_bytes ranges) rest
-    → buffer_at file page_size (length ranges) [] part
-    ≡ Ok (record { name = []; page_size = page_size; cpus = numbered_pages file 0 ranges } ∷ [])
+    → AllByRecursion RangeFits ranges → Begins part (ranges_word ++ flat_map range_bytes ranges) rest
+    → buffer_at file page_size (length ranges) [] part ≡ Ok (main_buffer file page_size rest.at ranges ∷ [])
 unfolding buffer_at
-buffer_reads file page_size ranges part rest fits inside p =
+buffer_reads file page_size ranges part rest fits p =
     let s = Begins-split part ranges_word (flat_map range_bytes ranges) rest p in
+    let from : s.0.at ≡ rest.at - 16 * length ranges = omega (arith, s.2.after, ranges_length ranges) in
     step (expected_at ranges_word Misplaced part) s.0 _ _ (expected_reads ranges_word Misplaced part s.0 s.1)
-    (step (all_at (pages_at file) 0 (length ranges) s.0) (numbered_pages file 0 ranges, rest) _ _
-    (all_read (pages_at file) range_bytes (one_cpu file) (numbered_pages file) (IsRange file)
-    (record { none = λ i. refl; more = λ i x xs. refl; reads = λ i x here later. pages_read file i x here later })
-    ranges 0 s.0 rest (both file ranges fits inside) s.2)
-    refl)
+    (step (all_at (pages_at file) 0 (length ranges) s.0) (numbered_pages file s.0.at 0 ranges, rest) _ _
+    (cpus_read file ranges 0 s.0 rest fits s.2)
+    (ap (λ at. Ok (record { name = []; page_size = page_size; cpus = numbered_pages file at 0 ranges } ∷ [])) from))
 
 -- ---- the whole
 
@@ -199,10 +196,10 @@ body_bytes parts =
     ++ (stated_bytes parts.options ++ (ranges_word ++ flat_map range_bytes parts.ranges)))
 
 six_reads : (file : List ℕ) (contents : Contents) (six : IsSix file contents) (part rest : FilePart)
-    → Begins part (body_bytes six.parts) rest
+    → Begins part (body_bytes six.parts) rest → rest.at ≡ length (six_file_bytes six.parts)
     → version_six file six.parts.page_size part ≡ Ok contents
 unfolding version_six
-six_reads file contents six part rest p =
+six_reads file contents six part rest p end =
     let size = six.parts.page_size in
     let texts = six.parts.texts in
     let ranges = six.parts.ranges in
@@ -216,7 +213,7 @@ six_reads file contents six part rest p =
     let next : c.0.bytes ≡ ranges_word ++ (flat_map range_bytes ranges ++ rest.bytes) =
     c.2.whole ∙ append_assoc ranges_word (flat_map range_bytes ranges) rest.bytes in
     let found = stated_read options b.0 c.0 (flat_map range_bytes ranges ++ rest.bytes) six.fits.options c.1 next in
-    let main : TraceBuffer = record { name = []; page_size = size; cpus = numbered_pages file 0 ranges } in
+    let main : TraceBuffer = main_buffer file size (length (six_file_bytes six.parts)) ranges in
     let instances =
     instances_same file size (length ranges) (unwrap_or options []) found.0 six.instances found.1 six.named in
     let counters = six.counters ∙ counters_same (unwrap_or options []) found.0 found.1 in
@@ -231,7 +228,8 @@ six_reads file contents six part rest p =
     (number_reads w32 wide32 (length ranges) a.0 b.0 six.fits.cpus b.1)
     (step (stated_options_at b.0) (found.0, c.0) _ _ found.2
     (step (buffer_at file size (length ranges) [] c.0) (main ∷ []) _ _
-    (buffer_reads file size ranges c.0 rest six.fits.ranges six.inside c.2)
+    (buffer_reads file size ranges c.0 rest six.fits.ranges c.2
+    ∙ ap (λ at. Ok (main_buffer file size at ranges ∷ [])) end)
     (step (each_of (instance_of file size (length ranges)) found.0) six.instances _ _ instances
     (ap (λ x. Ok x) same))))))
 
@@ -261,4 +259,4 @@ six_is_read file contents six =
     (step (expected_at machine OtherMachine b.0) c.0 _ _ (expected_reads machine OtherMachine b.0 c.0 c.1)
     (step (number_at w32 c.0) (parts.page_size, d.0) _ _
     (number_reads w32 wide32 parts.page_size c.0 d.0 six.fits.page_size d.1)
-    (six_reads file contents six d.0 rest d.2))))
+    (six_reads file contents six d.0 rest d.2 refl))))

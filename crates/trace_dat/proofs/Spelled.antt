@@ -1,7 +1,7 @@
 -- What is read at the front of a part is spelled there.
 use Rattle.std.proofs.Common.{◌≡◌, ◌==◌, ℕ, zero, suc, ◌+◌, ◌<◌, ◌≤◌, Bool, true, false, cond, ltb, List, [], ◌∷◌, ◌++◌}
 use Rattle.std.proofs.Common.{length, take, drop, flat_map, Option, Some, None, Ok, Err, refl, sym, ap, subst, ◌∙◌}
-use Rattle.std.proofs.Common.{append_assoc, arith, inl, inr}
+use Rattle.std.proofs.Common.{append_assoc, arith, length-append, inl, inr}
 use Rattle.std.specs.Prelude.{nat_eq}
 use Rattle.std.specs.List.{AllByRecursion, position, starts_with}
 use Rattle.std.specs.Int.{Width, w16, w32, w64, byte_len, from_le_bytes, to_le_bytes}
@@ -48,15 +48,26 @@ pub guard_ok : {A : Type 0} (b : Bool) (d : Fault) (x y : A) → cond b (Err d) 
 guard_ok true d x y e = absurd cc
 guard_ok false d x y e = (refl, cc)
 
+pub failed_test : {A : Type 0} (b : Bool) (d : Fault) (r : Reading A) (y : A) → cond b (Err d) r ≡ Ok y
+    → (b ≡ false) × (r ≡ Ok y)
+failed_test true d r y e = absurd cc
+failed_test false d r y e = (refl, e)
+
 -- these bytes are at the front of a part, and the rest is after them
 pub record Takes (part : FilePart) (bytes : List ℕ) (rest : FilePart) : Type 0 where
   pub whole : part.bytes ≡ bytes ++ rest.bytes
+  pub after : rest.at ≡ part.at + length bytes
   pub fits : IsBytes rest.bytes
+
+-- nothing is at the front of every part
+pub Takes-nothing : (part : FilePart) → IsBytes part.bytes → Takes part [] part
+Takes-nothing part fits = record { whole = refl; after = omega arith; fits = fits }
 
 pub Takes-then : (a : FilePart) (x : List ℕ) (b : FilePart) (y : List ℕ) (c : FilePart) → Takes a x b → Takes b y c
     → Takes a (x ++ y) c
 Takes-then a x b y c p q = record {
   whole = p.whole ∙ ap (λ t. x ++ t) q.whole ∙ sym (append_assoc x y c.bytes);
+  after = omega (arith, p.after, q.after, length-append x y);
   fits = q.fits;
 }
 
@@ -71,7 +82,11 @@ part_takes len part body rest fits e =
     (body, rest) e in
     let enough : len ≤ length part.bytes = ltb-false _ _ g.0 in
     let whole : Takes part (take len part.bytes) (behind len part) =
-    record { whole = sym (take-append-drop len part.bytes); fits = IsBytes-drop len part.bytes fits } in
+    record {
+      whole = sym (take-append-drop len part.bytes);
+      after = omega (arith, enough, length-take len part.bytes);
+      fits = IsBytes-drop len part.bytes fits;
+    } in
     subst (λ x. Takes part x.0.bytes x.1 × (length x.0.bytes ≡ len) × IsBytes x.0.bytes) g.1
     (whole, omega (arith, length-take len part.bytes), IsBytes-take len part.bytes fits)
 
@@ -153,7 +168,12 @@ text_to_takes (Some len) part text rest fits there e =
     sym (take-append-drop len part.bytes) ∙ ap (λ bs. take len part.bytes ++ bs) cell
     ∙ sym (append_assoc (take len part.bytes) (0 ∷ []) (drop (len + 1) part.bytes)) in
     let whole : Takes part (ended (take len part.bytes)) (behind (len + 1) part) =
-    record { whole = parts; fits = IsBytes-drop (len + 1) part.bytes fits } in
+    record {
+      whole = parts;
+      after =
+          omega (arith, found.0, length-take len part.bytes, length-append (take len part.bytes) (0 ∷ []));
+      fits = IsBytes-drop (len + 1) part.bytes fits;
+    } in
     subst (λ x. Takes part (ended x.0) x.1) (same_value (take len part.bytes, behind (len + 1) part) (text, rest) e)
     whole
 
@@ -188,6 +208,7 @@ pub word_takes : (text : List ℕ) (part : FilePart) → IsBytes part.bytes → 
     → Takes part text (behind (length text) part)
 word_takes text part fits begins = record {
   whole = (starts_is (λ a b. Decides-eqb a b) part.bytes text (starts_with nat_eq part.bytes text) refl).0 begins;
+  after = refl;
   fits = IsBytes-drop (length text) part.bytes fits;
 }
 
@@ -231,7 +252,7 @@ each_format_takes : (system : List ℕ) (count index : ℕ) (part : FilePart) (f
 unfolding all_at
 each_format_takes system zero index part found rest fits e =
     let same = same_value ([], part) (found, rest) e in
-    subst (λ x. SpellsFormats system 0 part x.0 x.1) same ([], refl, record { whole = refl; fits = fits }, refl, tt)
+    subst (λ x. SpellsFormats system 0 part x.0 x.1) same ([], refl, Takes-nothing part fits, refl, tt)
 each_format_takes system (suc count) index part found rest fits e =
     let b =
     bind_ok (format_at system part)
@@ -306,7 +327,7 @@ each_system_takes : (count index : ℕ) (part : FilePart) (found : List EventFor
 unfolding all_at
 each_system_takes zero index part found rest fits e =
     let same = same_value ([], part) (found, rest) e in
-    subst (λ x. SpellsSystems 0 part x.0 x.1) same ([], refl, record { whole = refl; fits = fits }, refl, tt)
+    subst (λ x. SpellsSystems 0 part x.0 x.1) same ([], refl, Takes-nothing part fits, refl, tt)
 each_system_takes (suc count) index part found rest fits e =
     let b =
     bind_ok (system_at part)

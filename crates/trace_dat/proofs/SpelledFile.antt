@@ -1,31 +1,30 @@
 -- A file of version 6 that is read is spelled so, as a whole.
-use Rattle.std.proofs.Common.{◌≡◌, ◌≢◌, ◌==◌, ℕ, zero, suc, ◌+◌, ◌≤◌, ◌⊎◌, Bool, true, false, cond, ltb, List, [], ◌∷◌}
-use Rattle.std.proofs.Common.{◌++◌, length, take, drop, flat_map, Option, Some, None, Ok, Err, refl, sym, ap, subst}
-use Rattle.std.proofs.Common.{◌∙◌, append_assoc, arith, inl, inr, nat_eq}
+use Rattle.std.proofs.Common.{◌≡◌, ◌≢◌, ◌==◌, ℕ, zero, suc, ◌+◌, ◌-◌, ◌*◌, ◌≤◌, ◌⊎◌, Bool, true, false, cond, List}
+use Rattle.std.proofs.Common.{[], ◌∷◌, ◌++◌, length, drop, flat_map, Option, Some, None, Ok, Err, refl, sym, ap, subst}
+use Rattle.std.proofs.Common.{◌∙◌, append_assoc, arith, length-append, inl, inr, nat_eq}
 use Rattle.std.specs.Prelude.{codes, unwrap_or}
 use Rattle.std.specs.List.{AllByRecursion, starts_with}
 use Rattle.std.specs.Int.{w16, w32, w64, to_le_bytes}
-use Rattle.std.proofs.lemmas.Bool.{ltb-false, eqb-true, eqb-false}
-use Rattle.std.proofs.lemmas.List.{length-drop}
-use Rattle.trace_dat.specs.declared.fault.Cause.TheVariants.{BadVersion, Misplaced, OutsideFile}
+use Rattle.std.proofs.lemmas.Bool.{eqb-true, eqb-false}
+use Rattle.trace_dat.specs.declared.fault.Cause.TheVariants.{BadVersion, Misplaced}
 use Rattle.trace_dat.specs.declared.read.Version.{Version}
 use Rattle.trace_dat.specs.declared.read.Version.TheVariants.{Six, Seven}
 use Rattle.trace_dat.specs.declared.entries.TheConstants.{DONE}
-use Rattle.trace_dat.specs.Parts.{FilePart}
-use Rattle.trace_dat.specs.Fields.{Reading, ◌>>=◌, fault_at, behind, number_at, block_at, expected_at, pointed_at}
-use Rattle.trace_dat.specs.Fields.{range_at, all_at, each_of}
+use Rattle.trace_dat.specs.Parts.{FilePart, FileExtent}
+use Rattle.trace_dat.specs.Fields.{Reading, ◌>>=◌, fault_at, behind, number_at, block_at, expected_at}
+use Rattle.trace_dat.specs.Fields.{extent_of, range_at, all_at, each_of}
 use Rattle.trace_dat.specs.Contents.{Recorded, TraceBuffer, Contents}
 use Rattle.trace_dat.specs.Entries.{FileOption, body_at, option_at, option_then, options_among, options_at}
 use Rattle.trace_dat.specs.Buffers.{ranges_word, pages_at, buffer_at, instance_of, counters_of}
-use Rattle.trace_dat.specs.Versions.{ended, options_word, all_formats_at, stated_options_at, version_six}
+use Rattle.trace_dat.specs.Versions.{ended, options_word, all_formats_at, stated_options_at, version_six, version_at}
 use Rattle.trace_dat.specs.TracedKernel.{lists_at, machine_among}
-use Rattle.trace_dat.specs.Versions.{version_at}
 use Rattle.trace_dat.specs.Spelling.{IsBytes, Fits, OptionFits, RangeFits, SixTextsFit, block, SixTexts, six_bytes}
 use Rattle.trace_dat.specs.Spelling.{six_formats, option_bytes, options_bytes, stated_bytes, Range, range_bytes}
-use Rattle.trace_dat.specs.Spelling.{IsInside, numbered_pages}
+use Rattle.trace_dat.specs.Spelling.{recorded_of, numbered_pages}
 use Rattle.trace_dat.proofs.Loops.{same_value}
-use Rattle.trace_dat.proofs.Spelled.{wide16, wide32, wide64, Takes, Takes-then, bind_ok, guard_ok, passed_ok}
-use Rattle.trace_dat.proofs.Spelled.{number_takes, number_fits, block_takes, word_takes, expected_takes, front_takes}
+use Rattle.trace_dat.proofs.Spelled.{wide16, wide32, wide64, Takes, Takes-nothing, Takes-then, bind_ok}
+use Rattle.trace_dat.proofs.Spelled.{passed_ok, number_takes, number_fits, block_takes, word_takes, expected_takes}
+use Rattle.trace_dat.proofs.Spelled.{front_takes}
 
 -- which way a test went
 pub chosen : {A : Type 0} (b : Bool) (x y z : A) → cond b x y ≡ z → ((b ≡ true) × (x ≡ z)) ⊎ ((b ≡ false) × (y ≡ z))
@@ -123,91 +122,64 @@ stated_options_take part found rest fits e =
           (λ x.
           (options : Option (List FileOption)) × Takes part (stated_bytes options) x.1
           × (x.0 ≡ unwrap_or options []) × AllByRecursion OptionFits (unwrap_or options []))
-          (same_value ([], part) (found, rest) not_there.1) (None, record { whole = refl; fits = fits }, refl, tt)
+          (same_value ([], part) (found, rest) not_there.1) (None, Takes-nothing part fits, refl, tt)
     ]
 
 -- ---- pages
 
-pub pointer_takes : (file : List ℕ) (part there rest : FilePart) → IsBytes part.bytes
-    → pointed_at file part ≡ Ok (there, rest)
-    → Takes part (to_le_bytes w64 there.at) rest × (there.bytes ≡ drop there.at file) × (there.at ≤ length file)
-    × Fits w64 there.at
-unfolding pointed_at
-pointer_takes file part there rest fits e =
-    let b =
-    bind_ok (number_at w64 part)
-    (λ offset.
-    cond (ltb (length file) offset.0) (Err (record { cause = OutsideFile; at = part.at }))
-    (Ok (record { at = offset.0; bytes = drop offset.0 file }, offset.1))) (there, rest) e in
-    let n = number_takes w64 wide64 part b.0.0 b.0.1 fits b.1 in
-    let g =
-    guard_ok (ltb (length file) b.0.0) (record { cause = OutsideFile; at = part.at })
-    (record { at = b.0.0; bytes = drop b.0.0 file }, b.0.1) (there, rest) b.2 in
-    subst
-    (λ x.
-    Takes part (to_le_bytes w64 x.0.at) x.1 × (x.0.bytes ≡ drop x.0.at file) × (x.0.at ≤ length file)
-    × Fits w64 x.0.at) g.1
-    (n, refl, ltb-false _ _ g.0, number_fits w64 wide64 part b.0.0 b.0.1 fits b.1)
-
--- the bytes that a range means are spelled by it
-abbrev SpellsRange : List ℕ → FilePart → List ℕ → FilePart → Type 0
+-- what the file has of a range is spelled by it
+abbrev SpellsRange : List ℕ → FilePart → FileExtent → FilePart → Type 0
 SpellsRange file part found rest =
-    (range : Range) × Takes part (range_bytes range) rest × IsInside file range
-    × (found ≡ take range.size (drop range.offset file)) × RangeFits range
+    (range : Range) × Takes part (range_bytes range) rest × (found ≡ extent_of file part.at range.offset range.size)
+    × RangeFits range
 
-range_takes : (file : List ℕ) (part : FilePart) (found : List ℕ) (rest : FilePart) → IsBytes part.bytes
+range_takes : (file : List ℕ) (part : FilePart) (found : FileExtent) (rest : FilePart) → IsBytes part.bytes
     → range_at file part ≡ Ok (found, rest) → SpellsRange file part found rest
 unfolding range_at
 range_takes file part found rest fits e =
     let a =
-    bind_ok (pointed_at file part)
-    (λ from. number_at w64 from.1 >>= λ size.
-    cond (ltb (length from.0.bytes) size.0) (Err (record { cause = OutsideFile; at = part.at }))
-    (Ok (take size.0 from.0.bytes, size.1))) (found, rest) e in
+    bind_ok (number_at w64 part)
+    (λ offset. number_at w64 offset.1 >>= λ size. Ok (extent_of file part.at offset.0 size.0, size.1)) (found, rest)
+    e in
     let b =
-    bind_ok (number_at w64 a.0.1)
-    (λ size.
-    cond (ltb (length a.0.0.bytes) size.0) (Err (record { cause = OutsideFile; at = part.at }))
-    (Ok (take size.0 a.0.0.bytes, size.1))) (found, rest) a.2 in
-    let p = pointer_takes file part a.0.0 a.0.1 fits a.1 in
-    let n = number_takes w64 wide64 a.0.1 b.0.0 b.0.1 p.0.fits b.1 in
-    let g =
-    guard_ok (ltb (length a.0.0.bytes) b.0.0) (record { cause = OutsideFile; at = part.at })
-    (take b.0.0 a.0.0.bytes, b.0.1) (found, rest) b.2 in
-    let enough : b.0.0 ≤ length a.0.0.bytes = ltb-false _ _ g.0 in
-    let len : length a.0.0.bytes ≡ length (drop a.0.0.at file) = ap (λ bs. length bs) p.1 in
-    let range : Range = record { offset = a.0.0.at; size = b.0.0 } in
-    subst (λ x. SpellsRange file part x.0 x.1) g.1 (
-      range,
-      Takes-then part (to_le_bytes w64 a.0.0.at) a.0.1 (to_le_bytes w64 b.0.0) b.0.1 p.0 n,
-      omega (arith, enough, len, p.2, length-drop a.0.0.at file),
-      ap (λ bs. take b.0.0 bs) p.1,
-      (p.3, number_fits w64 wide64 a.0.1 b.0.0 b.0.1 p.0.fits b.1),
+    bind_ok (number_at w64 a.0.1) (λ size. Ok (extent_of file part.at a.0.0 size.0, size.1)) (found, rest) a.2 in
+    let m = number_takes w64 wide64 part a.0.0 a.0.1 fits a.1 in
+    let n = number_takes w64 wide64 a.0.1 b.0.0 b.0.1 m.fits b.1 in
+    subst (λ x. SpellsRange file part x.0 x.1)
+    (same_value (extent_of file part.at a.0.0 b.0.0, b.0.1) (found, rest) b.2) (
+      record { offset = a.0.0; size = b.0.0 },
+      Takes-then part (to_le_bytes w64 a.0.0) a.0.1 (to_le_bytes w64 b.0.0) b.0.1 m n,
+      refl,
+      (
+        number_fits w64 wide64 part a.0.0 a.0.1 fits a.1,
+        number_fits w64 wide64 a.0.1 b.0.0 b.0.1 m.fits b.1,
+      ),
     )
 
 -- the pages of this count of CPUs are spelled by their ranges
 abbrev SpellsPages : List ℕ → ℕ → ℕ → FilePart → List Recorded → FilePart → Type 0
 SpellsPages file cpu count part found rest =
     (ranges : List Range) × (length ranges ≡ count) × Takes part (flat_map range_bytes ranges) rest
-    × AllByRecursion (IsInside file) ranges × (found ≡ numbered_pages file cpu ranges) × AllByRecursion RangeFits ranges
+    × (found ≡ numbered_pages file part.at cpu ranges) × AllByRecursion RangeFits ranges
 
 one_cpu_takes : (file : List ℕ) (cpu : ℕ) (part : FilePart) (found : List Recorded) (rest : FilePart)
     → IsBytes part.bytes
     → pages_at file cpu part ≡ Ok (found, rest)
-    → (range : Range) × Takes part (range_bytes range) rest × IsInside file range
-    × (found ≡ record { cpu = cpu; pages = take range.size (drop range.offset file) } ∷ []) × RangeFits range
+    → (range : Range) × Takes part (range_bytes range) rest × (found ≡ recorded_of file part.at cpu range ∷ [])
+    × RangeFits range
 unfolding pages_at
 one_cpu_takes file cpu part found rest fits e =
     let b =
-    bind_ok (range_at file part) (λ range. Ok (record { cpu = cpu; pages = range.0 } ∷ [], range.1)) (found, rest)
+    bind_ok (range_at file part)
+    (λ range. Ok (record { cpu = cpu; pages = range.0.bytes; fault = range.0.fault } ∷ [], range.1)) (found, rest)
     e in
     let t = range_takes file part b.0.0 b.0.1 fits b.1 in
-    let same = same_value (record { cpu = cpu; pages = b.0.0 } ∷ [], b.0.1) (found, rest) b.2 in (
+    let same =
+    same_value (record { cpu = cpu; pages = b.0.0.bytes; fault = b.0.0.fault } ∷ [], b.0.1) (found, rest) b.2 in (
       t.0,
       subst (λ x. Takes part (range_bytes t.0) x) (ap (λ p. p.1) same) t.1,
-      t.2,
-      sym (ap (λ p. p.0) same) ∙ ap (λ bs. record { cpu = cpu; pages = bs } ∷ []) t.3,
-      t.4,
+      sym (ap (λ p. p.0) same) ∙ ap (λ x. record { cpu = cpu; pages = x.bytes; fault = x.fault } ∷ []) t.2,
+      t.3,
     )
 
 each_cpu_takes : (file : List ℕ) (count cpu : ℕ) (part : FilePart) (found : List Recorded) (rest : FilePart)
@@ -216,7 +188,7 @@ each_cpu_takes : (file : List ℕ) (count cpu : ℕ) (part : FilePart) (found : 
 unfolding all_at
 each_cpu_takes file zero cpu part found rest fits e =
     subst (λ x. SpellsPages file cpu 0 part x.0 x.1) (same_value ([], part) (found, rest) e)
-    ([], refl, record { whole = refl; fits = fits }, tt, refl, tt)
+    ([], refl, Takes-nothing part fits, refl, tt)
 each_cpu_takes file (suc count) cpu part found rest fits e =
     let b =
     bind_ok (pages_at file cpu part)
@@ -227,25 +199,36 @@ each_cpu_takes file (suc count) cpu part found rest fits e =
     (found, rest) b.2 in
     let one = one_cpu_takes file cpu part b.0.0 b.0.1 fits b.1 in
     let more = each_cpu_takes file count (cpu + 1) b.0.1 d.0.0 d.0.1 one.1.fits d.1 in
-    let lists : b.0.0 ++ d.0.0 ≡ numbered_pages file cpu (one.0 ∷ more.0) =
-    ap (λ xs. xs ++ d.0.0) one.3
-    ∙ ap (λ xs. record { cpu = cpu; pages = take one.0.size (drop one.0.offset file) } ∷ xs) more.4 in
+    let lists : b.0.0 ++ d.0.0 ≡ numbered_pages file part.at cpu (one.0 ∷ more.0) =
+    ap (λ xs. xs ++ d.0.0) one.2
+    ∙ ap (λ xs. recorded_of file part.at cpu one.0 ∷ xs)
+    (more.3 ∙ ap (λ at. numbered_pages file at (cpu + 1) more.0) one.1.after) in
     subst (λ x. SpellsPages file cpu (suc count) part x.0 x.1) (same_value (b.0.0 ++ d.0.0, d.0.1) (found, rest) d.2) (
       one.0 ∷ more.0,
       ap (λ n. suc n) more.1,
       Takes-then part (range_bytes one.0) b.0.1 (flat_map range_bytes more.0) d.0.1 one.1 more.2,
-      (one.2, more.3),
       lists,
-      (one.4, more.5),
+      (one.3, more.4),
     )
+
+pub ranges_length : (ranges : List Range) → length (flat_map range_bytes ranges) ≡ 16 * length ranges
+ranges_length [] = refl
+ranges_length (range ∷ ranges) =
+    let one : length (range_bytes range) ≡ 16 =
+    length-append (to_le_bytes w64 range.offset) (to_le_bytes w64 range.size) in
+    omega (arith, one, ranges_length ranges, length-append (range_bytes range) (flat_map range_bytes ranges))
+
+-- the main buffer of CPUs whose ranges end at this offset
+abbrev pub main_buffer : List ℕ → ℕ → ℕ → List Range → TraceBuffer
+main_buffer file page_size end ranges =
+    record { name = []; page_size = page_size; cpus = numbered_pages file (end - 16 * length ranges) 0 ranges }
 
 -- the pages of the main buffer are spelled
 abbrev SpellsBuffer : List ℕ → ℕ → ℕ → FilePart → List TraceBuffer → Type 0
 SpellsBuffer file page_size count part found =
     (ranges : List Range) × (rest : FilePart) × (length ranges ≡ count)
-    × Takes part (ranges_word ++ flat_map range_bytes ranges) rest × AllByRecursion (IsInside file) ranges
-    × (found ≡ record { name = []; page_size = page_size; cpus = numbered_pages file 0 ranges } ∷ [])
-    × AllByRecursion RangeFits ranges
+    × Takes part (ranges_word ++ flat_map range_bytes ranges) rest
+    × (found ≡ main_buffer file page_size rest.at ranges ∷ []) × AllByRecursion RangeFits ranges
 
 buffer_takes : (file : List ℕ) (page_size count : ℕ) (part : FilePart) (found : List TraceBuffer) → IsBytes part.bytes
     → buffer_at file page_size count [] part ≡ Ok found → SpellsBuffer file page_size count part found
@@ -259,15 +242,16 @@ buffer_takes file page_size count part found fits e =
     bind_ok (all_at (pages_at file) 0 count a.0)
     (λ cpus. Ok (record { name = []; page_size = page_size; cpus = cpus.0 } ∷ [])) found a.2 in
     let w = expected_takes ranges_word Misplaced part a.0 fits a.1 in
-    let t = each_cpu_takes file count 0 a.0 b.0.0 b.0.1 w.fits b.1 in (
+    let t = each_cpu_takes file count 0 a.0 b.0.0 b.0.1 w.fits b.1 in
+    let from : a.0.at ≡ b.0.1.at - 16 * length t.0 = omega (arith, t.2.after, ranges_length t.0) in (
       t.0,
       b.0.1,
       t.1,
       Takes-then part ranges_word a.0 (flat_map range_bytes t.0) b.0.1 w t.2,
-      t.3,
       sym (same_value (record { name = []; page_size = page_size; cpus = b.0.0 } ∷ []) found b.2)
-          ∙ ap (λ cs. record { name = []; page_size = page_size; cpus = cs } ∷ []) t.4,
-      t.5,
+          ∙ ap (λ cs. record { name = []; page_size = page_size; cpus = cs } ∷ [])
+          (t.3 ∙ ap (λ at. numbered_pages file at 0 t.0) from),
+      t.4,
     )
 
 -- ---- the whole
@@ -286,12 +270,10 @@ pub record SpellsSix (file : List ℕ) (page_size : ℕ) (part : FilePart) (cont
   pub cpus_fit : Fits w32 (length ranges)
   pub options_fit : AllByRecursion OptionFits (unwrap_or options [])
   pub ranges_fit : AllByRecursion RangeFits ranges
-  pub inside : AllByRecursion (IsInside file) ranges
   pub formats : contents.formats ≡ six_formats texts
   pub instances : List TraceBuffer
   pub named : each_of (instance_of file page_size (length ranges)) (unwrap_or options []) ≡ Ok instances
-  pub buffers : contents.buffers
-      ≡ record { name = []; page_size = page_size; cpus = numbered_pages file 0 ranges } ∷ instances
+  pub buffers : contents.buffers ≡ main_buffer file page_size rest.at ranges ∷ instances
   pub counters : contents.counters ≡ flat_map counters_of (unwrap_or options [])
   pub symbols : contents.symbols ≡ texts.symbols ∷ []
   pub tasks : contents.tasks ≡ texts.tasks ∷ []
@@ -338,13 +320,12 @@ six_takes file page_size part contents fits e =
       texts_fit = front.3;
       cpus_fit = subst (λ k. Fits w32 k) (sym count) (number_fits w32 wide32 b.0.1 d.0.0 d.0.1 front.1.fits d.1);
       options_fit = o.3;
-      ranges_fit = p.6;
-      inside = p.4;
+      ranges_fit = p.5;
       formats = sym (ap (λ c. c.formats) same) ∙ front.2;
       instances = i.0;
       named = subst (λ k. each_of (instance_of file page_size k) (unwrap_or o.0 []) ≡ Ok i.0) (sym count)
           (subst (λ os. each_of (instance_of file page_size d.0.0) os ≡ Ok i.0) o.2 i.1);
-      buffers = sym (ap (λ c. c.buffers) same) ∙ ap (λ bs. bs ++ i.0) p.5;
+      buffers = sym (ap (λ c. c.buffers) same) ∙ ap (λ bs. bs ++ i.0) p.4;
       counters = sym (ap (λ c. c.counters) same) ∙ ap (λ os. flat_map counters_of os) o.2;
       symbols = sym (ap (λ c. c.symbols) same) ∙ ap (λ t. t.0 ∷ []) front.4;
       tasks = sym (ap (λ c. c.tasks) same) ∙ ap (λ t. t.1 ∷ []) front.4;

@@ -1,21 +1,21 @@
 -- The options of version 7 that are read are spelled in a chain of sections.
-use Rattle.std.proofs.Common.{◌≡◌, ◌≢◌, ◌==◌, ℕ, ◌+◌, ◌%◌, ◌≤◌, ◌⊎◌, Bool, true, false, cond, ltb, List, [], ◌++◌}
-use Rattle.std.proofs.Common.{length, drop, flat_map, Option, Some, None, Ok, Err, refl, sym, ap, subst, ◌∙◌, inl, inr}
+use Rattle.std.proofs.Common.{◌≡◌, ◌≢◌, ◌==◌, ℕ, ◌+◌, ◌%◌, ◌≤◌, ◌⊎◌, cond, ltb, List, [], ◌++◌, length, drop, flat_map}
+use Rattle.std.proofs.Common.{Option, Some, None, Ok, Err, refl, sym, ap, subst, ◌∙◌, inl, inr}
 use Rattle.std.specs.Int.{w16, w32, w64, to_le_bytes}
 use Rattle.std.proofs.lemmas.Bool.{ltb-false, eqb-true, eqb-false}
-use Rattle.trace_dat.specs.declared.fault.Fault.{Fault}
 use Rattle.trace_dat.specs.declared.fault.Cause.TheVariants.{Misplaced, Compressed, Backward, OutsideFile}
 use Rattle.trace_dat.specs.declared.entries.TheConstants.{OPTIONS}
 use Rattle.trace_dat.specs.Parts.{FilePart}
-use Rattle.trace_dat.specs.Fields.{Reading, number_at, block_at, expected_at, pointed_at}
+use Rattle.trace_dat.specs.Fields.{number_at, block_at, expected_at, pointed_at}
 use Rattle.trace_dat.specs.Entries.{FileOption, options_at}
 use Rattle.trace_dat.specs.Sections.{section_body_at, section_at, Place, linked_at, link_from, link_at}
 use Rattle.trace_dat.specs.Spelling.{IsBytes, Fits, FitsBlock, block, options_bytes, HasSection, HasOptions, Linked}
-use Rattle.trace_dat.specs.Spelling.{IsChain}
+use Rattle.trace_dat.specs.Spelling.{AreFrom, IsChain}
 use Rattle.trace_dat.proofs.Loops.{same_value}
-use Rattle.trace_dat.proofs.Spelled.{Takes, Takes-then, IsBytes-drop, bind_ok, guard_ok, wide16, wide32, wide64}
-use Rattle.trace_dat.proofs.Spelled.{number_takes, number_fits, block_takes, expected_takes}
+use Rattle.trace_dat.proofs.Spelled.{Takes, Takes-then, IsBytes-drop, bind_ok, guard_ok, failed_test, wide16, wide32}
+use Rattle.trace_dat.proofs.Spelled.{wide64, number_takes, number_fits, block_takes, expected_takes}
 use Rattle.trace_dat.proofs.SpelledFile.{chosen, options_take}
+use Rattle.trace_dat.proofs.Placed.{options_placed, section_placed}
 
 -- ---- a section
 
@@ -37,11 +37,6 @@ body_takes part body fits e =
       number_fits w32 wide32 part a.0.0 a.0.1 fits a.1,
       subst (λ x. FitsBlock w64 x.bytes) same t.2,
     )
-
-failed_test : {A : Type 0} (b : Bool) (d : Fault) (r : Reading A) (y : A) → cond b (Err d) r ≡ Ok y
-    → (b ≡ false) × (r ≡ Ok y)
-failed_test true d r y e = absurd cc
-failed_test false d r y e = (refl, e)
 
 section_takes : (file : List ℕ) (offset id : ℕ) (body : FilePart) → IsBytes file → offset ≤ length file
     → section_at id (record { at = offset; bytes = drop offset file }) ≡ Ok body
@@ -98,12 +93,16 @@ linked_takes file offset options next fits inside e =
     let o = options_take (length a.0.bytes + 1) a.0 b.0.0 b.0.1 s.1 b.1 in
     let k = block_takes w32 wide32 b.0.1 d.0.0 d.0.1 o.0.fits d.1 in
     let whole = Takes-then a.0 (options_bytes b.0.0) b.0.1 (block w32 d.0.0.bytes) d.0.1 o.0 k.0 in
+    let placed : AreFrom (offset + 16) b.0.0 =
+    subst (λ at. AreFrom at b.0.0) (section_placed OPTIONS part a.0 a.1)
+    (options_placed (length a.0.bytes + 1) a.0 b.0 b.1) in
     subst (λ x. SpellsLinked file offset x.0 x.1)
     (same_value (b.0.0, Some (record { least = offset + 1; pointer = d.0.0 })) (options, next) d.2) (
       record {
         body = a.0.bytes;
         rest = d.0.1.bytes;
         section = s.0;
+        placed = placed;
         options_fit = o.1;
         next_fits = k.2;
         whole = whole.whole;

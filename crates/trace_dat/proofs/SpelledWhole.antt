@@ -1,6 +1,6 @@
 -- A file that is read is spelled as its version is.
 use Rattle.std.proofs.Common.{◌≡◌, ℕ, zero, suc, ◌+◌, ◌⊎◌, List, [], ◌∷◌, ◌++◌, length, flat_map, Option, Some, None}
-use Rattle.std.proofs.Common.{Ok, sym, ap, subst, ◌∙◌, inl, inr}
+use Rattle.std.proofs.Common.{Ok, sym, ap, subst, ◌∙◌, arith, inl, inr}
 use Rattle.std.specs.Prelude.{codes}
 use Rattle.std.specs.Int.{w32, to_le_bytes}
 use Rattle.trace_dat.specs.declared.fault.Cause.TheVariants.{NotTraceDat, OtherMachine, Compressed}
@@ -21,7 +21,7 @@ use Rattle.trace_dat.specs.Spelling.{IsSix, IsSeven}
 use Rattle.trace_dat.proofs.Loops.{same_value}
 use Rattle.trace_dat.proofs.Spelled.{Takes, Takes-then, bind_ok, wide32, number_takes, number_fits, text_takes}
 use Rattle.trace_dat.proofs.Spelled.{text_ends, expected_takes}
-use Rattle.trace_dat.proofs.SpelledFile.{six_takes, SpellsVersion, version_takes, version_fits}
+use Rattle.trace_dat.proofs.SpelledFile.{main_buffer, six_takes, SpellsVersion, version_takes, version_fits}
 use Rattle.trace_dat.proofs.SpelledSections.{SpellsLink, SpellsChain, link_takes}
 
 -- ---- the chain
@@ -125,6 +125,9 @@ seven_takes file part contents fits bytes e =
       machine = sym (ap (λ c. c.machine) same) ∙ ap (λ os. machine_among os) chain.2;
     }
 
+from_start : (n k : ℕ) → n ≡ 0 + k → n ≡ k
+from_start n k e = omega (arith, e)
+
 -- by its version, the file is spelled as version 6 or as version 7 is
 spelled_by : (file : List ℕ) (found : Version) (a b d f : FilePart) (page_size : ℕ) (contents : Contents)
     → IsBytes file → Takes (record { at = 0; bytes = file }) magic a → SpellsVersion a found b → Takes b machine d
@@ -175,11 +178,11 @@ spelled_by file Six a b d f page_size contents fits m v h n bound e =
             ranges = six.ranges_fit;
           };
       whole = all.whole;
-      inside = six.inside;
       formats = six.formats;
       instances = six.instances;
       named = six.named;
-      buffers = six.buffers;
+      buffers = six.buffers ∙ ap (λ end. main_buffer file page_size end six.ranges ∷ six.instances)
+          (from_start _ _ all.after);
       counters = six.counters;
       symbols = six.symbols;
       tasks = six.tasks;

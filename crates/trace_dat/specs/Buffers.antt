@@ -12,7 +12,7 @@ use Rattle.trace_dat.specs.Entries.{FileOption}
 unfoldable pub pages_at : List ℕ → ℕ → FilePart → Reading (List Recorded × FilePart)
 pages_at file cpu part = do
   range ← range_at file part
-  Ok (record { cpu = cpu; pages = range.0 } ∷ [], range.1)
+  Ok (record { cpu = cpu; pages = range.0.bytes; fault = range.0.fault } ∷ [], range.1)
 
 -- the pages of a CPU, in version 7: its number and a range
 unfoldable pub numbered_pages_at : List ℕ → FilePart → Reading (List Recorded × FilePart)

@@ -1,6 +1,7 @@
 -- What a file of trace-cmd holds, as contracts see it.
 use Rattle.std.specs.Prelude.{ℕ, List, map, Option}
 use Rattle.std.specs.Option.{option_map}
+use Rattle.trace_dat.specs.declared.fault.Fault.{Fault}
 use Rattle.trace_dat.specs.declared.contents.Format.{Format}
 use Rattle.trace_dat.specs.declared.contents.CpuPages.{CpuPages}
 use Rattle.trace_dat.specs.declared.contents.Buffer.{Buffer}
@@ -11,10 +12,12 @@ pub record EventFormat : Type 0 where
   pub system : List ℕ
   pub text : List ℕ
 
--- the pages of a CPU, one after the other
+-- the pages of a CPU, one after the other: those of their bytes that the file has, and the fault if it ends before they
+-- do
 pub record Recorded : Type 0 where
   pub cpu : ℕ
   pub pages : List ℕ
+  pub fault : Option Fault
 
 -- a trace buffer: the main one, without a name, or an instance
 pub record TraceBuffer : Type 0 where
@@ -36,7 +39,7 @@ abbrev pub format_seen : Format → EventFormat
 format_seen format = record { system = format.system.now; text = format.text.now }
 
 abbrev pub recorded_seen : CpuPages → Recorded
-recorded_seen pages = record { cpu = pages.cpu; pages = pages.pages.now }
+recorded_seen pages = record { cpu = pages.cpu; pages = pages.pages.now; fault = pages.fault }
 
 abbrev pub buffer_seen : Buffer → TraceBuffer
 buffer_seen buffer = record {

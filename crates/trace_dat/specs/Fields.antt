@@ -8,7 +8,7 @@ use Rattle.trace_dat.specs.declared.fault.Cause.{Cause}
 use Rattle.trace_dat.specs.declared.fault.Cause.TheVariants.{Cut, OutsideFile}
 use Rattle.trace_dat.specs.declared.fault.ReadError.{ReadError}
 use Rattle.trace_dat.specs.declared.fault.ReadError.TheVariants as errors
-use Rattle.trace_dat.specs.Parts.{FilePart}
+use Rattle.trace_dat.specs.Parts.{FilePart, FileExtent}
 
 -- what is read, or the first fault
 abbrev pub Reading : Type 0 → Type 0
@@ -79,13 +79,21 @@ pointed_at file part = do
   if nat_lt (length file) offset.0 then fault_at OutsideFile part
       else Ok (record { at = offset.0; bytes = drop offset.0 file }, offset.1)
 
--- a range: a pointer, and how many bytes of the file there are meant
-unfoldable pub range_at : List ℕ → FilePart → Reading (List ℕ × FilePart)
+-- What the file has of a range, this many bytes from an offset on. If the file ends before the range does, this is a
+-- fault of the place `at` where the range is stated.
+abbrev pub extent_of : List ℕ → (at offset size : ℕ) → FileExtent
+extent_of file at offset size = record {
+  bytes = take size (drop offset file);
+  fault =
+      if nat_lt (length file) (offset + size) then Some (record { cause = OutsideFile; at = at }) else None;
+}
+
+-- a range: an offset in the file, and how many bytes there are meant
+unfoldable pub range_at : List ℕ → FilePart → Reading (FileExtent × FilePart)
 range_at file part = do
-  from ← pointed_at file part
-  size ← number_at w64 from.1
-  if nat_lt (length from.0.bytes) size.0 then fault_at OutsideFile part
-      else Ok (take size.0 from.0.bytes, size.1)
+  offset ← number_at w64 part
+  size ← number_at w64 offset.1
+  Ok (extent_of file part.at offset.0 size.0, size.1)
 
 -- This count of fields, one after the other, of which each gives a list, joined. The field is given its index.
 unfoldable pub all_at : {A : Type 0} → (ℕ → FilePart → Reading (List A × FilePart)) → ℕ → ℕ → FilePart

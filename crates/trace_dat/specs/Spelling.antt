@@ -1,11 +1,11 @@
 -- How a file is spelled: the bytes of each part. In version 6 they are one after the other, in version 7 most of them
 -- in sections, to which pointers lead.
-use Rattle.std.specs.Prelude.{◌≡◌, ◌≢◌, ℕ, ◌+◌, ◌*◌, ◌^◌, ◌%◌, ◌<◌, ◌≤◌, Option, Some, None, Ok, unwrap_or}
-use Rattle.std.specs.Prelude.{List, [], ◌∷◌, ◌++◌, length, take, drop, map, flat_map, codes, slice_index, EachIndex}
+use Rattle.std.specs.Prelude.{◌≡◌, ◌≢◌, ⊤, ℕ, ◌+◌, ◌-◌, ◌*◌, ◌^◌, ◌%◌, ◌<◌, ◌≤◌, Option, Some, None, Ok, unwrap_or}
+use Rattle.std.specs.Prelude.{List, [], ◌∷◌, ◌++◌, length, drop, map, flat_map, codes, slice_index, EachIndex}
 use Rattle.std.specs.List.{AllByRecursion}
 use Rattle.std.specs.Int.{Width, w16, w32, w64, byte_len, to_le_bytes}
 use Rattle.trace_dat.specs.declared.entries.TheConstants.{DONE, OPTIONS}
-use Rattle.trace_dat.specs.Fields.{each_of}
+use Rattle.trace_dat.specs.Fields.{extent_of, each_of}
 use Rattle.trace_dat.specs.Contents.{EventFormat, Recorded, TraceBuffer, Contents}
 use Rattle.trace_dat.specs.Formats.{ring_system}
 use Rattle.trace_dat.specs.Entries.{FileOption}
@@ -136,15 +136,17 @@ range_bytes range = to_le_bytes w64 range.offset ++ to_le_bytes w64 range.size
 abbrev pub RangeFits : Range → Type 0
 RangeFits range = Fits w64 range.offset × Fits w64 range.size
 
--- all bytes that a range means are in the file
-abbrev pub IsInside : List ℕ → Range → Type 0
-IsInside file range = range.offset + range.size ≤ length file
+-- the pages of a CPU: what the file has of a range, which is stated at this offset
+abbrev pub recorded_of : List ℕ → (at cpu : ℕ) → Range → Recorded
+recorded_of file at cpu range =
+    let extent = extent_of file at range.offset range.size in
+    record { cpu = cpu; pages = extent.bytes; fault = extent.fault }
 
--- the pages of CPUs, numbered from this one on: the bytes of the file that their ranges mean
-abbrev pub numbered_pages : List ℕ → ℕ → List Range → List Recorded
-numbered_pages file cpu [] = []
-numbered_pages file cpu (range ∷ ranges) =
-    record { cpu = cpu; pages = take range.size (drop range.offset file) } ∷ numbered_pages file (cpu + 1) ranges
+-- The pages of CPUs, numbered from this one on. Their ranges are stated from this offset on, each in 16 bytes.
+abbrev pub numbered_pages : List ℕ → (at cpu : ℕ) → List Range → List Recorded
+numbered_pages file at cpu [] = []
+numbered_pages file at cpu (range ∷ ranges) =
+    recorded_of file at cpu range ∷ numbered_pages file (at + 16) (cpu + 1) ranges
 
 -- ---- the whole
 
@@ -162,6 +164,10 @@ six_file_bytes parts =
     ++ (six_bytes parts.texts ++ (to_le_bytes w32 (length parts.ranges)
     ++ (stated_bytes parts.options ++ (ranges_word ++ flat_map range_bytes parts.ranges)))))))
 
+-- the offset of the first range: they are the last of its bytes
+abbrev pub ranges_from : SixParts → ℕ
+ranges_from parts = length (six_file_bytes parts) - 16 * length parts.ranges
+
 -- Each number in these bytes fits its width, no text ends early, and no option ends the options early.
 pub record SixPartsFit (parts : SixParts) : Type 0 where
   pub page_size : Fits w32 parts.page_size
@@ -178,13 +184,16 @@ pub record IsSix (file : List ℕ) (contents : Contents) : Type 0 where
   pub rest : List ℕ
   pub fits : SixPartsFit parts
   pub whole : file ≡ six_file_bytes parts ++ rest
-  pub inside : AllByRecursion (IsInside file) parts.ranges
   pub formats : contents.formats ≡ six_formats parts.texts
   pub instances : List TraceBuffer
   pub named : each_of (instance_of file parts.page_size (length parts.ranges)) (unwrap_or parts.options [])
       ≡ Ok instances
   pub buffers : contents.buffers
-      ≡ record { name = []; page_size = parts.page_size; cpus = numbered_pages file 0 parts.ranges } ∷ instances
+      ≡ record {
+        name = [];
+        page_size = parts.page_size;
+        cpus = numbered_pages file (ranges_from parts) 0 parts.ranges;
+      } ∷ instances
   pub counters : contents.counters ≡ flat_map counters_of (unwrap_or parts.options [])
   pub symbols : contents.symbols ≡ parts.texts.symbols ∷ []
   pub tasks : contents.tasks ≡ parts.texts.tasks ∷ []
@@ -206,12 +215,21 @@ pub record HasSection (file : List ℕ) (offset id : ℕ) (body : List ℕ) : Ty
   pub whole : drop offset file
       ≡ (to_le_bytes w16 id ++ (to_le_bytes w16 flags ++ (to_le_bytes w32 description ++ block w64 body))) ++ rest
 
--- At this offset is a section of these options, and these are the bytes in which the next section is pointed to. None
--- of the options has the identifier that ends them, and each number fits its width.
+-- Options that are one after the other from this offset on: before the body of each are 6 bytes, its identifier and the
+-- body's length.
+abbrev pub AreFrom : ℕ → List FileOption → Type 0
+AreFrom at [] = ⊤
+AreFrom at (option ∷ options) =
+    (option.body.at ≡ at + 6) × AreFrom (at + 6 + length option.body.bytes) options
+
+-- At this offset is a section of these options, and these are the bytes in which the next section is pointed to. The
+-- options begin after the 16 bytes before the section's body. None of them has the identifier that ends them, and each
+-- number fits its width.
 pub record HasOptions (file : List ℕ) (offset : ℕ) (options : List FileOption) (next : List ℕ) : Type 0 where
   pub body : List ℕ
   pub rest : List ℕ
   pub section : HasSection file offset OPTIONS body
+  pub placed : AreFrom (offset + 16) options
   pub options_fit : AllByRecursion OptionFits options
   pub next_fits : FitsBlock w32 next
   pub whole : body ≡ (options_bytes options ++ block w32 next) ++ rest

@@ -36,8 +36,12 @@ fn put_pages<'a>(
     ensures { Gives (λ behind. (map recorded_seen cpus.new.items, seen behind)) result
         (with_front (map recorded_seen cpus.old.items) (pages_at file.now cpu (seen part.entry))) }
 {
-    let (pages, behind) = part.range(file)?;
-    cpus.push(CpuPages { cpu, pages })?;
+    let (extent, behind) = part.range(file)?;
+    cpus.push(CpuPages {
+        cpu,
+        pages: extent.bytes,
+        fault: extent.fault,
+    })?;
     Ok(behind)
 }
 

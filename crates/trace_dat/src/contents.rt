@@ -1,5 +1,7 @@
 //! What a file of trace-cmd holds.
 
+use crate::fault::Fault;
+
 /// The format of an event, as the kernel prints it, and the event's system.
 #[derive(Clone, Copy, Debug)]
 pub struct Format<'a> {
@@ -14,8 +16,10 @@ pub struct Format<'a> {
 pub struct CpuPages<'a> {
     /// The number of the CPU.
     pub cpu: u32,
-    /// Its pages, one after the other.
+    /// Its pages, one after the other: those of their bytes that the file has, which may end within a page.
     pub pages: &'a [u8],
+    /// What is wrong if the file ends before the pages do: `OutsideFile`, where their range is stated.
+    pub fault: Option<Fault>,
 }
 
 /// A trace buffer: the main one, whose name is empty, or an instance.

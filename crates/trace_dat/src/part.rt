@@ -1,5 +1,5 @@
 //! Parts of a file, and the fields at their fronts.
-ghost use Rattle.std.specs.Prelude.{◌≡◌, ◌+◌, ◌<◌, ◌≤◌, ◌^◌, ◌==◌, length, position, IfOk, IsTrue, nat_eq};
+ghost use Rattle.std.specs.Prelude.{◌≡◌, ◌+◌, ◌<◌, ◌≤◌, ◌^◌, ◌==◌, length, take, drop, position, IfOk, IsTrue, nat_eq};
 
 use crate::fault::{Cause, Fault, ReadError};
 
@@ -13,6 +13,26 @@ pub(crate) struct Part<'a> {
     ghost bounded: { at + length bytes.now < 2 ^ 63 },
 }
 
+/// What a file has of a range of its bytes.
+#[derive(Clone, Copy)]
+pub(crate) struct Extent<'a> {
+    /// The bytes that it has.
+    pub(crate) bytes: &'a [u8],
+    /// What is wrong if the file ends before the range does.
+    pub(crate) fault: Option<Fault>,
+}
+
+/// What a file has of this many bytes from an offset on.
+fn bytes_from(file: &[u8], offset: usize, size: usize) -> &[u8]
+    ensures { result.now ≡ take size (drop offset file.now) }
+{
+    if file.len() < offset {
+        return &[];
+    }
+    let there = &file[offset..];
+    &there[..size.min(there.len())]
+}
+
 /// The place of the first zero byte, if there is one.
 fn zero_at(bytes: &[u8]) -> Option<usize>
     ensures { result ≡ position (λ b. b == 0) bytes.now }
@@ -23,9 +43,9 @@ fn zero_at(bytes: &[u8]) -> Option<usize>
 impl<'a> Part<'a> {
     ghost use Rattle.std.specs.List.{starts_with};
     ghost use Rattle.std.specs.Int.{w16, w32, w64};
-    ghost use Rattle.trace_dat.specs.Parts.{seen};
+    ghost use Rattle.trace_dat.specs.Parts.{seen, extent_seen};
     ghost use Rattle.trace_dat.specs.Fields.{Gives, behind, front, part_at, number_at, block_at, text_at, expected_at};
-    ghost use Rattle.trace_dat.specs.Fields.{pointed_at, range_at};
+    ghost use Rattle.trace_dat.specs.Fields.{pointed_at, extent_of, range_at};
     ghost use Rattle.trace_dat.specs.TracedKernel.{before_zero};
 
     /// The fault of this cause at the front.
@@ -186,17 +206,27 @@ impl<'a> Part<'a> {
         Ok((pointed, behind))
     }
 
-    /// The bytes of the file that the range at the front means, and what is after the range.
-    #[tactic(auto, unfolding(crate::specs::Fields::range_at))]
-    pub(crate) fn range(self, file: &'a [u8]) -> Result<(&'a [u8], Part<'a>), ReadError>
-        ensures { Gives (λ x. (x.0.now, seen x.1)) result (range_at file.now (seen self.entry)) }
+    /// What a file has of the range that is stated at the front.
+    fn extent(self, file: &'a [u8], offset: usize, size: usize) -> Extent<'a>
+        ensures { extent_seen result ≡ extent_of file.now self.entry.at offset size }
     {
-        let (from, behind) = self.pointed(file)?;
-        let (size, behind) = behind.number64()?;
-        let size = size as usize;
-        if from.bytes.len() < size {
-            return Err(self.fault(Cause::OutsideFile));
+        let is_cut = file.len() < offset || file.len() - offset < size;
+        Extent {
+            bytes: bytes_from(file, offset, size),
+            fault: is_cut.then_some(Fault {
+                cause: Cause::OutsideFile,
+                at: self.at,
+            }),
         }
-        Ok((&from.bytes[..size], behind))
+    }
+
+    /// What the file has of the range at the front, and what is after the range.
+    #[tactic(auto, unfolding(crate::specs::Fields::range_at))]
+    pub(crate) fn range(self, file: &'a [u8]) -> Result<(Extent<'a>, Part<'a>), ReadError>
+        ensures { Gives (λ x. (extent_seen x.0, seen x.1)) result (range_at file.now (seen self.entry)) }
+    {
+        let (offset, behind) = self.number64()?;
+        let (size, behind) = behind.number64()?;
+        Ok((self.extent(file, offset as usize, size as usize), behind))
     }
 }
