@@ -9,11 +9,11 @@ use Rattle.trace_dat.specs.Contents.{EventFormat, Contents}
 use Rattle.trace_dat.specs.Versions.{reading_of}
 use Rattle.trace_dat.specs.declared.kernel_texts.names.EventNames.{EventNames}
 use Rattle.trace_dat.specs.kernel_texts.Names.{HasEvents}
-use Rattle.trace_dat.specs.kernel_texts.Counters.{texts_of}
 use Rattle.capture.specs.declared.pages.CaptureFault.{CaptureFault}
 use Rattle.capture.specs.declared.pages.CaptureFault.TheVariants as captures
 use Rattle.capture.specs.declared.files.captured.CpuCapture.{CpuCapture}
 use Rattle.capture.specs.declared.files.captured.Captured.{Captured}
+use Rattle.capture.specs.declared.files.captured.CutFile.{CutFile}
 use Rattle.capture.specs.declared.files.dat.Losses.{Losses}
 use Rattle.capture.specs.declared.files.dat.Losses.TheVariants.{Kept, Settled}
 use Rattle.capture.specs.files.Files.{Checked, ◌>>=◌, File, ModelPart, is_dat, formatted, parts_in, parts_of, held}
@@ -29,13 +29,14 @@ use Rattle.capture.specs.files.Giving.{input_fault}
 use Rattle.capture.specs.files.FilesRead.{said_by, IsAlone, AddsFile, IsFileFault}
 use Rattle.capture.specs.declared.files.captured.Wanted.{Wanted}
 use Rattle.capture.specs.files.Files.{tasks_of, symbols_of, machine_of, lines_of, all_lines, if_wanted, machine_in}
-use Rattle.capture.specs.files.Files.{is_same_machine, parts_after}
+use Rattle.capture.specs.files.Files.{is_same_machine, parts_after, cut_at, cut_in, cut_of, texts_unless}
 use Rattle.kernel_names.specs.declared.tasks.TaskNames.{TaskNames}
 use Rattle.kernel_names.specs.declared.symbol_names.SymbolNames.{SymbolNames}
 use Rattle.kernel_names.specs.Tasks.{HasTasks}
 use Rattle.kernel_names.specs.SymbolNames.{HasSymbols}
 use Rattle.capture.proofs.NameLists.{wanted-next, lines-stay, machine-more, of-one-more, same-unsaid, machine-stays}
 use Rattle.capture.proofs.NameLists.{own-fault}
+use Rattle.capture.proofs.CutFiles.{cut-next, cut-stays}
 use Rattle.capture.proofs.Prefixes.{raw-reading}
 
 -- ---- what a file of trace-cmd holds
@@ -161,7 +162,7 @@ cpus-said Settled page name files parts file own mid new alone are read kept set
     (sym (no-files page name files parts alone are)) (settled refl)
 
 pub file-added : (losses : Losses) (page : ℕ) (name : List ℕ) (files : List File) (file : File) (own : List ModelPart)
-    (old new : Captured) (mid : List CpuCapture)
+    (old new : Captured) (mid : List CpuCapture) (index : ℕ)
     → IsAlone losses files → (was : AreFilesRead unsaid page name files old) → parts_of page name file ≡ Ok own
     → AreCpusRead unknown (was.parts ++ own) mid
     → (losses ≡ Kept → new.cpus.items ≡ mid)
@@ -177,10 +178,11 @@ pub file-added : (losses : Losses) (page : ℕ) (name : List ℕ) (files : List 
     else if_wanted old.wanted.symbols (all_lines symbols_of files))
     → option_map (λ (v : Vec ℕ Global). v.items) new.machine
     ≡ option_or (option_map (λ (v : Vec ℕ Global). v.items) old.machine) (machine_of file)
+    → length files ≡ index → new.cut ≡ option_or old.cut (option_map (cut_at index) (cut_of name file))
     → is_same_machine (machine_in files) (machine_of file) ≡ true
     → AddsFile losses page name files file new
-file-added losses page name files file own old new mid alone was is read kept settled names others found
-    wanted tasks symbols machine same =
+file-added losses page name files file own old new mid index alone was is read kept settled names others found
+    wanted tasks symbols machine count cut same =
     let all : texts_held new.others.items ≡ all_others name (files ++ file ∷ []) =
     others ∙ ap (λ (ns : List (List ℕ)). ns ++ others_of name file) was.others_are
     ∙ sym (others-more name files file) in
@@ -201,6 +203,9 @@ file-added losses page name files file own old new mid alone was is read kept se
           (sym wanted) (subst (HasSymbols new.symbols) (wanted-next old.wanted.symbols symbols_of files file) symbols);
       machine_is = machine ∙ ap (λ (known : Option (List ℕ)). option_or known (machine_of file)) was.machine_is
           ∙ sym (machine-more None files file);
+      cut_is = cut ∙ ap (λ (known : Option CutFile). option_or known (option_map (cut_at index) (cut_of name file)))
+          was.cut_is
+          ∙ sym (cut-next name files file index count);
       of_one = of-one-more files file was.of_one same;
     }
 
@@ -293,7 +298,8 @@ raw-said : (losses : Losses) (name : List ℕ) (file : File) (parts : List Model
 raw-said Kept name file parts cpus raw read = as-captured parts cpus read
 raw-said Settled name file parts cpus raw read =
     subst (λ (ts : List (List ℕ)). AreCpusCaptured (λ cpu. cpu_counters_of cpu ts) parts cpus)
-    (sym (held-raw (λ (contents : Contents). texts_of name contents.counters) [] name file raw))
+    (sym (held-raw (λ (contents : Contents). texts_unless (cut_in name contents.buffers) name contents.counters) [] name
+    file raw))
     (as-captured parts cpus read)
 
 pub raw-added : (losses : Losses) (page : ℕ) (name : List ℕ) (files : List File) (file : File) (old new : Captured)
@@ -301,10 +307,10 @@ pub raw-added : (losses : Losses) (page : ℕ) (name : List ℕ) (files : List F
     → is_dat name file.bytes ≡ false → smaller_pages page file.bytes ≡ None
     → AreCpusRead unknown (was.parts ++ record { cpu = file.cpu; size = page; bytes = file.bytes } ∷ []) new.cpus.items
     → new.names ≡ old.names → new.others ≡ old.others → new.found ≡ old.found → new.wanted ≡ old.wanted
-    → new.tasks ≡ old.tasks → new.symbols ≡ old.symbols → new.machine ≡ old.machine
+    → new.tasks ≡ old.tasks → new.symbols ≡ old.symbols → new.machine ≡ old.machine → new.cut ≡ old.cut
     → AddsFile losses page name files file new
 raw-added losses page name files file old new was raw none_smaller read names others found wanted
-    tasks symbols machine =
+    tasks symbols machine cut =
     let none : others_of name file ≡ [] =
     held-raw (λ (contents : Contents). names_of_others name contents.buffers) [] name file raw in
     let lacks : has_listed name file ≡ false =
@@ -343,6 +349,9 @@ raw-added losses page name files file old new was raw none_smaller read names ot
           (held-raw (λ (contents : Contents). contents.symbols) [] name file raw)) was.symbols_are));
       machine_is = ap (option_map (λ (v : Vec ℕ Global). v.items)) machine ∙ was.machine_is
           ∙ machine-stays files file (raw-unsaid name file raw);
+      cut_is = cut ∙ was.cut_is
+          ∙ cut-stays name files file
+          (held-raw (λ (contents : Contents). cut_in name contents.buffers) None name file raw);
       of_one = of-one-more files file was.of_one
           (same-unsaid (machine_in files) file (raw-unsaid name file raw));
     }

@@ -146,6 +146,12 @@ module _ {R : Type 0} (remaining : R → Option (List ℕ)) (failed : R → Bool
       pub are_read : AreRead remaining failed before before_new files
       pub so_far : AreSoFar losses page name files captured
 
+  -- as many files are read as inputs
+  pub files-before : (losses : Losses) (page : ℕ) (name : List ℕ) (inputs now : List (Input R)) (at : ℕ)
+      (captured : Captured) → (was : ReadsTo losses page name inputs now at captured) → length was.files ≡ at
+  files-before losses page name inputs now at captured was =
+      (lengths was.before was.before_new was.files was.are_read).1 ∙ sym was.at_is
+
   pub reads-none : (losses : Losses) (page : ℕ) (name : List ℕ) (inputs : List (Input R)) (captured : Captured)
       → AreFilesRead unsaid page name [] captured
       → ReadsTo losses page name inputs inputs 0 captured

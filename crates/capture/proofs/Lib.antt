@@ -29,6 +29,7 @@ mod Overruns
 mod Settled
 mod FirstRead
 mod NameLists
+mod CutFiles
 pub mod FilesMore
 pub mod Prefixes
 mod RestFaults

@@ -2,11 +2,13 @@
 //!
 //! What a file has of a CPU is a part: pages of one size. The pages of a CPU are those of its parts, in the order of
 //! the files. If there is one file alone, and it has the kernel's counters, they settle a CPU's only loss of unknown
-//! number.
+//! number. Of a file that was cut short the pages that it has are read, and not its counters: they also count what was
+//! lost behind the pages that are missing.
 
 mod captured;
 mod cpu_part;
 mod cpus;
+mod cut;
 mod dat;
 mod fault;
 mod first;
@@ -19,6 +21,6 @@ mod parts;
 mod raw;
 mod settle;
 
-pub use captured::{Captured, CpuCapture, Input, Wanted};
+pub use captured::{Captured, CpuCapture, CutFile, Input, Wanted};
 pub use fault::{FileFault, InputFault, Unread};
 pub use inputs::read_inputs;

@@ -19,6 +19,7 @@ use Rattle.capture.specs.declared.files.captured.CpuCapture.{CpuCapture}
 use Rattle.capture.specs.declared.files.captured.Captured.{Captured}
 use Rattle.capture.specs.files.Files.{File, ModelPart, bytes_in, parts_of_cpu, ArePartsOf, all_formats, all_others}
 use Rattle.capture.specs.files.Files.{is_in_any, tasks_of, symbols_of, all_lines, if_wanted, machine_in, are_of_one}
+use Rattle.capture.specs.files.Files.{first_cut}
 use Rattle.capture.specs.files.Losses.{cpu_counters_in, overrun_by, loss_of, settled}
 
 -- The pages of parts are those of the first, and then those of the others: each part is cut for itself.
@@ -102,6 +103,7 @@ pub record AreFilesRead (counted : ℕ → Option Counters) (page : ℕ) (name :
   pub tasks_are : HasTasks captured.tasks (if_wanted captured.wanted.tasks (all_lines tasks_of files))
   pub symbols_are : HasSymbols captured.symbols (if_wanted captured.wanted.symbols (all_lines symbols_of files))
   pub machine_is : option_map (λ text. text.items) captured.machine ≡ machine_in files
+  pub cut_is : captured.cut ≡ first_cut name 0 files
   pub of_one : are_of_one None files ≡ true
 
 -- What is read of files: if there is one alone, its counters are kept, and settle losses.

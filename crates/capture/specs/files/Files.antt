@@ -1,14 +1,16 @@
 -- What a file has of the kernel's trace: raw pages of a CPU, or what trace-cmd puts into a file.
 use Rattle.std.specs.Prelude.{◌≡◌, ℕ, ◌+◌, ◌||◌, ◌&&◌, ◌==◌, Bool, true, false, List, [], ◌∷◌, ◌++◌, length, Result, Ok}
-use Rattle.std.specs.Prelude.{Err, nat_lt, bytes_eq, if◌then◌else◌, Option, Some, None}
+use Rattle.std.specs.Prelude.{Err, nat_lt, bytes_eq, if◌then◌else◌, Option, Some, None, suc}
 use Rattle.std.specs.List.{filter, flat_map}
-use Rattle.std.specs.Option.{option_or}
+use Rattle.std.specs.Option.{option_map, option_or}
 use Rattle.event_fields.specs.Texts.{parts_of as parts_between}
 use Rattle.trace_model.specs.declared.limits.TheConstants.{MAX_CPUS}
 use Rattle.trace_dat.specs.Contents.{EventFormat, Recorded, TraceBuffer, Contents}
+use Rattle.trace_dat.specs.declared.fault.Fault.{Fault}
 use Rattle.trace_dat.specs.Fields.{Reading}
 use Rattle.trace_dat.specs.Versions.{resembles, reading_of}
 use Rattle.trace_dat.specs.kernel_texts.Counters.{texts_of}
+use Rattle.capture.specs.declared.files.captured.CutFile.{CutFile}
 use Rattle.capture.specs.declared.files.fault.FileFault.{FileFault}
 use Rattle.capture.specs.declared.files.fault.FileFault.TheVariants.{Format, BadCpu, BadPage, Overlap}
 use Rattle.capture.specs.declared.files.fault.FileFault.TheVariants.{SmallerPages, OtherHost}
@@ -95,6 +97,25 @@ within len parts = if nat_lt len (bytes_in parts) then Err Overlap else Ok parts
 abbrev pub parts_in : (name : List ℕ) → (len : ℕ) → Contents → Checked (List ModelPart)
 parts_in name len contents = each_of (parts_of_buffer name) contents.buffers >>= within len
 
+-- ---- a file that was cut short
+
+-- the first fault of the ranges of these CPUs, if the file ends before one of them does
+abbrev pub cut_among : List Recorded → Option Fault
+cut_among [] = None
+cut_among (recorded ∷ cpus) = option_or recorded.fault (cut_among cpus)
+
+-- the first such fault of the buffers that are listed
+abbrev pub cut_in : (name : List ℕ) → List TraceBuffer → Option Fault
+cut_in name [] = None
+cut_in name (buffer ∷ buffers) =
+    if is_named name buffer then option_or (cut_among buffer.cpus) (cut_in name buffers) else cut_in name buffers
+
+-- The texts of the kernel's counters that are of the buffer that is listed. Those of a file that was cut short say
+-- nothing: they also count what was lost behind the pages that it still has.
+abbrev pub texts_unless : (cut : Option Fault) → (name : List ℕ) → List (List ℕ) → List (List ℕ)
+texts_unless None name texts = texts_of name texts
+texts_unless (Some fault) name texts = []
+
 -- ---- a raw file
 
 -- unless the pages are smaller than was said
@@ -158,9 +179,14 @@ symbols_of file = held_by (λ contents. contents.symbols) [] file
 abbrev pub machine_of : File → Option (List ℕ)
 machine_of file = held_by (λ contents. contents.machine) None file
 
+-- why the file was cut short within the pages that are listed, if it was
+abbrev pub cut_of : (name : List ℕ) → File → Option Fault
+cut_of name file = held_by (λ contents. cut_in name contents.buffers) None file
+
 -- the texts of the kernel's counters that a file has of the buffer that is listed
 abbrev pub counters_of : (name : List ℕ) → File → List (List ℕ)
-counters_of name file = held_by (λ contents. texts_of name contents.counters) [] file
+counters_of name file =
+    held_by (λ contents. texts_unless (cut_in name contents.buffers) name contents.counters) [] file
 
 -- ---- all files
 
@@ -225,6 +251,16 @@ all_others name (file ∷ files) = others_of name file ++ all_others name files
 abbrev pub is_in_any : (name : List ℕ) → List File → Bool
 is_in_any name [] = false
 is_in_any name (file ∷ files) = has_listed name file || is_in_any name files
+
+-- the file of this index was cut short, with this fault
+abbrev pub cut_at : (index : ℕ) → Fault → CutFile
+cut_at index fault = record { input = index; fault = fault }
+
+-- the first of files that was cut short, if this is the index of the first one
+abbrev pub first_cut : (name : List ℕ) → (index : ℕ) → List File → Option CutFile
+first_cut name index [] = None
+first_cut name index (file ∷ files) =
+    option_or (option_map (cut_at index) (cut_of name file)) (first_cut name (suc index) files)
 
 -- the parts of a CPU
 abbrev pub parts_of_cpu : (cpu : ℕ) → List ModelPart → List ModelPart

@@ -5,6 +5,7 @@ use crate::{Capture, CaptureFault, Part};
 use kernel_names::{SymbolNames, TaskNames};
 use page_image::Missed;
 use std::alloc::Global;
+use trace_dat::Fault;
 use trace_dat::kernel_texts::{Counters, EventNames};
 use trace_model::CpuId;
 
@@ -100,6 +101,15 @@ pub struct Wanted {
     pub symbols: bool,
 }
 
+/// A file of trace-cmd that was cut short: it ends before a range of it that has pages.
+#[derive(Clone, Copy, Debug, PartialEq, Eq)]
+pub struct CutFile {
+    /// How many files are before it.
+    pub input: usize,
+    /// What is wrong with the first such range.
+    pub fault: Fault,
+}
+
 /// What is read of files.
 #[derive(Debug, Drop)]
 pub struct Captured {
@@ -120,4 +130,6 @@ pub struct Captured {
     pub symbols: SymbolNames,
     /// What the traced machine is, if a file says it. All files that do say the same.
     pub machine: Option<Vec<u8>>,
+    /// The first file that was cut short within the pages that are listed, if one was. The pages that it has are read.
+    pub cut: Option<CutFile>,
 }

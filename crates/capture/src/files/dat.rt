@@ -9,6 +9,7 @@ ghost use Rattle.trace_dat.specs.Contents.{EventFormat, format_seen, buffer_seen
 ghost use Rattle.trace_dat.specs.Versions.{reading_of};
 ghost use Rattle.trace_dat.specs.kernel_texts.Names.{HasEvents};
 ghost use Rattle.capture.specs.files.Files.{File, is_dat, names_of_others, has_named, formatted, lines_of};
+ghost use Rattle.capture.specs.files.Files.{cut_at};
 ghost use Rattle.capture.specs.files.Losses.{cpu_counters_of, overrun_by};
 ghost use Rattle.capture.specs.files.Captures.{AreCpusRead, AreCpusCaptured, IsOwnPast, AreFilesRead, texts_held};
 ghost use Rattle.capture.specs.files.Captures.{unsaid};
@@ -19,6 +20,7 @@ use crate::CaptureFault;
 use crate::files::captured::{Captured, CpuCapture};
 use crate::files::cpu_part::CpuPart;
 use crate::files::cpus::add_parts;
+use crate::files::cut::{counters_unless, cut_in, keep_cut};
 use crate::files::fault::{FileFault, InputFault};
 use crate::files::lists::{add_symbols, add_tasks};
 use crate::files::machine::{is_same_machine, keep_machine};
@@ -26,8 +28,7 @@ use crate::files::others::{add_others, has_named};
 use crate::files::parts::parts_of;
 use crate::files::settle::settle;
 use std::alloc::Global;
-use trace_dat::kernel_texts::counters_of;
-use trace_dat::{ReadError, TraceDat, read_trace_dat};
+use trace_dat::{Fault, ReadError, TraceDat, read_trace_dat};
 use trace_model::NoMemory;
 
 /// Whether a CPU's loss of unknown number is settled by the counters of the file, which then are kept.
@@ -51,12 +52,14 @@ fn parsed(alloc: Global, file: &[u8]) -> Result<TraceDat<'_>, InputFault>
 }
 
 /// Adds what a file holds beside the pages that are listed: the formats of events, the names of the instances that
-/// aren't listed, whether it has the buffer of this name, which is, the lists of names that are wanted, and what its
-/// machine is.
+/// aren't listed, whether it has the buffer of this name, which is, the lists of names that are wanted, what its
+/// machine is, and whether it, which has this index, was cut short.
 fn add_texts(
     alloc: Global,
     captured: &mut Captured,
     name: &[u8],
+    index: usize,
+    cut: Option<Fault>,
     dat: &TraceDat<'_>,
 ) -> Result<(), NoMemory>
     ensures cpus { captured.new.cpus ≡ captured.old.cpus }
@@ -76,6 +79,7 @@ fn add_texts(
     ensures machine { OnOk result (option_map (λ text. text.items) captured.new.machine
         ≡ option_or (option_map (λ text. text.items) captured.old.machine)
         (option_map (λ text. text.now) dat.now.machine)) }
+    ensures cut { OnOk result (captured.new.cut ≡ option_or captured.old.cut (option_map (cut_at index) cut)) }
 {
     captured.names.add(dat.formats.as_slice())?;
     add_others(alloc, &mut captured.others, name, dat.buffers.as_slice())?;
@@ -88,6 +92,7 @@ fn add_texts(
         dat.symbols.as_slice(),
     )?;
     keep_machine(alloc, &mut captured.machine, dat.machine)?;
+    keep_cut(&mut captured.cut, index, cut);
     Ok(())
 }
 
@@ -114,18 +119,19 @@ fn settle_by(
     }
 }
 
-/// Reads the buffer of this name of a file of trace-cmd, all of which is in memory.
+/// Reads the buffer of this name of a file of trace-cmd, all of which is in memory. The file has this index.
 pub(crate) fn add_dat(
     alloc: Global,
     captured: &mut Captured,
     name: &[u8],
     file: &[u8],
+    index: usize,
     losses: Losses,
 ) -> Result<(), InputFault>
     requires dat { is_dat name.now file.now ≡ true }
     requires known { (page : ℕ) × (files : List File) × IsAlone losses files
         × AreFilesRead unsaid page name.now files captured.old }
-    ensures read { (page cpu : ℕ) (files : List File) → IsAlone losses files
+    ensures read { (page cpu : ℕ) (files : List File) → IsAlone losses files → length files ≡ index
         → AreFilesRead unsaid page name.now files captured.old
         → OnOk result (AddsFile losses page name.now files (record { cpu = cpu; bytes = file.now }) captured.new) }
     ensures wanted { captured.new.wanted ≡ captured.old.wanted }
@@ -138,10 +144,11 @@ pub(crate) fn add_dat(
     if !is_same_machine(&captured.machine, dat.machine) {
         return Err(InputFault::File(FileFault::OtherHost));
     }
-    let counters = counters_of(alloc, name, dat.counters.as_slice())?;
+    let cut = cut_in(name, &dat.buffers);
+    let counters = counters_unless(alloc, cut, name, dat.counters.as_slice())?;
     let cpus = captured.cpus.as_mut_slice();
     add_parts(alloc, cpus, parts.as_slice())?;
     settle_by(alloc, cpus, parts.as_slice(), counters.as_slice(), losses)?;
-    add_texts(alloc, captured, name, &dat)?;
+    add_texts(alloc, captured, name, index, cut, &dat)?;
     Ok(())
 }

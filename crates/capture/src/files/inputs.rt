@@ -21,12 +21,13 @@ use trace_dat::kernel_texts::EventNames;
 use trace_dat::resembles_trace_dat;
 use trace_model::CpuId;
 
-/// Reads a file of trace-cmd, of which the first bytes are read already.
+/// Reads a file of trace-cmd, which has this index, and of which the first bytes are read already.
 fn read_dat<R: Source>(
     alloc: Global,
     name: &[u8],
     first: &[u8],
     reader: &mut R,
+    index: usize,
     losses: Losses,
     captured: &mut Captured,
 ) -> Result<(), InputFault>
@@ -34,7 +35,7 @@ fn read_dat<R: Source>(
     requires sound { R.failed reader.old ≡ false }
     requires known { (page : ℕ) × (files : List File) × IsAlone losses files
         × AreFilesRead unsaid page name.now files captured.old }
-    ensures read { (page cpu : ℕ) (files : List File) → IsAlone losses files
+    ensures read { (page cpu : ℕ) (files : List File) → IsAlone losses files → length files ≡ index
         → AreFilesRead unsaid page name.now files captured.old → OnOk result
         (AddsRestOf losses page name.now cpu first.now (R.remaining reader.old) (R.remaining reader.new) files
         captured.new) }
@@ -47,7 +48,7 @@ fn read_dat<R: Source>(
         (R.failed reader.new) files fault) }
 {
     let file = read_rest(alloc, first, reader)?;
-    add_dat(alloc, captured, name, file.as_slice(), losses)
+    add_dat(alloc, captured, name, file.as_slice(), index, losses)
 }
 
 /// Reads a file of raw pages of a CPU, of whose first page `filled` bytes are read already, into `piece`.
@@ -96,11 +97,12 @@ fn is_dat(name: &[u8], first: &[u8]) -> bool
 }
 
 /// Reads a file, which has raw pages of this size, in bytes, if it isn't read as one of trace-cmd: of such a file the
-/// buffer of this name.
+/// buffer of this name. The file has this index.
 fn read_input<R: Source>(
     alloc: Global,
     page: usize,
     name: &[u8],
+    index: usize,
     input: &mut Input<R>,
     losses: Losses,
     captured: &mut Captured,
@@ -110,7 +112,8 @@ fn read_input<R: Source>(
     requires sound { R.failed input.old.reader ≡ false }
     requires known { (files : List File) × IsAlone losses files × AreFilesRead unsaid page name.now files captured.old }
     ensures cpu { input.new.cpu ≡ input.old.cpu }
-    ensures read { (files : List File) → IsAlone losses files → AreFilesRead unsaid page name.now files captured.old
+    ensures read { (files : List File) → IsAlone losses files → length files ≡ index
+        → AreFilesRead unsaid page name.now files captured.old
         → OnOk result (AddsRestOf losses page name.now input.old.cpu.0 [] (R.remaining input.old.reader)
         (R.remaining input.new.reader) files captured.new) }
     ensures wanted { captured.new.wanted ≡ captured.old.wanted }
@@ -126,7 +129,15 @@ fn read_input<R: Source>(
     };
     if is_dat(name, &piece[..filled]) {
         let first = &piece[..filled];
-        return read_dat(alloc, name, first, &mut input.reader, losses, captured);
+        return read_dat(
+            alloc,
+            name,
+            first,
+            &mut input.reader,
+            index,
+            losses,
+            captured,
+        );
     }
     read_raw(
         alloc,
@@ -153,6 +164,7 @@ fn new_captured(alloc: Global, wanted: Wanted) -> Result<Captured, AllocError>
         tasks: TaskNames::new(alloc),
         symbols: SymbolNames::new(alloc),
         machine: None,
+        cut: None,
     })
 }
 
@@ -160,7 +172,8 @@ fn new_captured(alloc: Global, wanted: Wanted) -> Result<Captured, AllocError>
 /// trace-cmd the trace buffer of this name is read, of an instance, or, if `name` is empty, the main one; nothing of it
 /// if there is none. With the name of an instance each file has to be one of trace-cmd. Of the kernel's lists of names
 /// those are read that are wanted. Files that say of their machines what differs are refused. After a fault nothing
-/// more is read. A file of trace-cmd is held in memory while it is read, and not longer.
+/// more is read. Of a file of trace-cmd that was cut short the pages that it has are read, and its counters aren't. A
+/// file of trace-cmd is held in memory while it is read, and not longer.
 pub fn read_inputs<R: Source>(
     alloc: Global,
     page: usize,
@@ -191,7 +204,7 @@ pub fn read_inputs<R: Source>(
     };
     for at in 0..inputs.len() {
         let input = &mut inputs[at];
-        if let Err(fault) = read_input(alloc, page, name, input, losses, &mut captured) {
+        if let Err(fault) = read_input(alloc, page, name, at, input, losses, &mut captured) {
             return Err(Unread { input: at, fault });
         }
     }

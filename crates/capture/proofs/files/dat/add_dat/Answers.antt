@@ -1,19 +1,21 @@
 use Rattle.std.proofs.Common.{◌≡◌, ◌∙◌, ◌++◌, Vec, Global, Bor, ℕ, Bool, false, List, [], Err, length, map, sym, ap}
 use Rattle.std.proofs.Common.{subst}
 use Rattle.std.proofs.Common.{arith}
-use Rattle.std.proofs.Common.{ap₂, true, None}
+use Rattle.std.proofs.Common.{ap₂, true, Option, None}
 use Rattle.std.specs.Prelude.{◌||◌, if◌then◌else◌}
 use Rattle.std.specs.Option.{option_map, option_or}
 use Rattle.kernel_names.specs.Tasks.{HasTasks}
 use Rattle.kernel_names.specs.SymbolNames.{HasSymbols}
 use Rattle.capture.specs.declared.files.captured.Wanted.{Wanted}
+use Rattle.capture.specs.files.Files.{cut_at, cut_in, texts_unless}
 use Rattle.capture.specs.files.Files.{is_same_machine, tasks_of, symbols_of, lines_of, all_lines, if_wanted}
 use Rattle.std.proofs.lemmas.Result.{err_from_is_err_and}
 use Rattle.std.proofs.lemmas.Grind.{common_steps}
 use Rattle.trace_model.specs.Image.{unknown}
-use Rattle.trace_dat.specs.Contents.{EventFormat, Contents, contents_seen}
+use Rattle.trace_dat.specs.Contents.{EventFormat, Contents, buffer_seen, contents_seen}
 use Rattle.trace_dat.specs.kernel_texts.Names.{HasEvents}
-use Rattle.trace_dat.specs.kernel_texts.Counters.{texts_of}
+use Rattle.trace_dat.specs.declared.contents.Buffer.{Buffer}
+use Rattle.trace_dat.specs.declared.fault.Fault.{Fault}
 use Rattle.capture.specs.declared.files.cpu_part.CpuPart.{CpuPart}
 use Rattle.capture.specs.declared.files.captured.CpuCapture.{CpuCapture}
 use Rattle.capture.specs.files.Files.{File, ModelPart, names_of_others, has_named, counters_of, all_formats}
@@ -88,12 +90,15 @@ returns-in_err-settle_by-clause-fault c = λ page cpu files alone was.
     (held-dat (λ (contents : Contents). contents.machine) None file (contents_seen c.in_ok-dat.dat) c.in_ok-dat.ensures)
     ∙ sym c.is_same_machine.ensures
     ∙ (let here : c.is_same_machine.result ≡ true = grind (arith, common_steps) in here) in
+    let contents : Contents = contents_seen c.in_ok-dat.dat in
     let texts : map (λ text. text.now) c.as_slice-4.result.now ≡ counters_of name file =
     ap (map (λ text. text.now)) c.as_slice-4.ensures.value ∙ c.in_ok-counters.ensures
-    ∙ ap (λ (ts : List (Bor (List ℕ))). texts_of name (map (λ text. text.now) ts)) c.as_slice.ensures.value
+    ∙ ap (λ (ts : List (Bor (List ℕ))). texts_unless c.cut_in-cut.result name (map (λ text. text.now) ts))
+    c.as_slice.ensures.value
+    ∙ ap (λ (cut : Option Fault). texts_unless cut name contents.counters) (c.cut_in-cut.ensures ∙ ap (λ (bs : List Buffer). cut_in name (map buffer_seen bs)) c.deref.ensures.value)
     ∙ sym
-    (held-dat (λ (contents : Contents). texts_of name contents.counters) [] file (contents_seen c.in_ok-dat.dat)
-    c.in_ok-dat.ensures) in
+    (held-dat (λ (contents : Contents). texts_unless (cut_in name contents.buffers) name contents.counters) [] file
+    contents c.in_ok-dat.ensures) in
     let p = err_from_is_err_and c.from_residual-in_err-settle_by.result c.from_residual-in_err-settle_by.ensures.1 in
     rw (p.1, p.2)
     (settled-fault c.args.losses page name files file own c.args.captured.now was c.in_err-settle_by.field-0.0 alone
@@ -112,7 +117,7 @@ returns-in_err-settle_by-clause-fault c = λ page cpu files alone was.
     )))
 
 pub returns-clause-read : goal.returns-clause-read
-returns-clause-read c = λ page cpu files alone was.
+returns-clause-read c = λ page cpu files alone count was.
     let name : List ℕ = c.args.name.now in
     let file : File = record { cpu = cpu; bytes = c.args.file.now } in
     let own : List ModelPart = map part_seen c.in_ok-parts.parts.items in
@@ -124,12 +129,15 @@ returns-clause-read c = λ page cpu files alone was.
     (held-dat (λ (contents : Contents). contents.machine) None file (contents_seen c.in_ok-dat.dat) c.in_ok-dat.ensures)
     ∙ sym c.is_same_machine.ensures
     ∙ (let here : c.is_same_machine.result ≡ true = grind (arith, common_steps) in here) in
+    let contents : Contents = contents_seen c.in_ok-dat.dat in
     let texts : map (λ text. text.now) c.as_slice-4.result.now ≡ counters_of name file =
     ap (map (λ text. text.now)) c.as_slice-4.ensures.value ∙ c.in_ok-counters.ensures
-    ∙ ap (λ (ts : List (Bor (List ℕ))). texts_of name (map (λ text. text.now) ts)) c.as_slice.ensures.value
+    ∙ ap (λ (ts : List (Bor (List ℕ))). texts_unless c.cut_in-cut.result name (map (λ text. text.now) ts))
+    c.as_slice.ensures.value
+    ∙ ap (λ (cut : Option Fault). texts_unless cut name contents.counters) (c.cut_in-cut.ensures ∙ ap (λ (bs : List Buffer). cut_in name (map buffer_seen bs)) c.deref.ensures.value)
     ∙ sym
-    (held-dat (λ (contents : Contents). texts_of name contents.counters) [] file (contents_seen c.in_ok-dat.dat)
-    c.in_ok-dat.ensures) in
+    (held-dat (λ (contents : Contents). texts_unless (cut_in name contents.buffers) name contents.counters) [] file
+    contents c.in_ok-dat.ensures) in
     let formats =
     held-dat (λ (contents : Contents). contents.formats) [] file (contents_seen c.in_ok-dat.dat) c.in_ok-dat.ensures in
     let others =
@@ -156,7 +164,7 @@ returns-clause-read c = λ page cpu files alone was.
     written-back c.args.captured.now.cpus.len c.settle_by.new.cpus c.args.captured.now.cpus.items long
     (omega (arith, len))) in
     file-added c.args.losses page name files file own c.args.captured.now c.add_texts.new.captured
-    c.add_parts.new.cpus alone
+    c.add_parts.new.cpus c.args.index alone
     was is
     (subst (λ (ps : List CpuPart). AreCpusRead unknown (was.parts ++ map part_seen ps) c.add_parts.new.cpus)
     c.as_slice-2.ensures.value
@@ -185,4 +193,11 @@ returns-clause-read c = λ page cpu files alone was.
     (c.in_ok-add_texts.ensures.symbols (if_wanted wanted.symbols (all_lines symbols_of files)) was.symbols_are))
     (c.in_ok-add_texts.ensures.machine
     ∙ ap (option_or (option_map (λ (v : Vec ℕ Global). v.items) c.args.captured.now.machine)) (sym machine))
+    count
+    (c.in_ok-add_texts.ensures.cut
+    ∙ ap (λ (cut : Option Fault). option_or c.args.captured.now.cut (option_map (cut_at c.args.index) cut))
+    (c.cut_in-cut.ensures ∙ ap (λ (bs : List Buffer). cut_in name (map buffer_seen bs)) c.deref.ensures.value
+    ∙ sym
+    (held-dat (λ (contents : Contents). cut_in name contents.buffers) None file (contents_seen c.in_ok-dat.dat)
+    c.in_ok-dat.ensures)))
     same

@@ -17,5 +17,6 @@ returns-clause-none c = λ page name. record {
   tasks_are = subst (HasTasks c.new-3.result) (sym (wanted-none c.args.wanted.tasks)) c.new-3.ensures;
   symbols_are = subst (HasSymbols c.new-4.result) (sym (wanted-none c.args.wanted.symbols)) c.new-4.ensures;
   machine_is = refl;
+  cut_is = refl;
   of_one = refl;
 }

@@ -13,7 +13,7 @@ add_dat-requires-clause-dat g c =
     (dat-more c.args.name.now c.args.first.now whole.0 c.requires.dat)
 
 pub returns-clause-read : goal.returns-clause-read
-returns-clause-read g c = λ page cpu files alone was.
+returns-clause-read g c = λ page cpu files alone count was.
     let whole = c.in_ok-file.ensures.whole in
     on_ok c.add_dat.result (λ added. record {
       more = whole.0;
@@ -23,7 +23,7 @@ returns-clause-read g c = λ page cpu files alone was.
           AddsFile c.args.losses page c.args.name.now files
           (record { cpu = cpu; bytes = bytes }) c.add_dat.new.captured)
           (c.as_slice.ensures.value ∙ whole.1) added;
-    }) (c.add_dat.ensures.read page cpu files alone was)
+    }) (c.add_dat.ensures.read page cpu files alone count was)
 
 pub returns-clause-fault : goal.returns-clause-fault
 returns-clause-fault g c = λ page cpu files alone was.

@@ -8,14 +8,14 @@ use Rattle.capture.proofs.RestFaults.{if_err, added-before, fault-before, added-
 use Rattle.capture.proofs.files.inputs.read_input.Goals as goal
 
 pub returns-then-is_dat-clause-read : goal.returns-then-is_dat-clause-read
-returns-then-is_dat-clause-read g c = λ files alone was.
+returns-then-is_dat-clause-read g c = λ files alone count was.
     let first : List ℕ = take c.in-Ok.filled c.deref-then-is_dat.result.now in
     let same : take c.in-Ok.filled c.fill_piece.new.piece ≡ first = grind (arith, common_steps) in
     on_ok c.read_dat.result
     (added-before c.args.losses c.args.page c.args.name.now c.args.input.now.cpu.0 first _ _ _ files
     c.read_dat.new.captured
     (subst (Consumes _ _) same c.in-Ok.ensures.taken))
-    (c.read_dat.ensures.read c.args.page c.args.input.now.cpu.0 files alone was)
+    (c.read_dat.ensures.read c.args.page c.args.input.now.cpu.0 files alone count was)
 
 pub returns-then-is_dat-clause-fault : goal.returns-then-is_dat-clause-fault
 returns-then-is_dat-clause-fault g c = λ files alone was.
@@ -27,7 +27,7 @@ returns-then-is_dat-clause-fault g c = λ files alone was.
     (c.read_dat.ensures.fault c.args.page c.args.input.now.cpu.0 files alone was)
 
 pub returns-clause-read : goal.returns-clause-read
-returns-clause-read g c = λ files alone was.
+returns-clause-read g c = λ files alone count was.
     let piece : List ℕ = c.as_mut_slice-2.result.now in
     let first : List ℕ = take c.in-Ok.filled piece in
     let same : take c.in-Ok.filled c.fill_piece.new.piece ≡ first = grind (arith, common_steps) in

@@ -1,7 +1,7 @@
 use Rattle.std.proofs.Common.{◌≡◌, ◌∙◌, ◌<◌, false, length, sym, subst, arith}
 use Rattle.trace_model.specs.declared.limits.TheConstants.{MAX_CPUS}
 use Rattle.capture.proofs.InputsRead.{IsChosen, reads-none, as-first, within, is-unsaid, reads-next}
-use Rattle.capture.proofs.InputsRead.{reads-unread, reads-all, first-unread}
+use Rattle.capture.proofs.InputsRead.{reads-unread, reads-all, first-unread, files-before}
 use Rattle.capture.proofs.files.inputs.read_inputs.Goals as goal
 use Rattle.capture.proofs.files.inputs.read_inputs.Goals.{then-inputs-eq1, else-inputs-eq1}
 
@@ -79,13 +79,16 @@ loop-at-preserved g c =
     c.args.inputs.now
     c.loop-at.inputs c.loop-at.at c.loop-at.captured c.loop-at.invariant.reads c.index-inputs-at.result below
     c.loop-at.invariant.chosen in
+    let count =
+    files-before g.R.Source.remaining g.R.Source.failed c.if-inputs-eq1.losses c.args.page c.args.name.now
+    c.args.inputs.now c.loop-at.inputs c.loop-at.at c.loop-at.captured c.loop-at.invariant.reads in
     record {
       reads =
           reads-next g.R.Source.remaining g.R.Source.failed c.if-inputs-eq1.losses c.args.page c.args.name.now
           c.args.inputs.now
           c.loop-at.inputs c.loop-at.at c.loop-at.captured c.loop-at.invariant.reads c.index-inputs-at.result below
           c.read_input.new.input c.read_input.new.captured c.loop-at.invariant.chosen
-          (c.in_default-read_input.ensures.read c.loop-at.invariant.reads.files now.0 now.1)
+          (c.in_default-read_input.ensures.read c.loop-at.invariant.reads.files now.0 count now.1)
           c.in_default-read_input.ensures.end c.in_default-read_input.ensures.sound;
       chosen = c.loop-at.invariant.chosen;
       wanted = c.read_input.ensures.wanted ∙ c.loop-at.invariant.wanted;

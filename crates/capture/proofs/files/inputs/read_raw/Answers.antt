@@ -93,5 +93,5 @@ returns-clause-read g c = λ losses name files first_raw was.
       added = raw-added losses (length c.args.piece.now) name files file c.args.captured.now _ was raw
           adds.rest.none_smaller
           (cpus-more unknown was.parts part items c.add_raw.new.found (as-read was.parts items was.cpus_are) adds.read)
-          refl refl refl refl refl refl refl;
+          refl refl refl refl refl refl refl refl;
     }
