@@ -1,5 +1,6 @@
-mod OnePage
+pub mod OnePage
 pub mod Missed
+mod StatedLosses
 mod Tallied
 pub mod Passing
 pub mod Values

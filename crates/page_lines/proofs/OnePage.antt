@@ -1,6 +1,6 @@
 -- What is found of one page.
 use Rattle.std.proofs.Common.{◌≡◌, ℕ, Bool, List, [], ◌∷◌, ◌++◌, length, refl, sym, ap, ◌∙◌}
-use Rattle.std.proofs.Common.{arith, rules}
+use Rattle.std.proofs.Common.{ap₂, arith, map, rules}
 use Rattle.std.specs.Prelude.{◌==◌, not, if◌then◌else◌}
 use Rattle.std.proofs.lemmas.List.{length-map, length-append, map-append}
 use Rattle.trace_model.specs.declared.numbers.RecordNo.{RecordNo}
@@ -13,7 +13,9 @@ use Rattle.capture.specs.Captures.{numbers_of, AreDamages}
 use Rattle.capture.specs.declared.pages.Damaged.{Damaged as DamagedPage}
 use Rattle.page_lines.specs.declared.page.Loss.{Loss}
 use Rattle.page_lines.specs.declared.page.Found.TheVariants.{Read, Damaged}
+use Rattle.page_image.specs.declared.image.Missed.TheVariants.{Unknown}
 use Rattle.page_lines.specs.Found.{IsFound}
+use Rattle.page_lines.specs.Stating.{told_by}
 
 -- what is unknown stays unknown
 told_missed : (missed : Missed) → told_of unknown missed ≡ missed
@@ -25,6 +27,11 @@ pub told_same : (page : Page) → told unknown page ≡ page
 told_same (intact read) =
     ap (λ (m : Missed). intact record { missed = m; records = read.records }) (told_missed read.missed)
 told_same (damaged cause) = refl
+
+pub told_all : (pages : List Page) → map (told_by Unknown) pages ≡ pages
+told_all [] = refl
+told_all (page ∷ pages) =
+    ap₂ (λ (first : Page) (others : List Page). first ∷ others) (told_same page) (told_all pages)
 
 -- whether a loss is unknown
 is_stated : (missed : Missed) (numbers : List RecordNo) (is_unknown : Bool)

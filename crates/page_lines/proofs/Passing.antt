@@ -11,12 +11,15 @@ use Rattle.trace_model.specs.Record.{Record}
 use Rattle.trace_model.specs.Listing.{Line as ModelLine}
 use Rattle.time_merge.specs.Heads.{first_in}
 use Rattle.time_merge.specs.LineOrder.{line_of}
+use Rattle.page_image.specs.declared.image.Missed.{Missed}
 use Rattle.trace_dat.specs.Versions.{resembles}
 use Rattle.capture.specs.Pages.{Page, IsPageOf, intact, damaged, least_missed, behind, end_from}
 use Rattle.capture.specs.Smaller.{smaller_in}
 use Rattle.page_lines.specs.declared.tally.Tally.{Tally}
 use Rattle.page_lines.specs.Tallies.{IsTally, entries_from}
+use Rattle.page_lines.specs.Stating.{StatesMore, told_by}
 use Rattle.page_lines.specs.Sources.{Reading, ArePlain, Passes, lines_from, AddsImage, ReadsNext}
+use Rattle.page_lines.proofs.StatedLosses.{states_none, states_both}
 
 -- ---- pages behind pages
 
@@ -73,6 +76,12 @@ lines_of_both cpu next pages others =
     ap (map (line_of cpu)) (entries_of_both next pages others)
     ∙ map-append (line_of cpu) (entries_from next pages) (entries_from (end_from next pages) others)
 
+-- what is known of a loss stays
+told_of_both : (told : Page → Page) (next : ℕ) (pages others : List Page)
+    → end_from next (map told (pages ++ others)) ≡ end_from (end_from next (map told pages)) (map told others)
+told_of_both told next pages others =
+    ap (end_from next) (map-append told pages others) ∙ end_of_both next (map told pages) (map told others)
+
 -- ---- passing
 
 module _ {R : Type 0} (remaining : R → Option (List ℕ)) where
@@ -80,7 +89,7 @@ module _ {R : Type 0} (remaining : R → Option (List ℕ)) where
   pub passes_none : (s : Reading R) → Passes remaining s [] s
   passes_none s = record {
     size_is = refl;
-    cpu_is = refl;
+    ring = record { cpu_is = refl; known_is = refl };
     bytes = [];
     consumed = Consumes-nil (remaining s.reader);
     pages = [];
@@ -89,6 +98,7 @@ module _ {R : Type 0} (remaining : R → Option (List ℕ)) where
     no_more = λ last. (refl, last);
     tally_is = λ before is. subst (IsTally s.tally) (sym (append-nil before)) is;
     next_is = refl;
+    stated_is = states_none s.tally.stated;
     count_is = omega arith;
     lines_are = append-nil s.left;
   }
@@ -127,16 +137,28 @@ module _ {R : Type 0} (remaining : R → Option (List ℕ)) where
         omega arith in sum)
         ∙ ap (λ (n : ℕ). a.size * n) (sym (length-append p.pages q.pages))
 
-    lines_both : a.left ++ lines_from a.tally.cpu.0 a.tally.next.0 (p.pages ++ q.pages) ≡ (lines ++ others) ++ c.left
+    abbrev known : Page → Page
+    known = told_by a.tally.known
+
+    -- what is known of a loss is the same behind
+    known_behind : map (told_by b.tally.known) q.pages ≡ map known q.pages
+    known_behind = ap (λ (m : Missed). map (told_by m) q.pages) p.ring.known_is
+
+    lines_both : a.left ++ lines_from a.tally.cpu.0 a.tally.next.0 (map known (p.pages ++ q.pages))
+        ≡ (lines ++ others) ++ c.left
     lines_both =
-        let first = lines_from a.tally.cpu.0 a.tally.next.0 p.pages in
-        let then = lines_from a.tally.cpu.0 (end_from a.tally.next.0 p.pages) q.pages in
-        let seen = lines_from b.tally.cpu.0 b.tally.next.0 q.pages in
-        ap (λ (ls : List ModelLine). a.left ++ ls)
-        (lines_of_both a.tally.cpu.0 a.tally.next.0 p.pages q.pages)
+        let first = lines_from a.tally.cpu.0 a.tally.next.0 (map known p.pages) in
+        let then = lines_from a.tally.cpu.0 (end_from a.tally.next.0 (map known p.pages)) (map known q.pages) in
+        let seen = lines_from b.tally.cpu.0 b.tally.next.0 (map (told_by b.tally.known) q.pages) in
+        ap (λ (ps : List Page). a.left ++ lines_from a.tally.cpu.0 a.tally.next.0 ps)
+        (map-append known p.pages q.pages)
+        ∙ ap (λ (ls : List ModelLine). a.left ++ ls)
+        (lines_of_both a.tally.cpu.0 a.tally.next.0 (map known p.pages) (map known q.pages))
         ∙ sym (append_assoc a.left first then)
         ∙ ap₂ (λ (front back : List ModelLine). front ++ back) p.lines_are
-        (ap₂ (λ (cpu next : ℕ). lines_from cpu next q.pages) (sym (ap (λ n. n.0) p.cpu_is)) (sym p.next_is))
+        (ap₂ (λ (cpu next : ℕ). lines_from cpu next (map known q.pages)) (sym (ap (λ n. n.0) p.ring.cpu_is))
+        (sym p.next_is)
+        ∙ ap (lines_from b.tally.cpu.0 b.tally.next.0) (sym known_behind))
         ∙ append_assoc lines b.left seen
         ∙ ap (λ (ls : List ModelLine). lines ++ ls) q.lines_are
         ∙ sym (append_assoc lines others c.left)
@@ -144,7 +166,10 @@ module _ {R : Type 0} (remaining : R → Option (List ℕ)) where
     pub passes_both : Passes remaining a (lines ++ others) c
     passes_both = record {
       size_is = q.size_is ∙ p.size_is;
-      cpu_is = q.cpu_is ∙ p.cpu_is;
+      ring = record {
+        cpu_is = q.ring.cpu_is ∙ p.ring.cpu_is;
+        known_is = q.ring.known_is ∙ p.ring.known_is;
+      };
       bytes = p.bytes ++ q.bytes;
       consumed = Consumes-trans (remaining a.reader) (remaining b.reader) (remaining c.reader) p.bytes q.bytes
           p.consumed q.consumed;
@@ -156,10 +181,15 @@ module _ {R : Type 0} (remaining : R → Option (List ℕ)) where
           let then = q.no_more first.1 in
           (ap₂ (λ (front back : List ℕ). front ++ back) first.0 then.0, then.1);
       tally_is = λ before is.
-          subst (IsTally c.tally) (append_assoc before p.pages q.pages)
-          (q.tally_is (before ++ p.pages) (p.tally_is before is));
-      next_is = q.next_is ∙ ap (λ (n : ℕ). end_from n q.pages) p.next_is
-          ∙ sym (end_of_both a.tally.next.0 p.pages q.pages);
+          subst (IsTally c.tally)
+          (ap (λ (ps : List Page). (before ++ map known p.pages) ++ ps) known_behind
+          ∙ append_assoc before (map known p.pages) (map known q.pages)
+          ∙ ap (λ (ps : List Page). before ++ ps) (sym (map-append known p.pages q.pages)))
+          (q.tally_is (before ++ map known p.pages) (p.tally_is before is));
+      next_is = q.next_is ∙ ap (end_from b.tally.next.0) known_behind
+          ∙ ap (λ (n : ℕ). end_from n (map known q.pages)) p.next_is
+          ∙ sym (told_of_both known a.tally.next.0 p.pages q.pages);
+      stated_is = states_both a.tally.stated b.tally.stated c.tally.stated p.pages q.pages p.stated_is q.stated_is;
       count_is = q.count_is ∙ ap (λ (n : ℕ). n + length q.bytes) p.count_is
           ∙ (let sum : a.taken + length p.bytes + length q.bytes ≡ a.taken + (length p.bytes + length q.bytes) =
           omega arith in sum)
@@ -173,6 +203,7 @@ pub next_read : (size : ℕ) (unread left : Option (List ℕ)) (old new : Tally)
     → 0 < length bytes → length bytes ≤ size → Consumes unread left bytes → AddsImage bytes old new lines
     → ReadsNext size unread left old (length bytes) new lines
 next_read size unread left old new bytes lines some fits consumed adds = record {
+  ring = adds.ring;
   bytes = bytes;
   consumed = consumed;
   long = refl;
@@ -181,6 +212,7 @@ next_read size unread left old new bytes lines some fits consumed adds = record 
   whole = λ same. refl;
   tally_is = adds.tally_is;
   next_is = adds.next_is;
+  stated_is = adds.stated_is;
   lines_are = adds.lines_are;
 }
 
@@ -191,7 +223,7 @@ module _ {R : Type 0} (remaining : R → Option (List ℕ)) where
       → new.reader ≡ old.reader → new.left ≡ drop 1 old.left → Passes remaining old (line ∷ []) new
   passes_line old new line first size tally last taken reader left = record {
     size_is = size;
-    cpu_is = ap (λ t. t.cpu) tally;
+    ring = record { cpu_is = ap (λ t. t.cpu) tally; known_is = ap (λ t. t.known) tally };
     bytes = [];
     consumed = subst (λ (r : R). Consumes (remaining old.reader) (remaining r) []) (sym reader)
         (Consumes-nil (remaining old.reader));
@@ -202,6 +234,8 @@ module _ {R : Type 0} (remaining : R → Option (List ℕ)) where
     tally_is = λ before is. subst (IsTally new.tally) (sym (append-nil before))
         (subst (λ (t : Tally). IsTally t before) (sym tally) is);
     next_is = ap (λ t. t.next.0) tally;
+    stated_is = subst (λ (t : Tally). StatesMore old.tally.stated [] t.stated) (sym tally)
+        (states_none old.tally.stated);
     count_is = omega (arith, taken);
     lines_are = append-nil old.left ∙ split old.left first ∙ ap (λ (ls : List ModelLine). line ∷ ls) (sym left);
   }

@@ -1,6 +1,6 @@
 -- One page more in a tally.
-use Rattle.std.proofs.Common.{◌≡◌, ℕ, ◌+◌, ◌^◌, ◌<◌, List, [], ◌∷◌, ◌++◌, length, map, Some, None, sym, ap}
-use Rattle.std.proofs.Common.{◌∙◌, ap₂, subst, arith, append-nil, append_assoc, length-append}
+use Rattle.std.proofs.Common.{◌≡◌, ℕ, ◌+◌, ◌^◌, ◌<◌, List, [], ◌∷◌, ◌++◌, length, map, Option, Some, None, sym}
+use Rattle.std.proofs.Common.{ap, ◌∙◌, ap₂, subst, arith, append-nil, append_assoc, length-append}
 use Rattle.trace_model.specs.declared.numbers.RecordNo.{RecordNo}
 use Rattle.page_image.specs.Contents.{records_of_page}
 use Rattle.page_numbers.specs.Parcels.{ParcelValue}
@@ -13,6 +13,7 @@ use Rattle.capture.proofs.Appended.{end-append, unknown-append, damages-append}
 use Rattle.page_lines.specs.Found.{IsFound}
 use Rattle.page_lines.specs.declared.page.Loss.{Loss}
 use Rattle.page_lines.specs.declared.page.Found.TheVariants.{Read, Damaged as DamagedPage}
+use Rattle.page_lines.specs.declared.stated.Stated.{Stated}
 use Rattle.page_lines.specs.declared.tally.Tally.{Tally}
 use Rattle.page_lines.specs.Tallies.{run_numbers, run_before, from_after, runs_from, AddsRead, AddsPage}
 
@@ -122,3 +123,21 @@ adds_damaged old new one (damaged cause) fault found one_is added missing unknow
         };
       };
     }
+
+-- what pages state of their losses is noted besides
+pub stated_besides : (old mid : Tally) (stated : Stated) (page : Page) (found : Option (RecordNo × ParcelValue))
+    → AddsPage old page found mid → AddsPage old page found (record mid { stated = stated })
+stated_besides old mid stated page found adds = record {
+  found_is = adds.found_is;
+  next_is = adds.next_is;
+  tally_is = λ pages is.
+      let more = adds.tally_is pages is in
+      record {
+        missing_are = more.missing_are;
+        unknown_are = more.unknown_are;
+        damaged_are = more.damaged_are;
+        next_is = more.next_is;
+        count_is = more.count_is;
+        fit = more.fit;
+      };
+}

@@ -8,12 +8,15 @@ use Rattle.time_merge.specs.Heads.{first_in}
 use Rattle.time_merge.specs.LineOrder.{line_of}
 use Rattle.capture.specs.Pages.{Page, IsPageOf, behind, end_from}
 use Rattle.trace_model.specs.declared.numbers.CpuId.{CpuId}
+use Rattle.page_image.specs.declared.image.Missed.{Missed}
 use Rattle.trace_dat.specs.Versions.{resembles}
+use Rattle.capture.specs.files.Losses.{counted_losses, unknown_losses}
 use Rattle.capture.specs.Smaller.{smaller_in}
 use Rattle.page_lines.specs.declared.at_hand.Place.{Place}
 use Rattle.page_lines.specs.declared.source.Halt.{Halt}
 use Rattle.page_lines.specs.declared.tally.Tally.{Tally}
-use Rattle.page_lines.specs.Tallies.{IsTally, entries_from}
+use Rattle.page_lines.specs.Stating.{StatesMore, told_by}
+use Rattle.page_lines.specs.Tallies.{IsTally, HasNothing, KeepsRing, entries_from}
 
 -- ---- the lines of the page at hand
 
@@ -60,52 +63,59 @@ ArePlain size bytes (page ∷ pages) =
 
 -- One page more was read, which has these bytes: it is plain, and these are its lines.
 pub record AddsImage (bytes : List ℕ) (old new : Tally) (lines : List ModelLine) : Type 0 where
+  pub ring : KeepsRing old new
   pub page : Page
   pub raw : resembles bytes ≡ false
   pub plain : smaller_in bytes ≡ None
   pub page_is : IsPageOf bytes page
-  pub tally_is : (pages : List Page) → IsTally old pages → IsTally new (pages ++ page ∷ [])
-  pub next_is : new.next.0 ≡ behind old.next.0 page
-  pub lines_are : lines ≡ lines_from old.cpu.0 old.next.0 (page ∷ [])
+  pub tally_is : (pages : List Page) → IsTally old pages → IsTally new (pages ++ told_by old.known page ∷ [])
+  pub next_is : new.next.0 ≡ behind old.next.0 (told_by old.known page)
+  pub stated_is : StatesMore old.stated (page ∷ []) new.stated
+  pub lines_are : lines ≡ lines_from old.cpu.0 old.next.0 (told_by old.known page ∷ [])
 
 -- So many bytes more were read, one page or none, and these are its lines.
 pub record ReadsNext (size : ℕ) (unread left : Option (List ℕ)) (old : Tally) (count : ℕ) (new : Tally)
     (lines : List ModelLine) : Type 0 where
+  pub ring : KeepsRing old new
   pub bytes : List ℕ
   pub consumed : Consumes unread left bytes
   pub long : length bytes ≡ count
   pub pages : List Page
   pub plain : ArePlain size bytes pages
   pub whole : count ≡ size → length pages ≡ 1
-  pub tally_is : (before : List Page) → IsTally old before → IsTally new (before ++ pages)
-  pub next_is : new.next.0 ≡ end_from old.next.0 pages
-  pub lines_are : lines ≡ lines_from old.cpu.0 old.next.0 pages
+  pub tally_is : (before : List Page) → IsTally old before → IsTally new (before ++ map (told_by old.known) pages)
+  pub next_is : new.next.0 ≡ end_from old.next.0 (map (told_by old.known) pages)
+  pub stated_is : StatesMore old.stated pages new.stated
+  pub lines_are : lines ≡ lines_from old.cpu.0 old.next.0 (map (told_by old.known) pages)
 
--- nothing is read yet of the pages of this CPU and size that a reader has
-pub record IsFresh {R : Type 0} (cpu : CpuId) (reader : R) (size : ℕ) (reading : Reading R) : Type 0 where
-  pub reader_is : reading.reader ≡ reader
-  pub size_is : reading.size ≡ size
-  pub begins : reading.is_last ≡ false
-  pub no_bytes : reading.taken ≡ 0
-  pub cpu_is : reading.tally.cpu ≡ cpu
-  pub tally_is : IsTally reading.tally []
-  pub none_left : reading.left ≡ []
+-- nothing is read yet of the pages of this CPU and size that a reader has; a loss of unknown number is taken as this
+pub record IsFresh {R : Type 0} (cpu : CpuId) (reader : R) (size : ℕ) (known : Missed) (reading : Reading R) : Type 0
+  where
+    pub reader_is : reading.reader ≡ reader
+    pub size_is : reading.size ≡ size
+    pub begins : reading.is_last ≡ false
+    pub no_bytes : reading.taken ≡ 0
+    pub nothing : HasNothing cpu known reading.tally
+    pub none_left : reading.left ≡ []
 
 module _ {R : Type 0} (remaining : R → Option (List ℕ)) where
   -- Some pages more were read, and these lines were passed.
   pub record Passes (old : Reading R) (lines : List ModelLine) (new : Reading R) : Type 0 where
     pub size_is : new.size ≡ old.size
-    pub cpu_is : new.tally.cpu ≡ old.tally.cpu
+    pub ring : KeepsRing old.tally new.tally
     pub bytes : List ℕ
     pub consumed : Consumes (remaining old.reader) (remaining new.reader) bytes
     pub pages : List Page
     pub plain : ArePlain old.size bytes pages
     pub whole : new.is_last ≡ false → length bytes ≡ old.size * length pages
     pub no_more : old.is_last ≡ true → (bytes ≡ []) × (new.is_last ≡ true)
-    pub tally_is : (before : List Page) → IsTally old.tally before → IsTally new.tally (before ++ pages)
-    pub next_is : new.tally.next.0 ≡ end_from old.tally.next.0 pages
+    pub tally_is : (before : List Page) → IsTally old.tally before
+        → IsTally new.tally (before ++ map (told_by old.tally.known) pages)
+    pub next_is : new.tally.next.0 ≡ end_from old.tally.next.0 (map (told_by old.tally.known) pages)
+    pub stated_is : StatesMore old.tally.stated pages new.tally.stated
     pub count_is : new.taken ≡ old.taken + length bytes
-    pub lines_are : old.left ++ lines_from old.tally.cpu.0 old.tally.next.0 pages ≡ lines ++ new.left
+    pub lines_are : old.left ++ lines_from old.tally.cpu.0 old.tally.next.0 (map (told_by old.tally.known) pages)
+        ≡ lines ++ new.left
 
 -- no line is at hand that is earlier than this moment
 abbrev pub IsNotAfter : (moment : ℕ) → Option ModelLine → Type 0
@@ -128,15 +138,19 @@ abbrev pub NeverFall : (low : ℕ) → List ModelLine → Type 0
 NeverFall low [] = ⊤
 NeverFall low (line ∷ lines) = (low ≤ line.moment) × NeverFall line.moment lines
 
--- All pages of this CPU and size that a reader has were read, and these are their lines.
+-- All pages of this CPU and size that a reader has were read, and these are their lines, if this is known of a loss of
+-- unknown number.
 pub record ReadsAll {R : Type 0} (remaining : R → Option (List ℕ)) (cpu : CpuId) (reader : R) (size : ℕ)
-    (lines : List ModelLine) (ended : Reading R) : Type 0 where
+    (known : Missed) (lines : List ModelLine) (ended : Reading R) : Type 0 where
   pub bytes : List ℕ
   pub consumed : Consumes (remaining reader) (remaining ended.reader) bytes
   pub pages : List Page
   pub plain : ArePlain size bytes pages
-  pub tally_is : IsTally ended.tally pages
+  pub tally_is : IsTally ended.tally (map (told_by known) pages)
   pub cpu_is : ended.tally.cpu ≡ cpu
+  pub known_is : ended.tally.known ≡ known
+  pub unknown_is : ended.tally.stated.unknown ≡ unknown_losses pages
+  pub counted_is : ended.tally.stated.counted ≡ counted_losses pages
   pub count_is : ended.taken ≡ length bytes
-  pub lines_are : lines ≡ lines_from cpu.0 0 pages
+  pub lines_are : lines ≡ lines_from cpu.0 0 (map (told_by known) pages)
   pub never_fall : NeverFall 0 lines

@@ -4,7 +4,9 @@ use Rattle.std.specs.Prelude.{◌∷◌, ◌++◌, length, map}
 use Rattle.std.specs.Prelude.{Option, Some, None, ⊤}
 use Rattle.std.specs.List.{enumerate_from}
 use Rattle.trace_model.specs.Record.{Record}
+use Rattle.trace_model.specs.declared.numbers.CpuId.{CpuId}
 use Rattle.trace_model.specs.declared.numbers.RecordNo.{RecordNo}
+use Rattle.page_image.specs.declared.image.Missed.{Missed}
 use Rattle.page_numbers.specs.Parcels.{ParcelValue, as_parcel}
 use Rattle.capture.specs.Pages.{Page, intact, damaged, least_missed, behind, unknown_from, damages_from}
 use Rattle.capture.specs.Pages.{end_from, Fit}
@@ -60,6 +62,19 @@ pub record IsTally (tally : Tally) (pages : List Page) : Type 0 where
   pub count_is : tally.pages ≡ length pages
   pub fit : Fit pages
 
+-- it is of the same CPU, and a loss of unknown number is taken as before
+pub record KeepsRing (old new : Tally) : Type 0 where
+  pub cpu_is : new.cpu ≡ old.cpu
+  pub known_is : new.known ≡ old.known
+
+-- nothing is read yet of a CPU, and a loss of unknown number is taken as this
+pub record HasNothing (cpu : CpuId) (known : Missed) (tally : Tally) : Type 0 where
+  pub cpu_is : tally.cpu ≡ cpu
+  pub known_is : tally.known ≡ known
+  pub none_unknown : tally.stated.unknown ≡ 0
+  pub none_counted : tally.stated.counted ≡ 0
+  pub tally_is : IsTally tally []
+
 -- So many records were counted, the first of which is `first`, and before them this loss.
 pub record AddsRead (old : Tally) (loss : Loss) (count first : ℕ) (new : Tally) : Type 0 where
   pub first_is : first ≡ old.next.0 + loss.least
@@ -72,7 +87,6 @@ pub record AddsRead (old : Tally) (loss : Loss) (count first : ℕ) (new : Tally
   pub next_is : new.next.0 ≡ first + count
   pub fits : first + count < 2 ^ 64
   pub pages_are : new.pages ≡ old.pages
-  pub cpu_is : new.cpu ≡ old.cpu
 
 -- what was found of a page, if `next` numbers are before it: the number of its first record, and its records
 abbrev pub IsFoundAt : (next : ℕ) → Page → Option (RecordNo × ParcelValue) → Type 0

@@ -5,6 +5,7 @@ ghost use Rattle.trace_model.specs.Listing.{Line as ModelLine, IsListing};
 ghost use Rattle.time_merge.specs.Walks.{TakesAll};
 ghost use Rattle.page_lines.specs.Sources.{ArePlain, IsFresh, NeverFall, Passes, PassesLine, Reading, ReadsAll};
 ghost use Rattle.trace_model.specs.declared.numbers.CpuId.{CpuId};
+ghost use Rattle.page_image.specs.declared.image.Missed.{Missed};
 ghost use Rattle.time_merge.specs.Heads.{first_in};
 ghost use Rattle.capture.specs.Smaller.{smaller_pages};
 ghost use Rattle.capture.specs.files.Files.{is_dat};
@@ -50,10 +51,11 @@ pub fn merged_lines_are_those_of_captures()
 /// A source that was opened, and has given lines until none was left, has read all pages of its reader, and given their
 /// lines.
 pub fn a_source_without_a_line_has_read_all<R: Source>()
-    ensures { (cpu : CpuId) (reader : R) (size : ℕ) (fresh opened ended : Reading R) (lines : List ModelLine)
-        → IsFresh cpu reader size fresh → Passes R.remaining fresh [] opened
+    ensures { (cpu : CpuId) (reader : R) (size : ℕ) (known : Missed) (fresh opened ended : Reading R)
+        (lines : List ModelLine)
+        → IsFresh cpu reader size known fresh → Passes R.remaining fresh [] opened
         → TakesAll (PassesLine R.remaining) opened lines ended → first_in ended.left ≡ None
-        → ReadsAll R.remaining cpu reader size lines ended }
+        → ReadsAll R.remaining cpu reader size known lines ended }
 {}
 
 /// Pages that are plain are those of a raw file, none of which shows smaller ones.

@@ -9,8 +9,10 @@ mod at_hand;
 pub mod laws;
 mod page;
 mod source;
+mod stated;
 mod tally;
 
 pub use page::{Found, Loss, find_page};
 pub use source::{Halt, PageLines};
+pub use stated::Stated;
 pub use tally::Tally;

@@ -19,6 +19,32 @@ pub struct Loss {
     pub is_unknown: bool,
 }
 
+impl Loss {
+    ghost use Rattle.page_numbers.specs.Parcels.{ParcelValue};
+    ghost use Rattle.page_lines.specs.Stating.{told_by};
+
+    /// The same, if this is known of a loss of unknown number.
+    pub(crate) fn told(self, known: Missed) -> Loss
+        ensures { (page : Page) (parcel : ParcelValue) → IsFound (Found.Read self parcel) page
+            → IsFound (Found.Read result parcel) (told_by known page) }
+    {
+        if !self.is_unknown {
+            return self;
+        }
+        match known {
+            Missed::None => Loss {
+                least: 0,
+                is_unknown: false,
+            },
+            Missed::Unknown => self,
+            Missed::Count(least) => Loss {
+                least,
+                is_unknown: false,
+            },
+        }
+    }
+}
+
 /// What is read of a page.
 #[derive(Drop)]
 pub enum Found {

@@ -10,6 +10,7 @@ use crate::at_hand::AtHand;
 use crate::tally::Tally;
 use capture::{CaptureFault, smaller_in};
 use command_io::{Source, fill_piece};
+use page_image::Missed;
 use std::alloc::Global;
 use std::marker::Model;
 use time_merge::{Line, LineSource, Stopped};
@@ -233,11 +234,17 @@ impl<R: Source + Drop> PageLines<R> {
     }
 
     /// Nothing is read yet.
-    fn fresh(alloc: Global, cpu: CpuId, size: usize, reader: R) -> Result<PageLines<R>, NoMemory>
+    fn fresh(
+        alloc: Global,
+        cpu: CpuId,
+        size: usize,
+        known: Missed,
+        reader: R,
+    ) -> Result<PageLines<R>, NoMemory>
         requires cpu { cpu.0 < MAX_CPUS }
         requires some { 0 < size }
         requires sound { R.failed reader ≡ false }
-        ensures fresh { IfOk result (λ source. IsFresh cpu reader size source) }
+        ensures fresh { IfOk result (λ source. IsFresh cpu reader size known source) }
         ensures goes { IfOk result (λ source. source.halt ≡ None) }
     {
         Ok(PageLines {
@@ -246,7 +253,7 @@ impl<R: Source + Drop> PageLines<R> {
             piece: vec![in alloc; 0u8; size]?,
             is_last: false,
             taken: 0,
-            tally: Tally::new(alloc, cpu),
+            tally: Tally::new(alloc, cpu, known),
             at_hand: AtHand::none(alloc, cpu),
             halt: None,
             turns: u64::MAX,
@@ -254,15 +261,21 @@ impl<R: Source + Drop> PageLines<R> {
     }
 
     /// The lines of the pages of this CPU, `size` bytes each but for the last one, which may be shorter, that a source
-    /// has. It is read up to the first page that has records.
-    pub fn open(alloc: Global, cpu: CpuId, size: usize, reader: R) -> Result<PageLines<R>, NoMemory>
+    /// has. A loss of unknown number is taken as `known`. The source is read up to the first page that has records.
+    pub fn open(
+        alloc: Global,
+        cpu: CpuId,
+        size: usize,
+        known: Missed,
+        reader: R,
+    ) -> Result<PageLines<R>, NoMemory>
         requires cpu { cpu.0 < MAX_CPUS }
         requires some { 0 < size }
         requires sound { R.failed reader ≡ false }
         ensures { IfOk result (λ source. source.halt ≡ None → (fresh : Reading R)
-            × IsFresh cpu reader size fresh × Passes R.remaining fresh [] source) }
+            × IsFresh cpu reader size known fresh × Passes R.remaining fresh [] source) }
     {
-        let mut source = PageLines::fresh(alloc, cpu, size, reader)?;
+        let mut source = PageLines::fresh(alloc, cpu, size, known, reader)?;
         match source.go_on() {
             Ok(()) => Ok(source),
             Err(halt) => {

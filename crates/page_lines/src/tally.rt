@@ -1,8 +1,9 @@
 //! What pages say besides their records.
 
 use crate::page::{Found, Loss, find_page};
+use crate::stated::Stated;
 use capture::{CaptureFault, Damaged};
-use page_image::ImageFault;
+use page_image::{ImageFault, Missed};
 use page_numbers::Parcel;
 use std::alloc::Global;
 use trace_model::{CpuId, RecordNo};
@@ -12,6 +13,10 @@ use trace_model::{CpuId, RecordNo};
 pub struct Tally {
     /// The CPU whose pages these are.
     pub cpu: CpuId,
+    /// What a loss of unknown number is taken as.
+    pub known: Missed,
+    /// What the pages state of their losses.
+    pub stated: Stated,
     /// The runs of missing numbers before the last record, each by its first and its last one.
     pub missing: Vec<(RecordNo, RecordNo)>,
     /// The numbers at which records were lost whose number isn't stated. One is counted for each.
@@ -27,20 +32,26 @@ pub struct Tally {
 }
 
 impl Tally {
-    ghost use Rattle.std.specs.Prelude.{◌≡◌, ◌<◌, [], Some, None, IfOk, OnOk};
+    ghost use Rattle.std.specs.Prelude.{◌≡◌, ◌<◌, [], ◌∷◌, Some, None, IfOk, OnOk};
     ghost use Rattle.trace_model.specs.declared.limits.TheConstants.{MAX_CPUS};
     ghost use Rattle.capture.specs.Pages.{Page, IsPageOf};
     ghost use Rattle.page_lines.specs.Found.{IsFound};
     ghost use Rattle.page_lines.specs.declared.page.Found.{Found};
-    ghost use Rattle.page_lines.specs.Tallies.{IsTally, AddsPage, AddsRead};
+    ghost use Rattle.page_image.specs.declared.image.Missed.{Missed as KnownMissed};
+    ghost use Rattle.page_lines.specs.Stating.{StatesMore, told_by};
+    ghost use Rattle.page_lines.specs.Tallies.{IsTally, AddsPage, AddsRead, HasNothing, KeepsRing};
 
     /// Nothing is read of a CPU.
-    pub fn new(alloc: Global, cpu: CpuId) -> Tally
-        ensures cpu { result.cpu ≡ cpu }
-        ensures none { IsTally result [] }
+    pub fn new(alloc: Global, cpu: CpuId, known: Missed) -> Tally
+        ensures none { HasNothing cpu known result }
     {
         Tally {
             cpu,
+            known,
+            stated: Stated {
+                unknown: 0,
+                counted: 0,
+            },
             missing: Vec::new(alloc),
             unknown: Vec::new(alloc),
             damaged: Vec::new(alloc),
@@ -52,7 +63,8 @@ impl Tally {
 
     /// Adds so many records, and before them this loss. Gives the number of the first of them.
     fn add_records(&mut self, loss: Loss, count: u64) -> Result<RecordNo, CaptureFault>
-        ensures cpu { self.new.cpu ≡ self.old.cpu }
+        ensures ring { KeepsRing self.old self.new }
+        ensures stated { self.new.stated ≡ self.old.stated }
         ensures added { IfOk result (λ first. AddsRead self.old loss count first.0 self.new) }
     {
         if loss.is_unknown {
@@ -73,7 +85,8 @@ impl Tally {
 
     /// Adds a page that reads. Gives the number of its first record.
     fn add_read(&mut self, loss: Loss, parcel: &Parcel) -> Result<RecordNo, CaptureFault>
-        ensures cpu { self.new.cpu ≡ self.old.cpu }
+        ensures ring { KeepsRing self.old self.new }
+        ensures stated { self.new.stated ≡ self.old.stated }
         ensures added { (page : Page) → IsFound (Found.Read loss parcel.now) page
             → IfOk result (λ first. AddsPage self.old page (Some (first, parcel.now)) self.new) }
     {
@@ -85,7 +98,8 @@ impl Tally {
 
     /// Adds a page that can't be read.
     fn add_damaged(&mut self, fault: ImageFault) -> Result<(), CaptureFault>
-        ensures cpu { self.new.cpu ≡ self.old.cpu }
+        ensures ring { KeepsRing self.old self.new }
+        ensures stated { self.new.stated ≡ self.old.stated }
         ensures added { (page : Page) → IsFound (Found.Damaged fault) page
             → OnOk result (AddsPage self.old page None self.new) }
     {
@@ -110,13 +124,16 @@ impl Tally {
         image: &mut [u8],
     ) -> Result<Option<(RecordNo, Parcel)>, CaptureFault>
         requires { self.old.cpu.0 < MAX_CPUS }
-        ensures cpu { self.new.cpu ≡ self.old.cpu }
+        ensures ring { KeepsRing self.old self.new }
         ensures added { IfOk result (λ found. (page : Page) × IsPageOf image.old page
-            × AddsPage self.old page found self.new) }
+            × AddsPage self.old (told_by self.old.known page) found self.new
+            × StatesMore self.old.stated (page ∷ []) self.new.stated) }
     {
         match find_page(alloc, self.cpu, image)? {
             Found::Read(loss, parcel) => {
-                let first = self.add_read(loss, &parcel)?;
+                let stated = self.stated.with(loss)?;
+                let first = self.add_read(loss.told(self.known), &parcel)?;
+                self.stated = stated;
                 Ok(Some((first, parcel)))
             }
             Found::Damaged(fault) => {
