@@ -5,7 +5,7 @@ mod Commas
 mod FieldLoops
 mod PayloadsToo
 mod NumberTexts
-mod Damages
+pub mod Damages
 mod Places
 mod Pieces
 mod Events

@@ -184,7 +184,8 @@ read_all old new (page_read cpu bytes ∷ others) given (between, said, rest, st
       are_read = (step.value, tail.pages, step.is_page, tail.are_read, refl);
       of_pages = λ c.
           any_page c cpu step.value step.lines (all_read (events_of tail.steps)) tail.pages old.cpus between.cpus
-          new.cpus (record { there = step.there; are_lines = step.are_lines; reached_is = step.reached_is }) (tail.of_pages c);
+          new.cpus (record { there = step.there; are_lines = step.are_lines; reached_is = step.reached_is })
+          (tail.of_pages c);
     }
 read_all old new (was_quiet cpu ∷ others) given (between, said, rest, step, run, all) =
     let tail = read_all between new others rest run in
