@@ -17,4 +17,6 @@ mod Followed
 pub mod RawTexts
 pub mod PagedWhole
 mod PagedPrints
+mod PagedParts
+mod PagedGiven
 mod RawCollected

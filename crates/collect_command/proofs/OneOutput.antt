@@ -15,7 +15,8 @@ use Rattle.collector_text.specs.Prints.{IsPrintOf}
 use Rattle.collector_text.proofs.OneText.{one_runs, one_runs_text}
 use Rattle.capture.specs.files.Files.{File, ModelPart, Checked, parts_of, parts_of_cpu, ArePartsOf, all_formats}
 use Rattle.capture.specs.files.Captures.{CutsOf}
-use Rattle.capture.specs.files.Files.{all_lines, tasks_of, symbols_of}
+use Rattle.capture.specs.files.Files.{all_lines, tasks_of, symbols_of, first_cut}
+use Rattle.capture.specs.declared.files.captured.CutFile.{CutFile}
 use Rattle.capture.specs.files.Losses.{cpu_counters_in, settled, overrun_in}
 use Rattle.trace_dat.specs.declared.kernel_texts.counters.Counters.{Counters}
 use Rattle.capture_text.specs.declared.form.Form.{Form}
@@ -27,7 +28,7 @@ use Rattle.collect_command.specs.declared.collect.Detail.{Detail}
 use Rattle.collect_command.specs.declared.ending.Listed.{Listed}
 use Rattle.collect_command.specs.Gathered.{AreCpuPages, AreCpusPages}
 use Rattle.collect_command.specs.Listings.{bounds_by, all_unknown, all_damaged, listing_text, detail_by, cut_count}
-use Rattle.collect_command.specs.Listings.{IsListed, is_unnamed, marks_by, with_marks}
+use Rattle.collect_command.specs.Listings.{IsListedCut, is_unnamed, marks_by, with_cut, with_marks}
 use Rattle.collect_command.specs.Runs.{detail_for, formats_for, lines_for, marks_for, selected_for, text_in}
 use Rattle.collect_command.specs.Runs.{AskTheSame, SayTheSame, ListsFiles}
 use Rattle.collect_command.proofs.Sums.{same_sums}
@@ -94,19 +95,19 @@ one_text form detail selected counted parts captures shown other is too =
     ∙ ap (λ (ls : List Line). listing_text form detail selected counted parts
     (record { lines = ls; runs = other.runs }) captures) lines
 
-one_listed : (form : Form) (detail : LineDetail) (selected : Selected) (counted : ℕ → Option Counters)
+one_listed : (cut : Option CutFile) (form : Form) (detail : LineDetail) (selected : Selected) (counted : ℕ → Option Counters)
     (parts : List ModelPart) (captures : List (List Page)) (start text other : List ℕ) (one too : Listed)
-    → IsListed form detail selected counted parts captures (Some start) (Some text) false one
-    → IsListed form detail selected counted parts captures (Some start) (Some other) false too
+    → IsListedCut cut form detail selected counted parts captures (Some start) (Some text) false one
+    → IsListedCut cut form detail selected counted parts captures (Some start) (Some other) false too
     → one.is_unnamed ≡ too.is_unnamed → (text ≡ other) × SayTheSame one too
-one_listed form detail selected counted parts captures start text other one too a b unnamed =
+one_listed cut form detail selected counted parts captures start text other one too a b unnamed =
     let wrote = a.written.all refl in
     let wrote_too = b.written.all refl in
     let parcels = parcels_of_captures 0 captures in
     let same = one_text form detail selected counted parts captures a.shown b.shown a.is_print b.is_print in
     let lines = one_listing parcels parcels a.shown.lines b.shown.lines (same_itself parcels) a.is_print.lines
     b.is_print.lines in (
-      wrote.0 ∙ ap (λ (t : List ℕ). start ++ t) same ∙ sym wrote_too.0,
+      wrote.0 ∙ ap (λ (t : List ℕ). start ++ with_cut cut t) same ∙ sym wrote_too.0,
       record {
         ending = wrote.1 ∙ sym wrote_too.1;
         cut = a.cut_is ∙ ap (cut_count detail selected) lines ∙ sym b.cut_is;
@@ -125,16 +126,17 @@ one_run collecting files start text other one too a b =
     let detail = detail_for collecting files in
     let selected = selected_for collecting files in
     let counted = cpu_counters_in name files in
+    let cut = first_cut name 0 files in
     let parts : b.parts ≡ a.parts = one_parts collecting.page name files b.parts a.parts b.parts_are a.parts_are in
     let pages = subst (λ (ps : List ModelPart). AreCpusPages overrun ps 0 b.captures) parts b.pages_are in
     let captures : b.captures ≡ a.captures =
     one_captures overrun a.parts 0 b.captures a.captures pages a.pages_are (b.count ∙ sym a.count) in
-    one_listed form detail selected counted a.parts a.captures start text other one too a.is_listed
+    one_listed cut form detail selected counted a.parts a.captures start text other one too a.is_listed
     (subst (λ (ps : List ModelPart).
-    IsListed form detail selected counted ps a.captures (Some start) (Some other) false too)
+    IsListedCut cut form detail selected counted ps a.captures (Some start) (Some other) false too)
     parts
     (subst (λ (cs : List (List Page)).
-    IsListed form detail selected counted b.parts cs (Some start) (Some other) false too)
+    IsListedCut cut form detail selected counted b.parts cs (Some start) (Some other) false too)
     captures b.is_listed))
     (a.unnamed_is ∙ sym b.unnamed_is)
 
@@ -176,23 +178,26 @@ listed_too one other files contents after failed listed same b = record {
       b.pages_are;
   count = b.count;
   is_listed = subst (λ (name : List ℕ).
-      IsListed one.form (detail_for one files) (selected_for one files) (cpu_counters_in name files) b.parts b.captures
-      contents after failed listed)
+      IsListedCut (first_cut name 0 files) one.form (detail_for one files) (selected_for one files)
+      (cpu_counters_in name files) b.parts b.captures contents after failed listed)
       (sym same.buffer)
       (subst (λ (f : Form).
-      IsListed f (detail_for one files) (selected_for one files) counted b.parts b.captures contents after failed
+      IsListedCut cut f (detail_for one files) (selected_for one files) counted b.parts b.captures contents after failed
       listed)
       (sym same.form)
       (subst (λ (s : Selected).
-      IsListed other.form (detail_for one files) s counted b.parts b.captures contents after failed listed)
+      IsListedCut cut other.form (detail_for one files) s counted b.parts b.captures contents after failed listed)
       (sym (same_selected one other files same))
       (subst (λ (d : LineDetail).
-      IsListed other.form d (selected_for other files) counted b.parts b.captures contents after failed listed)
+      IsListedCut cut other.form d (selected_for other files) counted b.parts b.captures contents after failed listed)
       (sym (same_detail one other files same)) b.is_listed)));
   unnamed_is = b.unnamed_is ∙ ap is_unnamed (sym (same_marks one other files same));
 } where
   counted : ℕ → Option Counters
   counted = cpu_counters_in other.buffer.now files
+
+  cut : Option CutFile
+  cut = first_cut other.buffer.now 0 files
 
 pub one_output : (collecting same : Collecting) (files : List File) (start text other : List ℕ) (one too : Listed)
     → AskTheSame collecting same → ListsFiles collecting files (Some start) (Some text) false one

@@ -4,7 +4,7 @@ use Rattle.std.proofs.Common.{◌++◌, length, take, drop, get_or, flat_map, ma
 use Rattle.std.proofs.Common.{refl, sym, ap, ap₂, ◌∙◌, subst, arith, true≢false}
 use Rattle.std.specs.Prelude.{if◌then◌else◌, nat_lt}
 use Rattle.std.specs.List.{AllByRecursion}
-use Rattle.std.proofs.lemmas.List.{take_more, take_all, drop_more, drop_all, map-append}
+use Rattle.std.proofs.lemmas.List.{take_more, take_all, drop_more, drop_all}
 use Rattle.std.proofs.lemmas.List.Concat.{flat_map-append}
 use Rattle.std.proofs.lemmas.Grind.{common_steps}
 use Rattle.trace_model.specs.declared.numbers.RecordNo.{RecordNo}
@@ -15,15 +15,6 @@ use Rattle.text_values.proofs.Chains.{put_more, put_same}
 use Rattle.capture.specs.Pages.{Page, unknown_from, damages_from}
 use Rattle.capture.specs.Captures.{numbers_of}
 use Rattle.capture.specs.declared.part.Part.{Part}
-use Rattle.trace_model.specs.Faults.{cut, bad_length, time_overflow}
-use Rattle.trace_model.specs.Image.{ImageCause, too_short, bad_size, bad_count, bad_word}
-use Rattle.text_model.specs.Printing.{image_fault_text}
-use Rattle.page_numbers.specs.Faults.{image_fault}
-use Rattle.dump_command.specs.ImageFaults.{reader_fault_text}
-use Rattle.capture.specs.Pages.{Damage}
-use Rattle.capture.specs.Captures.{IsDamage, AreDamages}
-use Rattle.capture_text.specs.Printing.{damaged_line, damage_line, offset_of, reported_line}
-use Rattle.capture_text.specs.Listed.{is_place_listed, listed_damage}
 use Rattle.capture.specs.declared.pages.Damaged.{Damaged}
 use Rattle.capture.specs.files.Captures.{measured}
 use Rattle.capture.specs.files.Losses.{are_intact}
@@ -33,43 +24,9 @@ use Rattle.capture_text.specs.Listed.{listed_run, listed_losses, listed_page, li
 use Rattle.page_lines.specs.declared.tally.Tally.{Tally}
 use Rattle.page_lines.specs.Tallies.{IsTally, run_numbers, run_between, runs_from}
 use Rattle.page_lines.specs.Sources.{Reading}
+use Rattle.capture_text.proofs.Damages.{all_lines}
 use Rattle.collect_command.specs.Paged.{RawFile, IsRawOf, AreRawOf, part_of, raw_intact}
 use Rattle.collect_command.proofs.Printing.{own_intact}
-
--- ---- damaged pages
-
-fault_text : (cause : ImageCause) → reader_fault_text (image_fault cause) ≡ image_fault_text cause
-fault_text too_short = refl
-fault_text bad_size = refl
-fault_text bad_count = refl
-fault_text (bad_word cut at) = refl
-fault_text (bad_word bad_length at) = refl
-fault_text (bad_word time_overflow at) = refl
-
-one_line : (form : Form) (parts : List Part) (cpu : ℕ) (d : Damaged) (damage : Damage) → IsDamage d damage
-    → reported_line form parts cpu d ≡ damage_line form parts cpu damage
-one_line form parts cpu d damage is =
-    ap (λ (n : ℕ). damaged_line form cpu n d.page (offset_of parts d.page) (reader_fault_text d.fault)) is.number_is
-    ∙ ap (λ (i : ℕ). damaged_line form cpu damage.number i (offset_of parts i) (reader_fault_text d.fault)) is.index_is
-    ∙ ap (λ (text : List ℕ). damaged_line form cpu damage.number damage.index (offset_of parts damage.index) text)
-    (ap reader_fault_text is.fault_is ∙ fault_text damage.cause)
-
--- the same, if it is listed
-one_listed : (form : Form) (bound : Option KnownBound) (parts : List Part) (cpu : ℕ) (d : Damaged) (damage : Damage)
-    → IsDamage d damage → listed_page form bound parts cpu d ≡ listed_damage form bound parts cpu damage
-one_listed form bound parts cpu d damage is =
-    ap₂ (λ (n : ℕ) (line : List ℕ). if is_place_listed bound n then line else []) is.number_is
-    (one_line form parts cpu d damage is)
-
-all_lines : (form : Form) (bound : Option KnownBound) (parts : List Part) (cpu : ℕ) (more : List Damaged)
-    (damages : List Damage) → AreDamages more damages
-    → flat_map (listed_page form bound parts cpu) more ≡ listed_damages form bound parts cpu damages
-all_lines form bound parts cpu [] [] are = refl
-all_lines form bound parts cpu [] (damage ∷ damages) are = absurd are
-all_lines form bound parts cpu (d ∷ more) [] are = absurd are
-all_lines form bound parts cpu (d ∷ more) (damage ∷ damages) are =
-    ap₂ (λ (first others : List ℕ). first ++ others) (one_listed form bound parts cpu d damage are.0)
-    (all_lines form bound parts cpu more damages are.1)
 
 -- ---- the file of a source
 
@@ -258,7 +215,7 @@ module _ {R : Type 0} where
       sym (ap raw_intact (drop_all k raws (omega (arith, raws_length sources raws are, past)))) ∙ before
 
   -- what is left of a list, from its next source on
-  left_at : (sources : List (Reading R)) (k : ℕ) (source : Reading R) → k < length sources
+  pub left_at : (sources : List (Reading R)) (k : ℕ) (source : Reading R) → k < length sources
       → source ≡ get_or sources k source → source ∷ drop (k + 1) sources ≡ drop k sources
   left_at sources k source below at =
       ap (λ (s : Reading R). s ∷ drop (k + 1) sources) at ∙ sym (drop_more sources k source below)

@@ -1,23 +1,28 @@
 -- Sources that gave all their lines have read these raw files.
 use Rattle.std.proofs.Common.{◌≡◌, ℕ, suc, ◌<◌, ◌≤◌, ◌^◌, Bool, false, List, [], ◌∷◌, ◌++◌, map, Option}
-use Rattle.std.proofs.Common.{Some, None, refl, ap, ap₂, subst, arith}
+use Rattle.std.proofs.Common.{Some, None, refl, ap, ap₂, ◌∙◌, subst, arith}
 use Rattle.std.specs.Prelude.{◌||◌}
 use Rattle.std.specs.List.{slice_get, AllByRecursion}
+use Rattle.std.specs.Option.{option_map, option_or}
 use Rattle.trace_model.specs.declared.limits.TheConstants.{MAX_CPUS}
 use Rattle.trace_model.specs.declared.numbers.CpuId.{CpuId}
 use Rattle.trace_model.specs.Listing.{Line as ModelLine}
 use Rattle.trace_dat.specs.Contents.{Contents, EventFormat}
-use Rattle.trace_dat.specs.kernel_texts.Counters.{texts_of}
+use Rattle.trace_dat.specs.declared.fault.Fault.{Fault}
 use Rattle.time_merge.specs.Heads.{first_in}
 use Rattle.time_merge.specs.SourceWalks.{AllPass}
+use Rattle.capture.specs.declared.files.captured.CutFile.{CutFile}
 use Rattle.capture.specs.declared.files.captured.Input.{Input}
 use Rattle.capture.specs.files.Files.{ArePartsOf, all_formats, all_others, all_lines}
 use Rattle.capture.specs.files.Files.{tasks_of, symbols_of, is_in_any, names_of_others, has_named}
-use Rattle.capture.specs.files.Files.{lines_of}
+use Rattle.capture.specs.files.Files.{lines_of, cut_at, cut_in, first_cut, texts_unless}
 use Rattle.capture.specs.files.Losses.{cpu_counters_in, cpu_counters_of}
 use Rattle.capture.proofs.FilesMore.{parts-of-raw, held-raw}
-use Rattle.page_lines.specs.Sources.{Reading, NeverFall, PassesLine, ReadsAll}
+use Rattle.page_image.specs.declared.image.Missed.TheVariants.{Unknown}
+use Rattle.page_lines.specs.Sources.{Reading, NeverFall, PassesLine, ReadsAll, lines_from}
+use Rattle.page_lines.specs.Tallies.{IsTally}
 use Rattle.page_lines.specs.Spread.{RiseBelow}
+use Rattle.page_lines.proofs.OnePage.{told_all}
 use Rattle.page_lines.proofs.Plain.{plain_cut, plain_smaller, plain_raw}
 use Rattle.page_lines.proofs.Whole.{reads_all}
 use Rattle.collect_command.specs.Paged.{RawFile, own_of, file_of, part_of, AreOpened, CpusRise}
@@ -81,8 +86,17 @@ pub plain_counters : (size : ℕ) (raws : List RawFile) → AllByRecursion (IsPl
 plain_counters size [] are cpu = refl
 plain_counters size (raw ∷ []) (is, others) cpu =
     ap (cpu_counters_of cpu)
-    (held-raw (λ (contents : Contents). texts_of [] contents.counters) [] [] (file_of raw) is.is_raw)
+    (held-raw (λ (contents : Contents). texts_unless (cut_in [] contents.buffers) [] contents.counters) [] []
+    (file_of raw) is.is_raw)
 plain_counters size (raw ∷ other ∷ raws) are cpu = refl
+
+pub plain_cuts : (size index : ℕ) (raws : List RawFile) → AllByRecursion (IsPlain size) raws
+    → first_cut [] index (map file_of raws) ≡ None
+plain_cuts size index [] are = refl
+plain_cuts size index (raw ∷ raws) (is, others) =
+    ap₂ (λ (own : Option Fault) (rest : Option CutFile). option_or (option_map (cut_at index) own) rest)
+    (held-raw (λ (contents : Contents). cut_in [] contents.buffers) None [] (file_of raw) is.is_raw)
+    (plain_cuts size (suc index) raws others)
 
 -- ---- the CPUs
 
@@ -102,20 +116,24 @@ cpus_rise low (source ∷ sources) (raw ∷ raws) (is, others) (up, below, rise)
 
 module _ {R : Type 0} (remaining : R → Option (List ℕ)) (failed : R → Bool) (size : ℕ) (large : 48 ≤ size) where
   with_one : (input : Input R) (inputs : List (Input R)) (lines : List ModelLine) (lists : List (List ModelLine))
-      (new : Reading R) (news : List (Reading R)) → ReadsAll remaining input.cpu input.reader size lines new
+      (new : Reading R) (news : List (Reading R))
+      → ReadsAll remaining input.cpu input.reader size Unknown lines new
       → HasEnded remaining failed new → AreWhole remaining failed size inputs lists news
       → AreWhole remaining failed size (input ∷ inputs) (lines ∷ lists) (new ∷ news)
   with_one input inputs lines lists new news reads ended others =
       let raw : RawFile = record { cpu = input.cpu.0; bytes = reads.bytes; pages = reads.pages } in
+      let same = told_all reads.pages in
+      let tally = subst (IsTally new.tally) same reads.tally_is in
+      let own_are = reads.lines_are ∙ ap (lines_from input.cpu.0 0) same in
       record {
         raws = raw ∷ others.raws;
-        lists_are = ap₂ (λ (own : List ModelLine) (rest : List (List ModelLine)). own ∷ rest) reads.lines_are
+        lists_are = ap₂ (λ (own : List ModelLine) (rest : List (List ModelLine)). own ∷ rest) own_are
             others.lists_are;
-        none_falls = (subst (NeverFall 0) reads.lines_are reads.never_fall, others.none_falls);
+        none_falls = (subst (NeverFall 0) own_are reads.never_fall, others.none_falls);
         raw_of = (
           record {
             cpu_is = ap (λ (c : CpuId). c.0) reads.cpu_is;
-            tally_is = reads.tally_is;
+            tally_is = tally;
             count_is = reads.count_is;
           },
           others.raw_of,
@@ -124,7 +142,7 @@ module _ {R : Type 0} (remaining : R → Option (List ℕ)) (failed : R → Bool
         are_raw = (
           record {
             cut = plain_cut size reads.bytes reads.pages reads.plain;
-            fit = reads.tally_is.fit;
+            fit = tally.fit;
             bytes_fit = subst (λ (n : ℕ). n < 2 ^ 64) reads.count_is ended.fits;
           },
           others.are_raw,
@@ -159,7 +177,8 @@ module _ {R : Type 0} (remaining : R → Option (List ℕ)) (failed : R → Bool
       (passes, pass) none (ends, ended) =
       let (fresh, begins, first) = opens goes in
       with_one input inputs lines lists new news
-      (reads_all remaining input.cpu input.reader size fresh source new lines begins first passes (none 0 new refl))
+      (reads_all remaining input.cpu input.reader size Unknown fresh source new lines begins first passes
+      (none 0 new refl))
       ends
       (whole_of inputs sources lists news opened going pass (λ k s at. none (suc k) s at) ended)
   whole_of [] (source ∷ sources) lists news opened going pass none ended = absurd opened

@@ -1,9 +1,9 @@
 -- What a printer prints, one text after the other.
 use Rattle.std.proofs.Common.{◌≡◌, ℕ, zero, suc, ◌+◌, ◌-◌, ◌^◌, ◌<◌, min, Bool, true, false, true≢false}
 use Rattle.std.proofs.Common.{◌&&◌, ◌==◌, ◌↔◌, List, [], ◌∷◌}
-use Rattle.std.proofs.Common.{◌++◌, length, flat_map, map, append_assoc, append-nil, Option, Some, Result, Ok, Err}
-use Rattle.std.proofs.Common.{OnOk, OnErr, IsErr, refl, sym, ap, ap₂, ◌∙◌, subst, arith}
-use Rattle.std.specs.Prelude.{cond, count_by, fold}
+use Rattle.std.proofs.Common.{◌++◌, length, flat_map, map, append_assoc, append-nil, Option, Some, None, Result, Ok}
+use Rattle.std.proofs.Common.{Err, OnOk, OnErr, IsErr, refl, sym, ap, ap₂, ◌∙◌, subst, arith}
+use Rattle.std.specs.Prelude.{cond, count_by, fold, if◌then◌else◌}
 use Rattle.std.specs.Result.{is_ok}
 use Rattle.std.specs.List.{slice_get}
 use Rattle.std.specs.Io.KnownBytes.{Appends}
@@ -22,6 +22,7 @@ use Rattle.capture.specs.Pages.{Page, intact, damaged, behind, unknown_from, dam
 use Rattle.capture.specs.Captures.{AreDamages}
 use Rattle.capture.specs.declared.pages.Damaged.{Damaged}
 use Rattle.capture.specs.declared.files.captured.CpuCapture.{CpuCapture}
+use Rattle.capture.specs.declared.files.captured.CutFile.{CutFile}
 use Rattle.capture.specs.files.Files.{ModelPart, parts_of_cpu}
 use Rattle.capture.specs.files.Captures.{measured}
 use Rattle.capture.specs.files.Losses.{are_intact}
@@ -40,7 +41,9 @@ use Rattle.text_values.specs.Putting.{Start, HasPut, Puts}
 use Rattle.text_values.proofs.Chains.{put_none, put_then}
 use Rattle.collect_command.specs.Gathered.{AreReadFrom}
 use Rattle.command_io.specs.Written.{IsTextWritten}
+use Rattle.collect_command.specs.declared.ending.Ending.{Ending}
 use Rattle.collect_command.specs.declared.ending.Ending.TheVariants.{NotWritten}
+use Rattle.collect_command.specs.Listings.{cut_line, with_cut}
 use Rattle.collect_command.specs.Listings.{all_unknown, all_damaged, are_all_intact, ending_of}
 
 -- ---- a count that stops at the greatest number
@@ -230,17 +233,31 @@ same_print joined parcels shown same is = record {
 
 -- ---- how the writing ends
 
+pub ended_so : {T F : Type 0} (result : Result T F) (failed : Bool) (wanted : Ending)
+    (contents after : Option (List ℕ)) (text : List ℕ)
+    → OnOk result (Appends contents after text) → OnErr result (AppendsPrefix contents after text)
+    → ((failed ≡ true) ↔ IsErr result)
+    → IsTextWritten NotWritten contents after failed text wanted (if is_ok result then wanted else NotWritten)
+ended_so (Ok x) failed wanted contents after text all prefix fault = record {
+  all = λ sound. (all, refl);
+  cut_off = λ broken. absurd (true≢false (sym (fault.0 broken)));
+}
+ended_so (Err e) failed wanted contents after text all prefix fault = record {
+  all = λ sound. absurd (true≢false (sym (fault.1 refl) ∙ sound));
+  cut_off = λ broken. (prefix, refl);
+}
+
 pub ended : {T F : Type 0} (result : Result T F) (failed is_intact : Bool) (contents after : Option (List ℕ))
     (text : List ℕ)
     → OnOk result (Appends contents after text) → OnErr result (AppendsPrefix contents after text)
     → ((failed ≡ true) ↔ IsErr result)
     → IsTextWritten NotWritten contents after failed text (ending_of true is_intact)
     (ending_of (is_ok result) is_intact)
-ended (Ok x) failed is_intact contents after text all prefix fault = record {
-  all = λ sound. (all, refl);
-  cut_off = λ broken. absurd (true≢false (sym (fault.0 broken)));
-}
-ended (Err e) failed is_intact contents after text all prefix fault = record {
-  all = λ sound. absurd (true≢false (sym (fault.1 refl) ∙ sound));
-  cut_off = λ broken. (prefix, refl);
-}
+ended result failed is_intact contents after text all prefix fault =
+    ended_so result failed (ending_of true is_intact) contents after text all prefix fault
+
+-- ---- the line of a file that was cut short
+
+pub with_line : (cut : Option CutFile) (text : List ℕ) → text ++ cut_line cut ≡ with_cut cut text
+with_line None text = append-nil text
+with_line (Some cut) text = refl

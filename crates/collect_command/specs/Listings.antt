@@ -18,6 +18,8 @@ use Rattle.collector_text.specs.Prints.{IsPrintOf}
 use Rattle.capture.specs.files.Files.{ModelPart, parts_of_cpu}
 use Rattle.capture.specs.files.Captures.{measured}
 use Rattle.capture.specs.declared.files.captured.CpuCapture.{CpuCapture}
+use Rattle.capture.specs.declared.files.captured.CutFile.{CutFile}
+use Rattle.capture.specs.declared.files.fault.FileFault.TheVariants.{Format}
 use Rattle.capture.specs.files.Losses.{are_intact}
 use Rattle.capture_text.specs.declared.form.Form.{Form}
 use Rattle.capture_text.specs.declared.naming.Naming.{Naming}
@@ -35,7 +37,8 @@ use Rattle.collect_command.specs.declared.collect.Texts.{Texts}
 use Rattle.collect_command.specs.declared.collect.Detail.TheVariants.{Payload, Names, Fields}
 use Rattle.collect_command.specs.declared.ending.Listed.{Listed}
 use Rattle.collect_command.specs.declared.ending.Ending.{Ending}
-use Rattle.collect_command.specs.declared.ending.Ending.TheVariants.{Done, Damaged, NotWritten}
+use Rattle.collect_command.specs.declared.ending.Ending.TheVariants.{Done, Damaged, MalformedFile, NotWritten}
+use Rattle.collect_command.specs.Faults.{fault_line}
 
 -- what is known of each CPU that is listed, by these lines
 abbrev pub bounds_by : Selected → List Line → (cpu : ℕ) → Option KnownBound
@@ -102,6 +105,23 @@ listing_text form detail selected counted parts shown captures =
 abbrev pub ending_of : (is_written is_intact : Bool) → Ending
 ending_of is_written is_intact = if is_written then (if is_intact then Done else Damaged) else NotWritten
 
+-- ---- a file that was cut short
+
+-- the line of the first file that was cut short, if one was
+abbrev pub cut_line : Option CutFile → List ℕ
+cut_line None = []
+cut_line (Some cut) = fault_line (Format cut.fault)
+
+-- a text, and behind it that line
+abbrev pub with_cut : Option CutFile → List ℕ → List ℕ
+with_cut None text = text
+with_cut (Some cut) text = text ++ fault_line (Format cut.fault)
+
+-- the ending says so, in place of this one
+abbrev pub cut_ending : Option CutFile → Ending → Ending
+cut_ending None ending = ending
+cut_ending (Some cut) ending = MalformedFile cut.input (Format cut.fault)
+
 -- ---- what is said of records
 
 -- what a line says of its record, by these formats, and by these lines of processes and of symbols, if they are asked
@@ -153,15 +173,21 @@ pub record SaysNothing (listed : Listed) : Type 0 where
   pub none_malformed : listed.malformed.items ≡ []
   pub none_unnamed : listed.is_unnamed ≡ false
 
--- What the captures have and miss was written, as far as it is selected, and is said of it.
-pub record IsListed (form : Form) (detail : LineDetail) (selected : Selected) (counted : ℕ → Option Counters)
-    (parts : List ModelPart) (captures : List (List Page)) (contents after : Option (List ℕ)) (failed : Bool)
-    (listed : Listed)
-    : Type 0 where
+-- What the captures have and miss was written, as far as it is selected, and is said of it; last of all the line of the
+-- first file that was cut short, if one was.
+pub record IsListedCut (cut : Option CutFile) (form : Form) (detail : LineDetail) (selected : Selected)
+    (counted : ℕ → Option Counters) (parts : List ModelPart) (captures : List (List Page))
+    (contents after : Option (List ℕ)) (failed : Bool) (listed : Listed) : Type 0 where
   pub shown : Shown
   pub is_print : IsPrintOf (parcels_of_captures 0 captures) shown
   pub written : IsTextWritten NotWritten contents after failed
-      (listing_text form detail selected counted parts shown captures)
-      (ending_of true (are_all_intact captures)) listed.ending
+      (with_cut cut (listing_text form detail selected counted parts shown captures))
+      (cut_ending cut (ending_of true (are_all_intact captures))) listed.ending
   pub cut_is : listed.cut ≡ cut_count detail selected shown.lines
   pub malformed_are : map malformed_seen listed.malformed.items ≡ malformed_for detail
+
+-- The same of files none of which was cut short.
+abbrev pub IsListed : Form → LineDetail → Selected → (counted : ℕ → Option Counters) → List ModelPart
+    → List (List Page) → (contents after : Option (List ℕ)) → (failed : Bool) → Listed → Type 0
+IsListed form detail selected counted parts captures contents after failed listed =
+    IsListedCut None form detail selected counted parts captures contents after failed listed

@@ -15,9 +15,10 @@ use Rattle.capture.specs.declared.files.captured.Input.{Input}
 use Rattle.capture.specs.declared.files.fault.InputFault.{InputFault}
 use Rattle.capture.specs.declared.files.fault.InputFault.TheVariants as faults
 use Rattle.capture.specs.files.Files.{File, ModelPart, ArePartsOf, all_formats, all_others, is_in_any}
-use Rattle.capture.specs.files.Files.{all_lines, tasks_of, symbols_of}
+use Rattle.capture.specs.files.Files.{all_lines, tasks_of, symbols_of, first_cut}
 use Rattle.capture.specs.files.Captures.{texts_held}
 use Rattle.capture.specs.declared.files.captured.Captured.{Captured}
+use Rattle.capture.specs.declared.files.captured.CutFile.{CutFile}
 use Rattle.capture.specs.declared.files.captured.Wanted.{Wanted}
 use Rattle.capture.specs.files.Losses.{cpu_counters_in, overrun_in}
 use Rattle.capture.specs.files.Inputs.{AreRead, IsUnread}
@@ -32,7 +33,7 @@ use Rattle.collect_command.specs.Faults.{fault_line, numbers_line}
 use Rattle.capture_text.specs.Printing.{Detail as LineDetail}
 use Rattle.capture_text.specs.Printed.{AreTasks, AreSymbols}
 use Rattle.capture_text.specs.Selection.{Selected, selection_seen}
-use Rattle.collect_command.specs.Listings.{IsListed, SaysNothing, detail_by, is_unnamed, marks_by}
+use Rattle.collect_command.specs.Listings.{IsListedCut, SaysNothing, detail_by, is_unnamed, marks_by}
 use Rattle.collect_command.specs.Listings.{with_marks}
 
 -- the formats in the files, and those that are given
@@ -81,9 +82,9 @@ pub record AreGiven (collecting : Collecting) (captured : Captured) (formats : L
 
 -- these captures are listed, with what was read and given, and it is said whether the pattern names none of the events
 pub record IsListedSo (collecting : Collecting) (formats : List EventFormat) (tasks symbols : Option (List (List ℕ)))
-    (counted : ℕ → Option Counters) (parts : List ModelPart) (captures : List (List Page))
+    (cut : Option CutFile) (counted : ℕ → Option Counters) (parts : List ModelPart) (captures : List (List Page))
     (contents after : Option (List ℕ)) (failed : Bool) (listed : Listed) : Type 0 where
-  pub is_listed : IsListed collecting.form (detail_by collecting.detail formats tasks symbols)
+  pub is_listed : IsListedCut cut collecting.form (detail_by collecting.detail formats tasks symbols)
       (with_marks (marks_for collecting formats) (selection_seen collecting.selection)) counted parts captures contents
       after failed listed
   pub unnamed_is : listed.is_unnamed ≡ is_unnamed (marks_for collecting formats)
@@ -107,7 +108,8 @@ pub record SayTheSame (one other : Listed) : Type 0 where
   pub malformed : map malformed_seen one.malformed.items ≡ map malformed_seen other.malformed.items
   pub is_unnamed : one.is_unnamed ≡ other.is_unnamed
 
--- The files, none of which has a fault, are listed: their pages, CPU by CPU, and what these have and miss.
+-- The files, none of which has a fault that hinders reading, are listed: their pages, CPU by CPU, what these have and
+-- miss, and last of all the fault of the first file that was cut short, if one was.
 pub record ListsFiles (collecting : Collecting) (files : List File) (contents after : Option (List ℕ)) (failed : Bool)
     (listed : Listed) : Type 0 where
   pub parts : List ModelPart
@@ -115,8 +117,9 @@ pub record ListsFiles (collecting : Collecting) (files : List File) (contents af
   pub captures : List (List Page)
   pub pages_are : AreCpusPages (overrun_in collecting.buffer.now files) parts 0 captures
   pub count : length captures ≡ MAX_CPUS
-  pub is_listed : IsListed collecting.form (detail_for collecting files) (selected_for collecting files)
-      (cpu_counters_in collecting.buffer.now files) parts captures contents after failed listed
+  pub is_listed : IsListedCut (first_cut collecting.buffer.now 0 files) collecting.form (detail_for collecting files)
+      (selected_for collecting files) (cpu_counters_in collecting.buffer.now files) parts captures contents after failed
+      listed
   pub unnamed_is : listed.is_unnamed ≡ is_unnamed (marks_for collecting (formats_for collecting files))
 
 -- nothing was written
@@ -148,11 +151,12 @@ pub record KeepsOthers (old new : Captured) : Type 0 where
   pub others : new.others ≡ old.others
   pub found : new.found ≡ old.found
 
--- the same, and what was read of CPUs
+-- the same, what was read of CPUs, and which file was cut short
 pub record KeepsRead (old new : Captured) : Type 0 where
   pub others : new.others ≡ old.others
   pub found : new.found ≡ old.found
   pub cpus : new.cpus ≡ old.cpus
+  pub cut : new.cut ≡ old.cut
 
 -- an instance is asked for, by its name, that wasn't found
 abbrev pub is_missing : (name : List ℕ) → (found : Bool) → Bool

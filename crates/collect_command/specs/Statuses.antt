@@ -7,7 +7,8 @@ use Rattle.collect_command.specs.declared.ending.Outcome.{Outcome}
 use Rattle.collect_command.specs.declared.follow.LiveCollected.{LiveCollected}
 use Rattle.collect_command.specs.declared.ending.Ending.{Ending}
 use Rattle.collect_command.specs.declared.ending.Ending.TheVariants.{Done, Damaged, Hidden, MalformedFile, Malformed}
-use Rattle.collect_command.specs.declared.ending.Ending.TheVariants.{Numbers, NoMemory, NotRead, TooLong, NotWritten}
+use Rattle.collect_command.specs.declared.ending.Ending.TheVariants.{Numbers, NoMemory, NotRead, Changed, TooLong}
+use Rattle.collect_command.specs.declared.ending.Ending.TheVariants.{NotWritten}
 
 -- 0 if all is listed; 1 for something damaged or hidden, a malformed input or numbers that don't fit; 3 and 4 as for
 -- the other commands
@@ -20,6 +21,7 @@ status_for (Malformed input) = REFUSED
 status_for Numbers = REFUSED
 status_for NoMemory = NO_MEMORY
 status_for (NotRead input) = END_FAILED
+status_for (Changed input) = END_FAILED
 status_for (TooLong input) = END_FAILED
 status_for NotWritten = END_FAILED
 

@@ -1,11 +1,9 @@
 //! The command `collect` over raw files that are read while they are listed.
 ghost use Rattle.std.specs.Prelude.{◌≡◌, ◌≤◌, false, ℕ, List, [], Option, IfOk, OnErr};
 ghost use Rattle.trace_dat.specs.Contents.{EventFormat};
-ghost use Rattle.capture.specs.declared.files.captured.Input.{Input};
 ghost use Rattle.capture_text.specs.Selection.{selection_seen};
 ghost use Rattle.collect_command.specs.Listings.{AreTexts, detail_by};
-ghost use Rattle.collect_command.specs.Paged.{AreOpened, IsToTheEnd, ListsRaw, ListsRawSo};
-ghost use Rattle.collect_command.specs.Runs.{CollectsAll};
+ghost use Rattle.collect_command.specs.Paged.{CollectsPages, ListsPages, ListsPagesSo};
 
 use crate::collect::{
     Collecting, Detail, Texts, add_given, is_unnamed, lent_marks, marks_for, texts_of, with_events,
@@ -34,12 +32,11 @@ fn print_fields<R: Source + Drop, W: Sink>(
 ) -> Result<Listed, NoMemory>
     requires page { 48 ≤ collecting.now.page }
     requires sound { W.failed writer.old ≡ false }
-    ensures listed { (formats : List EventFormat) (tasks symbols : Option (List (List ℕ))) (inputs : List (Input R))
+    ensures listed { (formats : List EventFormat) (tasks symbols : Option (List (List ℕ)))
         → AreTexts texts.entry formats tasks symbols
-        → AreOpened R.remaining collecting.now.page inputs sources.items
-        → IfOk result (λ listed. IsToTheEnd listed.ending → ListsRaw R.remaining R.failed collecting.now.form
-        (detail_by Detail.Fields formats tasks symbols) (selection_seen selection.entry) collecting.now.page inputs
-        (W.contents writer.old) (W.contents writer.new) (W.failed writer.new) listed) }
+        → IfOk result (λ listed. ListsPages R.remaining R.failed collecting.now.form
+        (detail_by Detail.Fields formats tasks symbols) (selection_seen selection.entry) collecting.now.page
+        sources.items (W.contents writer.old) (W.contents writer.new) (W.failed writer.new) listed) }
     ensures refused { OnErr result (writer.new ≡ writer.old) }
 {
     let fields = EventFields::new(alloc, texts.names)?;
@@ -76,12 +73,11 @@ fn print_named<R: Source + Drop, W: Sink>(
 ) -> Result<Listed, NoMemory>
     requires page { 48 ≤ collecting.now.page }
     requires sound { W.failed writer.old ≡ false }
-    ensures listed { (formats : List EventFormat) (tasks symbols : Option (List (List ℕ))) (inputs : List (Input R))
+    ensures listed { (formats : List EventFormat) (tasks symbols : Option (List (List ℕ)))
         → AreTexts texts.entry formats tasks symbols
-        → AreOpened R.remaining collecting.now.page inputs sources.items
-        → IfOk result (λ listed. IsToTheEnd listed.ending → ListsRaw R.remaining R.failed collecting.now.form
+        → IfOk result (λ listed. ListsPages R.remaining R.failed collecting.now.form
         (detail_by collecting.now.detail formats tasks symbols) (selection_seen selection.entry) collecting.now.page
-        inputs (W.contents writer.old) (W.contents writer.new) (W.failed writer.new) listed) }
+        sources.items (W.contents writer.old) (W.contents writer.new) (W.failed writer.new) listed) }
     ensures refused { OnErr result (writer.new ≡ writer.old) }
 {
     let form = collecting.form;
@@ -110,8 +106,7 @@ fn list_given<R: Source + Drop, W: Sink>(
 ) -> Result<Listed, NoMemory>
     requires page { 48 ≤ collecting.now.page }
     requires sound { W.failed writer.old ≡ false }
-    ensures listed { (inputs : List (Input R)) → AreOpened R.remaining collecting.now.page inputs sources.items
-        → IfOk result (λ listed. IsToTheEnd listed.ending → ListsRawSo R.remaining R.failed collecting.now inputs
+    ensures listed { IfOk result (λ listed. ListsPagesSo R.remaining R.failed collecting.now sources.items
         (W.contents writer.old) (W.contents writer.new) (W.failed writer.new) listed) }
     ensures refused { OnErr result (writer.new ≡ writer.old) }
 {
@@ -135,8 +130,7 @@ fn list_or_tell<R: Source + Drop, W: Sink>(
 ) -> Listed
     requires page { 48 ≤ collecting.now.page }
     requires sound { W.failed writer.old ≡ false }
-    ensures { (inputs : List (Input R)) → AreOpened R.remaining collecting.now.page inputs sources.items
-        → IsToTheEnd result.ending → ListsRawSo R.remaining R.failed collecting.now inputs
+    ensures { ListsPagesSo R.remaining R.failed collecting.now sources.items
         (W.contents writer.old) (W.contents writer.new) (W.failed writer.new) result }
 {
     match list_given(alloc, collecting, sources, writer) {
@@ -146,8 +140,9 @@ fn list_or_tell<R: Source + Drop, W: Sink>(
 }
 
 /// Lists raw files, each of which one of these sources reads, while they are read: one page of each is held. Each has
-/// to be of a later CPU than the one before, and its moments may not fall; else, and if a file isn't raw, the listing ends
-/// as if a read had failed.
+/// to be raw and of a later CPU than the one before, and its moments may not fall. Where one can't go on, the listing
+/// ends after the lines that go before all that is left: if memory is refused, with the line that says so, and if the
+/// file isn't as it has to be, with `Ending::Changed`.
 pub fn collect_pages<R: Source + Drop, W: Sink>(
     alloc: Global,
     collecting: &Collecting<'_>,
@@ -157,9 +152,8 @@ pub fn collect_pages<R: Source + Drop, W: Sink>(
     requires page { 48 ≤ collecting.now.page }
     requires main { collecting.now.buffer.now ≡ [] }
     requires sound { W.failed writer.old ≡ false }
-    ensures { (inputs : List (Input R)) → AreOpened R.remaining collecting.now.page inputs sources.items
-        → IsToTheEnd result.listed.ending → (new : List (Input R)) × CollectsAll R.remaining R.failed collecting.now
-        inputs new (W.contents writer.old) (W.contents writer.new) (W.failed writer.new) result }
+    ensures { CollectsPages R.remaining R.failed collecting.now sources.items
+        (W.contents writer.old) (W.contents writer.new) (W.failed writer.new) result }
 {
     Collected {
         listed: list_or_tell(alloc, collecting, sources, writer),

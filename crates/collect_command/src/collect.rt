@@ -16,7 +16,7 @@ ghost use Rattle.capture_text.specs.Printed.{AreSymbols, AreTasks};
 ghost use Rattle.capture_text.specs.Selection.{selection_seen};
 ghost use Rattle.command_io.specs.Written.{IsTextWritten};
 ghost use Rattle.collect_command.specs.Gathered.{AreReadFrom};
-ghost use Rattle.collect_command.specs.Listings.{AreCounted, AreTexts, IsListed, detail_by, is_unnamed, with_marks};
+ghost use Rattle.collect_command.specs.Listings.{AreCounted, AreTexts, IsListedCut, detail_by, is_unnamed, with_marks};
 ghost use Rattle.collect_command.specs.Patterns.{marks_of};
 ghost use Rattle.collect_command.specs.Runs.{AreGiven, IsCollectRun, IsListedSo, KeepsOthers, KeepsRead, ListsFiles};
 ghost use Rattle.collect_command.specs.Runs.{TellsFault, TellsMemory, is_missing, kept_if, lines_for, text_in};
@@ -28,7 +28,7 @@ use crate::fault_line::fault_line;
 use crate::listing::print_listing;
 use crate::memory::tell_memory;
 use capture::files::{
-    Captured, CpuCapture, FileFault, Input, InputFault, Unread, Wanted, read_inputs,
+    Captured, CpuCapture, CutFile, FileFault, Input, InputFault, Unread, Wanted, read_inputs,
 };
 use capture_text::{Beside, Form, Naming, Selection};
 use command_io::{Sink, Source, write_text};
@@ -138,6 +138,7 @@ fn print_fields<W: Sink>(
     texts: Texts<'_>,
     selection: Selection<'_>,
     cpus: &[CpuCapture],
+    cut: Option<CutFile>,
     writer: &mut W,
 ) -> Result<Listed, NoMemory>
     requires sound { W.failed writer.old ≡ false }
@@ -146,8 +147,8 @@ fn print_fields<W: Sink>(
         (counted : ℕ → Option Counters) (parts : List ModelPart) (captures : List (List Page))
         → AreTexts texts.entry formats tasks symbols → AreReadFrom parts 0 cpus.now captures
         → AreCounted counted 0 cpus.now → IfOk result (λ listed.
-        IsListed form (detail_by Detail.Fields formats tasks symbols) (selection_seen selection.entry) counted parts
-        captures (W.contents writer.old) (W.contents writer.new) (W.failed writer.new) listed) }
+        IsListedCut cut form (detail_by Detail.Fields formats tasks symbols) (selection_seen selection.entry) counted
+        parts captures (W.contents writer.old) (W.contents writer.new) (W.failed writer.new) listed) }
     ensures refused { OnErr result (writer.new ≡ writer.old) }
 {
     let fields = EventFields::new(alloc, texts.names)?;
@@ -159,7 +160,7 @@ fn print_fields<W: Sink>(
         symbols: texts.symbols,
     };
     let naming = Naming::Fields(texts.names, &fields, beside);
-    print_listing(alloc, form, naming, selection, malformed, cpus, writer)
+    print_listing(alloc, form, naming, selection, malformed, cpus, cut, writer)
 }
 
 /// Prints what was read, with what is asked for of each record. If memory is refused, nothing is written.
@@ -169,6 +170,7 @@ fn print_captured<W: Sink>(
     texts: Texts<'_>,
     selection: Selection<'_>,
     cpus: &[CpuCapture],
+    cut: Option<CutFile>,
     writer: &mut W,
 ) -> Result<Listed, NoMemory>
     requires sound { W.failed writer.old ≡ false }
@@ -177,7 +179,7 @@ fn print_captured<W: Sink>(
         (counted : ℕ → Option Counters) (parts : List ModelPart) (captures : List (List Page))
         → AreTexts texts.entry formats tasks symbols → AreReadFrom parts 0 cpus.now captures
         → AreCounted counted 0 cpus.now → IfOk result (λ listed.
-        IsListed collecting.now.form (detail_by collecting.now.detail formats tasks symbols)
+        IsListedCut cut collecting.now.form (detail_by collecting.now.detail formats tasks symbols)
         (selection_seen selection.entry) counted parts captures
         (W.contents writer.old) (W.contents writer.new) (W.failed writer.new) listed) }
     ensures refused { OnErr result (writer.new ≡ writer.old) }
@@ -186,13 +188,22 @@ fn print_captured<W: Sink>(
     let none = Vec::new(alloc);
     match collecting.detail {
         Detail::Payload => {
-            print_listing(alloc, form, Naming::Payload, selection, none, cpus, writer)
+            print_listing(
+                alloc,
+                form,
+                Naming::Payload,
+                selection,
+                none,
+                cpus,
+                cut,
+                writer,
+            )
         }
         Detail::Names => {
             let naming = Naming::Names(texts.names, texts.tasks);
-            print_listing(alloc, form, naming, selection, none, cpus, writer)
+            print_listing(alloc, form, naming, selection, none, cpus, cut, writer)
         }
-        Detail::Fields => print_fields(alloc, form, texts, selection, cpus, writer),
+        Detail::Fields => print_fields(alloc, form, texts, selection, cpus, cut, writer),
     }
 }
 
@@ -323,7 +334,7 @@ fn list_named<W: Sink>(
         (counted : ℕ → Option Counters) (parts : List ModelPart) (captures : List (List Page))
         → AreGiven collecting.now captured.now formats tasks symbols
         → AreReadFrom parts 0 captured.now.cpus.items captures → AreCounted counted 0 captured.now.cpus.items
-        → IfOk result (λ listed. IsListedSo collecting.now formats tasks symbols counted parts captures
+        → IfOk result (λ listed. IsListedSo collecting.now formats tasks symbols captured.now.cut counted parts captures
         (W.contents writer.old) (W.contents writer.new) (W.failed writer.new) listed) }
     ensures refused { OnErr result (writer.new ≡ writer.old) }
 {
@@ -331,7 +342,16 @@ fn list_named<W: Sink>(
     let marks = lent_marks(&marks);
     let selection = with_events(collecting.selection, marks);
     let texts = texts_of(collecting, captured);
-    let mut listed = print_captured(alloc, collecting, texts, selection, &captured.cpus, writer)?;
+    let cut = captured.cut;
+    let mut listed = print_captured(
+        alloc,
+        collecting,
+        texts,
+        selection,
+        &captured.cpus,
+        cut,
+        writer,
+    )?;
     listed.is_unnamed = is_unnamed(marks);
     Ok(listed)
 }
@@ -387,8 +407,9 @@ fn is_missing(name: &[u8], found: bool) -> bool
     !name.is_empty() && !found
 }
 
-/// Lists files that a kernel's trace was read to: all that they have, by time, and what was lost. Nothing is written
-/// before all are read, and memory is asked for only before the first byte is written.
+/// Lists files that a kernel's trace was read to: all that they have, by time, and what was lost. A file of trace-cmd
+/// that was cut short is listed as far as it goes; what is wrong with the first such file is said at the end, by the
+/// ending too. Nothing is written before all are read, and memory is asked for only before the first byte is written.
 pub fn collect_to<R: Source, W: Sink>(
     alloc: Global,
     collecting: &Collecting<'_>,

@@ -14,7 +14,8 @@ pub enum Ending {
     Damaged,
     /// All is printed but records that marks hide, and a line says of each run of them which they are.
     Hidden,
-    /// A file of trace-cmd has a fault, whose line was printed.
+    /// A file of trace-cmd has a fault, whose line was printed: in place of a listing, or, if the file was cut short,
+    /// behind it.
     MalformedFile {
         /// How many inputs are before it.
         input: usize,
@@ -29,6 +30,8 @@ pub enum Ending {
     NoMemory,
     /// A read of this input failed.
     NotRead(usize),
+    /// This input isn't as it was when it was looked at before.
+    Changed(usize),
     /// This input is longer than what is read.
     TooLong(usize),
     /// A write failed.
@@ -51,7 +54,8 @@ impl Ending {
             | Ending::Malformed(_)
             | Ending::Numbers => REFUSED,
             Ending::NoMemory => NO_MEMORY,
-            Ending::NotRead(_) | Ending::TooLong(_) | Ending::NotWritten => END_FAILED,
+            Ending::NotRead(_) | Ending::Changed(_) | Ending::TooLong(_) | Ending::NotWritten =>
+                END_FAILED,
         }
     }
 }

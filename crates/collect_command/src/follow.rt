@@ -235,6 +235,7 @@ pub(crate) fn nothing_captured(alloc: Global, collecting: &Collecting<'_>) -> Ca
         tasks: TaskNames::new(alloc),
         symbols: SymbolNames::new(alloc),
         machine: None,
+        cut: None,
     }
 }
 

@@ -22,7 +22,7 @@ ghost use Rattle.collect_command.specs.Paged.{IsRaw, RawFile};
 ghost use Rattle.collect_command.specs.Paged.{captures_of, file_of, own_of, part_of, raw_damaged, raw_intact, raw_runs};
 ghost use Rattle.collect_command.specs.Paged.{raw_unknown};
 ghost use Rattle.capture.specs.files.Files.{File, ArePartsOf, all_formats, all_lines, all_others};
-ghost use Rattle.capture.specs.files.Files.{is_in_any, symbols_of};
+ghost use Rattle.capture.specs.files.Files.{first_cut, is_in_any, symbols_of};
 ghost use Rattle.capture.specs.files.Files.{tasks_of};
 ghost use Rattle.collect_command.specs.declared.collect.Collecting.{Collecting as CollectingSeen};
 ghost use Rattle.collect_command.specs.declared.ending.Listed.{Listed as ListedSeen};
@@ -64,6 +64,8 @@ pub fn raw_files_have_pages_alone()
         → (all_lines tasks_of (map file_of raws) ≡ []) × (all_lines symbols_of (map file_of raws) ≡ []) }
     ensures counters { (size : ℕ) (raws : List RawFile) → AllByRecursion (IsPlain size) raws → (cpu : ℕ)
         → cpu_counters_in [] (map file_of raws) cpu ≡ None }
+    ensures cuts { (size : ℕ) (raws : List RawFile) → AllByRecursion (IsPlain size) raws
+        → first_cut [] 0 (map file_of raws) ≡ None }
 {}
 
 /// What is printed of the pages of such files, one after the other, is what is printed of the captures of all CPUs.

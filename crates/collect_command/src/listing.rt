@@ -1,5 +1,6 @@
 //! The listing of captures.
-ghost use Rattle.std.specs.Prelude.{◌≡◌, ◌==◌, ℕ, false, List, [], Option, length, slice_index_or, IfOk, OnErr};
+ghost use Rattle.std.specs.Prelude.{◌≡◌, ◌==◌, ℕ, true, false, List, [], Option, length, slice_index_or, IfOk, OnErr};
+ghost use Rattle.std.specs.Prelude.{if◌then◌else◌};
 ghost use Rattle.trace_dat.specs.declared.kernel_texts.counters.Counters.{Counters};
 ghost use Rattle.collector.specs.Runs.{AreMissingRuns};
 ghost use Rattle.capture.specs.Captures.{IsCapture};
@@ -12,12 +13,15 @@ ghost use Rattle.capture_text.specs.Printing.{Detail};
 ghost use Rattle.capture_text.specs.Selection.{selection_seen};
 ghost use Rattle.collect_command.specs.Gathered.{AreReadFrom};
 ghost use Rattle.collect_command.specs.Listings.{all_unknown, all_damaged, are_all_intact, ending_of};
-ghost use Rattle.collect_command.specs.Listings.{AreCounted, Describes, IsListed, all_sums, ring_losses, sum_of};
+ghost use Rattle.collect_command.specs.Listings.{AreCounted, Describes, IsListedCut, all_sums, ring_losses, sum_of};
+ghost use Rattle.collect_command.specs.Listings.{cut_ending, cut_line};
+ghost use Rattle.collect_command.specs.declared.ending.Ending.TheVariants.{NotWritten};
 
 use crate::ending::{Ending, Listed};
+use crate::fault_line::fault_line;
 use crate::gather::gather;
 use capture::Capture;
-use capture::files::CpuCapture;
+use capture::files::{CpuCapture, CutFile, FileFault};
 use capture_text::{Form, Naming, Printer, RingLosses, Selection, Window};
 use collector::Collector;
 use command_io::Sink;
@@ -128,8 +132,35 @@ pub(crate) fn ending_of(is_written: bool, is_intact: bool) -> Ending
     }
 }
 
+/// The line of a file that was cut short, if one was.
+fn cut_line(alloc: Global, cut: Option<CutFile>) -> Result<Vec<u8>, NoMemory>
+    ensures { IfOk result (λ line. line.items ≡ cut_line cut) }
+{
+    match cut {
+        Some(cut) => fault_line(alloc, FileFault::Format(cut.fault)),
+        None => Ok(Vec::new(alloc)),
+    }
+}
+
+/// How a listing ends, if this file was cut short.
+fn ending_with(cut: Option<CutFile>, is_written: bool, is_intact: bool) -> Ending
+    ensures { result ≡ (if is_written then cut_ending cut (ending_of true is_intact) else NotWritten) }
+{
+    if !is_written {
+        return Ending::NotWritten;
+    }
+    match cut {
+        Some(cut) => Ending::MalformedFile {
+            input: cut.input,
+            fault: FileFault::Format(cut.fault),
+        },
+        None => ending_of(true, is_intact),
+    }
+}
+
 /// Prints what captures have and miss, as far as it is selected, in this form, with what the naming says of each
-/// record's event; these are the events whose formats are malformed. If memory is refused, nothing is written.
+/// record's event; these are the events whose formats are malformed. Last of all is the line of the file that was cut
+/// short, if one was. If memory is refused, nothing is written.
 pub(crate) fn print_listing<W: Sink>(
     alloc: Global,
     form: Form,
@@ -137,6 +168,7 @@ pub(crate) fn print_listing<W: Sink>(
     selection: Selection<'_>,
     malformed: Vec<MalformedEvent>,
     cpus: &[CpuCapture],
+    cut: Option<CutFile>,
     writer: &mut W,
 ) -> Result<Listed, NoMemory>
     requires sound { W.failed writer.old ≡ false }
@@ -145,11 +177,12 @@ pub(crate) fn print_listing<W: Sink>(
     ensures listed { (detail : Detail) (counted : ℕ → Option Counters) (parts : List ModelPart)
         (captures : List (List Page)) → Describes naming.entry malformed.items detail
         → AreReadFrom parts 0 cpus.now captures → AreCounted counted 0 cpus.now → IfOk result (λ listed.
-        IsListed form detail (selection_seen selection.entry) counted parts captures (W.contents writer.old)
+        IsListedCut cut form detail (selection_seen selection.entry) counted parts captures (W.contents writer.old)
         (W.contents writer.new) (W.failed writer.new) listed) }
     ensures refused { OnErr result (writer.new ≡ writer.old) }
 {
     let collector = gather(alloc, cpus)?;
+    let line = cut_line(alloc, cut)?;
     let mut buffer = TextBuffer::new(alloc)?;
     let mut out = Out::new(&mut buffer, writer);
     let window = Window::new();
@@ -165,9 +198,10 @@ pub(crate) fn print_listing<W: Sink>(
     print_unknown(&printer, &mut out, cpus);
     print_damaged(&printer, &mut out, cpus);
     print_sums(&printer, &mut out, &collector, cpus);
+    out.put(line.as_slice());
     let is_written = out.finish().is_ok();
     Ok(Listed {
-        ending: ending_of(is_written, are_intact(cpus)),
+        ending: ending_with(cut, is_written, are_intact(cpus)),
         cut: printer.cut,
         malformed,
         is_unnamed: false,

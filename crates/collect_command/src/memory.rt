@@ -15,7 +15,7 @@ pub(crate) fn new_buffers(alloc: Global) -> Result<(TextBuffer, TextBuffer), NoM
     Ok((kept, buffer))
 }
 
-/// Reports that memory was refused. Nothing was written before.
+/// Reports that memory was refused.
 pub(crate) fn tell_memory<W: Sink>(writer: &mut W) -> Ending
     requires { W.failed writer.old ≡ false }
     ensures { IsMemoryLine (W.contents writer.old) (W.contents writer.new) (W.failed writer.new) result }

@@ -1,17 +1,19 @@
 //! The listing of raw captures whose pages are read while they are listed.
-ghost use Rattle.std.specs.Prelude.{◌≡◌, ◌≤◌, false, true, List, None, IsSome, flat_map, IfOk, OnErr};
+ghost use Rattle.std.specs.Prelude.{◌≡◌, ◌≤◌, ◌++◌, ℕ, false, true, List, None, IsSome, flat_map};
+ghost use Rattle.std.specs.Prelude.{IfOk, OnErr};
 ghost use Rattle.std.specs.List.{AllByRecursion};
 ghost use Rattle.capture.specs.Pages.{Page};
-ghost use Rattle.capture.specs.declared.files.captured.Input.{Input};
 ghost use Rattle.capture_text.specs.Listed.{listed_run};
 ghost use Rattle.capture_text.specs.Printed.{IsSound, bounds_of};
 ghost use Rattle.capture_text.specs.Printing.{Detail};
 ghost use Rattle.capture_text.specs.Selection.{selection_seen};
-ghost use Rattle.text_values.specs.Putting.{Puts};
+ghost use Rattle.command_io.specs.Written.{IsTextWritten};
+ghost use Rattle.text_values.specs.Putting.{Start, contents_of, has_failed, HasPut, KeepsWriter, Puts};
 ghost use Rattle.page_lines.specs.Tallies.{IsTally, runs_from};
 ghost use Rattle.collect_command.specs.Paged.{RawFile, AreRawOf, CpusRise, HasEnded, raw_runs};
 ghost use Rattle.collect_command.specs.Paged.{raw_unknown, raw_damaged};
-ghost use Rattle.collect_command.specs.Paged.{raw_intact, raw_losses, AreOpened, IsToTheEnd, ListsRaw};
+ghost use Rattle.collect_command.specs.Paged.{raw_intact, raw_losses, ListsPages, said_behind};
+ghost use Rattle.collect_command.specs.Paged.{ending_for, first_halt, halt_ending};
 ghost use Rattle.collect_command.specs.Listings.{Describes};
 
 use crate::ending::{Ending, Listed};
@@ -22,7 +24,7 @@ use command_io::{Sink, Source};
 use event_fields::MalformedEvent;
 use page_lines::{Halt, PageLines, Tally};
 use std::alloc::Global;
-use text_values::{Out, TextBuffer};
+use text_values::{Out, TextBuffer, finish, finish_memory};
 use time_merge::walk_sources;
 use trace_model::{NoMemory, RecordNo};
 
@@ -144,8 +146,10 @@ fn have_ended<R: Source + Drop>(sources: &[PageLines<R>]) -> bool
     true
 }
 
-/// The first source that can't go on, and why.
-fn first_halt<R: Source + Drop>(sources: &[PageLines<R>]) -> Option<(usize, Halt)> {
+/// The index of the first source that can't go on, and why.
+fn first_halt<R: Source + Drop>(sources: &[PageLines<R>]) -> Option<(usize, Halt)>
+    ensures { result ≡ first_halt 0 sources.now }
+{
     for at in 0..sources.len() {
         if let Some(halt) = sources[at].halt() {
             return Some((at, halt));
@@ -166,15 +170,29 @@ fn can_go_on<R: Source + Drop>(sources: &[PageLines<R>]) -> bool
     true
 }
 
-/// How a listing ends whose inputs aren't all read to their ends.
-fn halted_ending(is_written: bool, halt: Option<(usize, Halt)>) -> Ending
-    ensures { IsToTheEnd result → ⊥ }
+/// How a listing ends whose input of this index can't go on.
+fn ending_for(input: usize, halt: Halt) -> Ending
+    ensures { result ≡ ending_for input halt }
 {
-    match (is_written, halt) {
-        (false, _) => Ending::NotWritten,
-        (true, Some((_, Halt::NoMemory))) => Ending::NoMemory,
-        (true, Some((input, _))) => Ending::NotRead(input),
-        (true, None) => Ending::NotRead(0),
+    match halt {
+        Halt::NoMemory => Ending::NoMemory,
+        Halt::NotRead => Ending::NotRead(input),
+        Halt::NotRaw | Halt::SmallerPages | Halt::Falls | Halt::Numbers => Ending::Changed(input),
+    }
+}
+
+/// Writes what still waits of a listing whose inputs aren't all read to their ends: if memory was refused, with the line
+/// that says so.
+fn end_early<W: Sink>(out: &mut Out<'_, W>, halt: Option<(usize, Halt)>) -> Ending
+    ensures writer { KeepsWriter out.old out.new }
+    ensures written { (start : Start) (text : List ℕ) → HasPut start text out.old
+        → IsTextWritten Ending.NotWritten start.contents (contents_of out.new) (has_failed out.new)
+        (text ++ said_behind (halt_ending halt)) (halt_ending halt) result }
+{
+    match halt {
+        Some((_, Halt::NoMemory)) => finish_memory(out, Ending::NoMemory, Ending::NotWritten),
+        Some((input, halt)) => finish(out, ending_for(input, halt), Ending::NotWritten),
+        None => finish(out, Ending::Changed(0), Ending::NotWritten),
     }
 }
 
@@ -209,18 +227,17 @@ pub(crate) fn print_pages<R: Source + Drop, W: Sink>(
     requires size { 48 ≤ size }
     requires sound { W.failed writer.old ≡ false }
     requires sound_naming { IsSound naming }
-    ensures listed { (detail : Detail) (inputs : List (Input R)) → Describes naming.entry malformed.items detail
-        → AreOpened R.remaining size inputs sources.items → IfOk result (λ listed. IsToTheEnd listed.ending
-        → ListsRaw R.remaining R.failed form detail (selection_seen selection.entry) size inputs
+    ensures listed { (detail : Detail) → Describes naming.entry malformed.items detail → IfOk result (λ listed.
+        ListsPages R.remaining R.failed form detail (selection_seen selection.entry) size sources.items
         (W.contents writer.old) (W.contents writer.new) (W.failed writer.new) listed) }
     ensures refused { OnErr result (writer.new ≡ writer.old) }
 {
-    if !can_go_on(&sources) {
-        let ending = halted_ending(true, first_halt(&sources));
-        return Ok(Listed::nothing(alloc, ending));
-    }
     let mut buffer = TextBuffer::new(alloc)?;
     let mut out = Out::new(&mut buffer, writer);
+    if !can_go_on(&sources) {
+        let ending = end_early(&mut out, first_halt(&sources));
+        return Ok(Listed::nothing(alloc, ending));
+    }
     let mut printer = Printer {
         form,
         naming,
@@ -231,8 +248,7 @@ pub(crate) fn print_pages<R: Source + Drop, W: Sink>(
     let walked = walk_sources(alloc, sources, &mut printer, &mut out)?;
     let sources = walked.sources.as_slice();
     if !walked.is_whole || !are_rising(sources) || !have_ended(sources) {
-        let is_written = out.finish().is_ok();
-        let ending = halted_ending(is_written, first_halt(sources));
+        let ending = end_early(&mut out, first_halt(sources));
         return Ok(Listed::nothing(alloc, ending));
     }
     print_losses(&printer, &mut out, size as u64, sources);

@@ -1,20 +1,25 @@
-use Rattle.std.proofs.Common.{◌≡◌, Bool, List, Option, [], subst, ap, ◌∙◌}
+use Rattle.std.proofs.Common.{◌≡◌, Bool, List, Option, [], ap, ◌∙◌}
 use Rattle.std.specs.Option.{option_map}
-use Rattle.capture_text.specs.Selection.{Selected, selection_seen}
-use Rattle.collect_command.specs.declared.ending.Listed.{Listed}
+use Rattle.capture_text.specs.Selection.{selection_seen}
 use Rattle.collect_command.specs.Following.{formats_given}
-use Rattle.collect_command.specs.Listings.{detail_by, is_unnamed, with_marks}
-use Rattle.collect_command.specs.Paged.{ListsRaw}
-use Rattle.collect_command.specs.Runs.{marks_for, lines_for, text_in}
+use Rattle.collect_command.specs.Listings.{is_unnamed, with_marks}
+use Rattle.collect_command.specs.Paged.{selected_given}
+use Rattle.collect_command.specs.Runs.{marks_for, text_in}
 use Rattle.collect_command.proofs.Given.{marks_are}
 use Rattle.collect_command.proofs.Followed.{texts_given}
+use Rattle.collect_command.proofs.PagedGiven.{given_of}
 use Rattle.collect_command.proofs.by_page.list_given.Goals as goal
 
 pub returns-clause-listed : goal.returns-clause-listed
-returns-clause-listed g c inputs opened at_end =
+returns-clause-listed g c =
+    let remaining = g.R.Source.remaining in
+    let failed = g.R.Source.failed in
     let collecting = c.args.collecting.now in
     let own = selection_seen collecting.selection in
     let formats = formats_given collecting in
+    let contents = g.W.Sink.contents c.args.writer.now in
+    let after = g.W.Sink.contents c.print_named.new.writer in
+    let broken = g.W.Sink.failed c.print_named.new.writer in
     let nothing = c.nothing_captured-given.ensures in
     let given = c.in_ok-add_given.ensures.given [] [] [] nothing.names nothing.tasks nothing.symbols in
     let said = c.texts_of-texts.ensures in
@@ -24,30 +29,8 @@ returns-clause-listed g c inputs opened at_end =
     let marks : option_map (λ m. m.now) c.lent_marks-marks.result ≡ marks_for collecting formats =
     c.lent_marks-marks.ensures ∙ c.in_ok-marks.ensures
     ∙ marks_are (text_in collecting.pattern) c.add_given.new.captured.names formats given.names_are in
-    let listed = c.in_ok-listed.ensures.listed formats _ _ inputs texts opened at_end in
-    let all : Listed = record c.in_ok-listed.listed { is_unnamed = c.is_unnamed.result } in
-    record {
-      lists = subst (λ (s : Selected).
-          ListsRaw g.R.Source.remaining g.R.Source.failed collecting.form
-          (detail_by collecting.detail formats (lines_for (text_in collecting.tasks) [])
-          (lines_for (text_in collecting.symbols) [])) s collecting.page inputs
-          (g.W.Sink.contents c.args.writer.now) (g.W.Sink.contents c.print_named.new.writer)
-          (g.W.Sink.failed c.print_named.new.writer) all)
-          (c.with_events-selection.ensures ∙ ap (λ (m : Option (List Bool)). with_marks m own) marks)
-          (record {
-            new = listed.new;
-            raws = listed.raws;
-            read = listed.read;
-            rise = listed.rise;
-            are_raw = listed.are_raw;
-            are_plain = listed.are_plain;
-            is_listed = record {
-              shown = listed.is_listed.shown;
-              is_print = listed.is_listed.is_print;
-              written = listed.is_listed.written;
-              cut_is = listed.is_listed.cut_is;
-              malformed_are = listed.is_listed.malformed_are;
-            };
-          });
-      unnamed_is = c.is_unnamed.ensures ∙ ap is_unnamed marks;
-    }
+    let selected : selection_seen c.with_events-selection.result ≡ selected_given collecting =
+    c.with_events-selection.ensures ∙ ap (λ (m : Option (List Bool)). with_marks m own) marks in
+    given_of remaining failed collecting c.args.sources.items contents after broken c.in_ok-listed.listed
+    c.is_unnamed.result _ selected (c.is_unnamed.ensures ∙ ap is_unnamed marks)
+    (c.in_ok-listed.ensures.listed formats _ _ texts)

@@ -1,13 +1,14 @@
-use Rattle.std.proofs.Common.{◌≡◌, Vec, Global, ap, sym, subst, ◌∙◌}
+use Rattle.std.proofs.Common.{◌≡◌, Option, Vec, Global, ap, sym, subst, ◌∙◌}
 use Rattle.std.proofs.lemmas.Result.{IfOk-weaker}
 use Rattle.capture.specs.declared.files.captured.CpuCapture.{CpuCapture}
+use Rattle.capture.specs.declared.files.captured.CutFile.{CutFile}
 use Rattle.capture.specs.declared.files.captured.Wanted.{Wanted}
 use Rattle.capture.specs.files.Files.{all_formats, all_lines, if_wanted, symbols_of, tasks_of}
 use Rattle.capture.specs.files.Losses.{cpu_counters_in}
 use Rattle.capture_text.specs.Printed.{AreTasks, AreSymbols}
 use Rattle.collect_command.specs.Gathered.{AreReadFrom}
-use Rattle.collect_command.specs.Listings.{AreCounted}
-use Rattle.collect_command.specs.Runs.{AreGiven, formats_for, kept_if, lines_for, text_in}
+use Rattle.collect_command.specs.Listings.{AreCounted, IsListedCut}
+use Rattle.collect_command.specs.Runs.{AreGiven, detail_for, selected_for, formats_for, kept_if, lines_for, text_in}
 use Rattle.collect_command.proofs.Given.{lines_asked}
 use Rattle.collect_command.proofs.PagesOfAll.{pages_captured}
 use Rattle.collect_command.proofs.collect.list_captured.Goals as goal
@@ -57,6 +58,10 @@ returns-clause-listed g c files captured =
       captures = all.captures;
       pages_are = all.pages_are;
       count = all.count ∙ captured.cpus_are.count;
-      is_listed = is.is_listed;
+      is_listed = subst (λ (cut : Option CutFile).
+          IsListedCut cut collecting.form (detail_for collecting files) (selected_for collecting files) counted parts
+          all.captures (g.W.Sink.contents c.args.writer.now) (g.W.Sink.contents c.list_named.new.writer)
+          (g.W.Sink.failed c.list_named.new.writer) listed)
+          (c.add_given.ensures.kept.cut ∙ captured.cut_is) is.is_listed;
       unnamed_is = is.unnamed_is;
     }) (c.list_named.ensures.listed (formats_for collecting files) _ _ counted parts all.captures given read are)

@@ -9,7 +9,7 @@ use Rattle.capture_text.specs.Printed.{AreTasks, AreSymbols}
 use Rattle.capture_text.specs.Selection.{Selected, selection_seen}
 use Rattle.collect_command.specs.declared.ending.Listed.{Listed}
 use Rattle.collect_command.specs.Gathered.{AreReadFrom}
-use Rattle.collect_command.specs.Listings.{AreCounted, AreTexts, IsListed, detail_by, is_unnamed, with_marks}
+use Rattle.collect_command.specs.Listings.{AreCounted, AreTexts, IsListedCut, detail_by, is_unnamed, with_marks}
 use Rattle.collect_command.specs.Runs.{marks_for, text_in}
 use Rattle.collect_command.proofs.Given.{marks_are}
 use Rattle.collect_command.proofs.collect.list_named.Goals as goal
@@ -34,7 +34,7 @@ returns-clause-listed g c formats tasks symbols counted parts captures given rea
     let all : Listed = record c.in_ok-listed.listed { is_unnamed = c.is_unnamed.result } in
     record {
       is_listed = subst (λ (s : Selected).
-          IsListed collecting.form (detail_by collecting.detail formats tasks symbols) s counted parts captures
+          IsListedCut c.args.captured.now.cut collecting.form (detail_by collecting.detail formats tasks symbols) s counted parts captures
           (g.W.Sink.contents c.args.writer.now) (g.W.Sink.contents c.print_captured.new.writer)
           (g.W.Sink.failed c.print_captured.new.writer) all)
           (c.with_events-selection.ensures ∙ ap (λ (m : Option (List Bool)). with_marks m own) marks)

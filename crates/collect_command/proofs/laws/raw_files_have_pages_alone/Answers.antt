@@ -1,5 +1,5 @@
 use Rattle.collect_command.proofs.PagedWhole.{plain_counters, plain_formats, plain_instances, plain_others, plain_parts}
-use Rattle.collect_command.proofs.PagedWhole.{plain_symbols, plain_tasks}
+use Rattle.collect_command.proofs.PagedWhole.{plain_cuts, plain_symbols, plain_tasks}
 use Rattle.collect_command.proofs.laws.raw_files_have_pages_alone.Goals as goal
 
 pub returns-clause-parts : goal.returns-clause-parts
@@ -16,3 +16,6 @@ returns-clause-names c size raws are = (plain_tasks size raws are, plain_symbols
 
 pub returns-clause-counters : goal.returns-clause-counters
 returns-clause-counters c size raws are cpu = plain_counters size raws are cpu
+
+pub returns-clause-cuts : goal.returns-clause-cuts
+returns-clause-cuts c size raws are = plain_cuts size 0 raws are

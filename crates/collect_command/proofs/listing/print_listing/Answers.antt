@@ -1,6 +1,6 @@
 use Rattle.std.proofs.Common.{rules, ◌≡◌, ◌++◌, ℕ, [], Bool, true, false, Option, flat_map, ◌∙◌, ap, ap₂, sym, subst}
 use Rattle.std.proofs.Common.{◌+◌, ◌-◌, ◌^◌, min, arith}
-use Rattle.std.specs.Prelude.{count_by, fold}
+use Rattle.std.specs.Prelude.{count_by, fold, if◌then◌else◌, List}
 use Rattle.std.specs.Result.{is_ok}
 use Rattle.world_model.specs.Printing.{Shown}
 use Rattle.capture.specs.Rings.{parcels_of_captures}
@@ -17,9 +17,9 @@ use Rattle.collect_command.specs.declared.ending.Listed.{Listed}
 use Rattle.collect_command.specs.declared.ending.Ending.{Ending}
 use Rattle.collect_command.specs.declared.ending.Ending.TheVariants.{NotWritten}
 use Rattle.collect_command.specs.Listings.{bounds_by, all_unknown, all_damaged, all_sums, ending_of, are_all_intact}
-use Rattle.collect_command.specs.Listings.{listing_text, IsListed}
+use Rattle.collect_command.specs.Listings.{listing_text, IsListedCut, cut_ending, with_cut}
 use Rattle.collect_command.proofs.Printing.{walked, walked_form, walked_selection, walked_cut, walked_bound}
-use Rattle.collect_command.proofs.Printing.{same_put, same_print, ended}
+use Rattle.collect_command.proofs.Printing.{same_put, same_print, ended_so, with_line}
 use Rattle.collect_command.proofs.listing.print_listing.Goals as goal
 
 from_none : (n : ℕ) → 0 + n ≡ n
@@ -79,24 +79,33 @@ returns-clause-listed g c detail counted parts captures describes read are =
     (c.print_sums.ensures counted parts captures missing.0 read are missing.1 start
     (lost ++ all_damaged form bounds parts 0 captures) damaged) in
     let after = c.finish.new.self in
-    let text = listing_text form detail selected counted parts shown captures in
-    let all = c.finish.ensures.all start text summed in
-    let prefix = c.finish.ensures.prefix start text summed in
+    let short = c.args.cut in
+    let known_text = listing_text form detail selected counted parts shown captures in
+    let text = with_cut short known_text in
+    let put : HasPut start text c.put.new.self =
+    same_put start c.put.new.self
+    (ap (λ (line : List ℕ). known_text ++ line) (c.as_slice.ensures.value ∙ c.in_ok-line.ensures)
+    ∙ with_line short known_text)
+    (c.put.ensures start known_text summed) in
+    let all = c.finish.ensures.all start text put in
+    let prefix = c.finish.ensures.prefix start text put in
+    let whole = cut_ending short (ending_of true (are_all_intact captures)) in
     let end =
-    ended c.finish.result (has_failed after) (are_all_intact captures) start.contents (contents_of after) text all
-    prefix c.finish.ensures.fault in
+    ended_so c.finish.result (has_failed after) whole start.contents (contents_of after) text all prefix
+    c.finish.ensures.fault in
     let same = c.in_ok-collector.ensures parts captures read in
-    let ending : ending_of (is_ok c.finish.result) (are_all_intact captures) ≡ c.ending_of.result =
-    ap (λ (w : Bool). ending_of w (are_all_intact captures)) (sym c.is_ok-is_written.ensures.value)
-    ∙ ap (ending_of c.is_ok-is_written.result) (sym (c.are_intact.ensures parts captures read))
-    ∙ sym c.ending_of.ensures in
+    let ending : (if is_ok c.finish.result then whole else NotWritten) ≡ c.ending_with.result =
+    ap (λ (w : Bool). if w then whole else NotWritten) (sym c.is_ok-is_written.ensures.value)
+    ∙ ap (λ (b : Bool). if c.is_ok-is_written.result then cut_ending short (ending_of true b) else NotWritten)
+    (sym (c.are_intact.ensures parts captures read))
+    ∙ sym c.ending_with.ensures in
     let said : Listed = record {
-      ending = c.ending_of.result;
+      ending = c.ending_with.result;
       cut = c.walk_lines.new.taker.cut;
       malformed = c.args.malformed;
       is_unnamed = false;
     } in
-    let listed : IsListed form detail selected counted parts captures start.contents (contents_of after)
+    let listed : IsListedCut short form detail selected counted parts captures start.contents (contents_of after)
     (has_failed after) said =
     record {
       shown = shown;
@@ -107,10 +116,10 @@ returns-clause-listed g c detail counted parts captures describes read are =
           subst
           (λ (e : Ending).
           IsTextWritten NotWritten start.contents (contents_of after) (has_failed after) text
-          (ending_of true (are_all_intact captures)) e)
+          whole e)
           ending end;
       cut_is = cut ∙ ap (λ (n : ℕ). min n (2 ^ 64 - 1)) (from_none (count_by (is_listed_cut detail selected) walk.0));
       malformed_are = describes.malformed_are;
     } in
-    let name = c.finish.ensures.writer start _ summed ∙ c.new-out.ensures.same_writer in
+    let name = c.finish.ensures.writer start _ put ∙ c.new-out.ensures.same_writer in
     search rules

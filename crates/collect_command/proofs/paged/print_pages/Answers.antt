@@ -1,5 +1,5 @@
 use Rattle.std.proofs.Common.{rules, ◌≡◌, ◌++◌, ℕ, List, [], Bool, true, false, Option, None, flat_map}
-use Rattle.std.proofs.Common.{map, ◌∙◌, ap, ap₂, sym}
+use Rattle.std.proofs.Common.{map, inl, inr, refl, ◌∙◌, ap, ap₂, sym}
 use Rattle.std.proofs.Common.{subst, ◌+◌, ◌-◌, ◌^◌, min, arith}
 use Rattle.std.specs.Prelude.{count_by, fold}
 use Rattle.std.specs.Result.{is_ok}
@@ -27,18 +27,20 @@ use Rattle.collect_command.specs.declared.ending.Ending.TheVariants.{NotWritten}
 use Rattle.collect_command.specs.Listings.{bounds_by, ending_of, are_all_intact}
 use Rattle.collect_command.specs.Listings.{listing_text, IsListed}
 use Rattle.collect_command.specs.Paged.{AreRawOf, CpusRise, HasEnded, captures_of, own_of, part_of}
-use Rattle.collect_command.specs.Paged.{input_of, raw_losses}
+use Rattle.collect_command.specs.Paged.{ListsPart, first_halt, input_of, raw_losses}
+use Rattle.collect_command.proofs.PagedGiven.{partly_listed}
+use Rattle.collect_command.proofs.PagedParts.{none_first, walked_by}
 use Rattle.collect_command.proofs.PagedWhole.{whole_of, cpus_rise}
 use Rattle.collect_command.proofs.RawTexts.{intact_same, raw_text}
 use Rattle.collect_command.proofs.Printing.{walked, walked_form, walked_selection, walked_cut, walked_bound}
-use Rattle.collect_command.proofs.Printing.{same_put, ended}
+use Rattle.collect_command.proofs.Printing.{PrintsLine, same_put, ended}
 use Rattle.collect_command.proofs.paged.print_pages.Goals as goal
 
 from_none : (n : ℕ) → 0 + n ≡ n
 from_none n = omega arith
 
 pub returns-clause-listed : goal.returns-clause-listed
-returns-clause-listed g c detail inputs describes opened at_end =
+returns-clause-listed g c detail describes = inl (λ inputs opened.
     let remaining = g.R.Source.remaining in
     let failed = g.R.Source.failed in
     let size = c.args.size in
@@ -101,17 +103,17 @@ returns-clause-listed g c detail inputs describes opened at_end =
     (ap₂ (λ (f : Form) (b : ℕ → Option KnownBound). records ++ raw_losses f b size raws) same_form same_bounds
     ∙ same_text)
     (c.print_losses.ensures raws raw_of start records put_lines) in
-    let after = c.finish-2.new.self in
-    let all = c.finish-2.ensures.all start text losses in
-    let prefix = c.finish-2.ensures.prefix start text losses in
+    let after = c.finish.new.self in
+    let all = c.finish.ensures.all start text losses in
+    let prefix = c.finish.ensures.prefix start text losses in
     let end =
-    ended c.finish-2.result (has_failed after) (are_all_intact captures) start.contents (contents_of after) text all
-    prefix c.finish-2.ensures.fault in
+    ended c.finish.result (has_failed after) (are_all_intact captures) start.contents (contents_of after) text all
+    prefix c.finish.ensures.fault in
     let intact : c.are_intact.result ≡ are_all_intact captures =
     c.are_intact.ensures raws raw_of ∙ sym (intact_same raws rise) in
-    let ending : ending_of (is_ok c.finish-2.result) (are_all_intact captures) ≡ c.ending_of.result =
-    ap (λ (w : Bool). ending_of w (are_all_intact captures)) (sym c.is_ok-is_written-2.ensures.value)
-    ∙ ap (ending_of c.is_ok-is_written-2.result) (sym intact)
+    let ending : ending_of (is_ok c.finish.result) (are_all_intact captures) ≡ c.ending_of.result =
+    ap (λ (w : Bool). ending_of w (are_all_intact captures)) (sym c.is_ok-is_written.ensures.value)
+    ∙ ap (ending_of c.is_ok-is_written.result) (sym intact)
     ∙ sym c.ending_of.ensures in
     let said : Listed = record {
       ending = c.ending_of.result;
@@ -137,7 +139,7 @@ returns-clause-listed g c detail inputs describes opened at_end =
           ∙ ap (λ (n : ℕ). min n (2 ^ 64 - 1)) (from_none (count_by (is_listed_cut detail selected) lines));
       malformed_are = describes.malformed_are;
     } in
-    let name = c.finish-2.ensures.writer start _ losses ∙ c.new-out.ensures.same_writer in
+    let name = c.finish.ensures.writer start _ losses ∙ c.new-out.ensures.same_writer in
     record {
       new = map input_of news;
       raws = raws;
@@ -146,4 +148,57 @@ returns-clause-listed g c detail inputs describes opened at_end =
       are_raw = whole.are_raw;
       are_plain = whole.are_plain;
       is_listed = search rules;
-    }
+    })
+
+-- a source couldn't be opened
+pub returns-then-not-can_go_on-clause-listed : goal.returns-then-not-can_go_on-clause-listed
+unfolding none_first
+returns-then-not-can_go_on-clause-listed g c detail describes =
+    let remaining = g.R.Source.remaining in
+    let sources = c.args.sources.items in
+    let start = start_of c.new-out.result in
+    let empty = c.new-out.ensures.empty in
+    let after = c.end_early-ending.new.out in
+    let halts : c.first_halt.result ≡ first_halt 0 sources =
+    c.first_halt.ensures ∙ ap (first_halt 0) c.deref-then-not-can_go_on.ensures.value in
+    let name = c.end_early-ending.ensures.writer start [] empty ∙ c.new-out.ensures.same_writer in
+    let part : ListsPart remaining c.args.form detail (selection_seen c.args.selection) sources start.contents
+    (contents_of after) (has_failed after) c.nothing.result =
+    partly_listed remaining c.args.form detail (selection_seen c.args.selection) sources sources _ _ _ c.nothing.result
+    c.end_early-ending.result c.first_halt.result [] (none_first remaining sources) (inl refl) c.nothing.ensures.ending
+    halts (c.end_early-ending.ensures.written start [] empty) in
+    inr (search rules)
+
+-- a source couldn't go on, or isn't as it has to be
+pub returns-then-not-walked-clause-listed : goal.returns-then-not-walked-clause-listed
+returns-then-not-walked-clause-listed g c detail describes =
+    let remaining = g.R.Source.remaining in
+    let form = c.args.form in
+    let selected = selection_seen c.args.selection in
+    let printer : Printer = record {
+      form = form;
+      naming = c.args.naming;
+      selection = c.args.selection;
+      cut = 0;
+      window = c.new-2.result;
+    } in
+    let sources = c.args.sources.items in
+    let out = c.new-out.result in
+    let start = start_of out in
+    let news = c.in_ok-walked.walked.sources.items in
+    let walk =
+    walked_by remaining PrintsLine sources (printer, out) news (c.walk_sources.new.taker, c.walk_sources.new.writer)
+    c.in_ok-walked.walked.is_whole _ refl c.in_ok-walked.ensures.whole c.in_ok-walked.ensures.part in
+    let put =
+    walked detail walk.front (printer, out) (c.walk_sources.new.taker, c.walk_sources.new.writer) describes.is_detail
+    walk.taken start [] c.new-out.ensures.empty in
+    let after = c.end_early-ending-then-not-walked.new.out in
+    let halts : c.first_halt-then-not-walked.result ≡ first_halt 0 news =
+    c.first_halt-then-not-walked.ensures ∙ ap (first_halt 0) c.as_slice-sources.ensures.value in
+    let name = c.end_early-ending-then-not-walked.ensures.writer start _ put ∙ c.new-out.ensures.same_writer in
+    let part : ListsPart remaining form detail selected sources start.contents (contents_of after) (has_failed after)
+    c.nothing-then-not-walked.result =
+    partly_listed remaining form detail selected sources news _ _ _ c.nothing-then-not-walked.result c.end_early-ending-then-not-walked.result
+    c.first_halt-then-not-walked.result walk.front walk.goes walk.are_left c.nothing-then-not-walked.ensures.ending halts
+    (c.end_early-ending-then-not-walked.ensures.written start _ put) in
+    inr (search rules)
