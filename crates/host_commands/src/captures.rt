@@ -12,7 +12,7 @@ ghost use Rattle.std.specs.Option.{option_map};
 
 use crate::form::form_of;
 use crate::formats::{FormatText, formats_below};
-use crate::inputs::{Reader, Trial, open_output, trial_of};
+use crate::inputs::{Reader, Trial, begin_writing, open_output, trial_of};
 use crate::message::{FormatMessage, InstancesMessage, Trouble};
 use crate::telling::tell_ending;
 use capture::files::Input;
@@ -245,7 +245,8 @@ fn list<'b>(
     let given = given_texts(rt, asked)?;
     let formats = lent(rt, &given.formats)?;
     let collecting = collecting_of(asked, &formats, &given);
-    let mut output = open_output(rt, is_watched);
+    let writing = begin_writing(rt, is_watched);
+    let mut output = open_output(rt, &writing);
     let collected = collect_to(rt.alloc(), &collecting, inputs.as_mut_slice(), &mut output);
     Ok((collected, EndFault::of_output(&output)))
 }

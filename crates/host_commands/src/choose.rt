@@ -8,7 +8,7 @@ ghost use Rattle.parcel_streams.specs.source.Readers.{peeked_reader, peeked_unre
 use crate::by_page::{collect_by_page, paged_files};
 use crate::captures::collect_captures;
 use crate::follow::follow_captures;
-use crate::inputs::{Reader, Trial, open_inputs};
+use crate::inputs::{Reader, Trial, begin_reading, open_inputs};
 use crate::keep::{KEEP_IS_READ, keep_is_read};
 use crate::streams::collect_pieces;
 use crate::telling::{refuse, tell_trial};
@@ -90,7 +90,7 @@ fn list_captures<'b>(
 {
     if asked.instance.is_none() {
         if let Some(files) = paged_files(rt, asked, is_watched)? {
-            return collect_by_page(rt, asked, &files, is_watched, is_unseen);
+            return collect_by_page(rt, asked, &files, is_unseen);
         }
     }
     collect_captures(rt, asked, inputs, is_unseen)
@@ -113,7 +113,8 @@ fn list<'b, T: Threads + Wait + Copy + Send + 'static>(
     let is_watched = rt.stderr().is_terminal();
     // What a terminal shows of the output says how far it is.
     let is_unseen = is_watched && !rt.stdout().is_terminal();
-    let inputs = open_inputs(rt, &asked.files, is_watched)?;
+    let reading = begin_reading(rt, &asked.files, is_watched);
+    let inputs = open_inputs(rt, &asked.files, &reading)?;
     let is_for_streams = asked.keep.is_some() || asked.parcels;
     let is_capture = are_captures(&inputs);
     if are_streams(&inputs) && (is_for_streams || !is_capture) {

@@ -4,7 +4,9 @@ ghost use Rattle.command_io.specs.Ends.{has_failed};
 ghost use Rattle.parcel_streams.specs.source.Readers.{peeked_reader};
 
 use crate::feed::Feed;
+use crate::length::total_of;
 use crate::message::{FileMessage, Trouble};
+use crate::named::Named;
 use crate::progress::{Progress, Watched};
 use capture::files::Input;
 use command_io::Std;
@@ -49,28 +51,42 @@ pub(crate) fn open_feed(rt: &HostRuntime, path: &str) -> io::Result<Feed<File, S
     Ok(Feed::File(fs::open(rt, path)?))
 }
 
-/// The input of a file, which is watched if that is wanted.
-pub(crate) fn open_input<'a>(
+/// What reports how far the reading of these inputs is, if that is wanted: of how many bytes, if each is a file that
+/// can be read again.
+pub(crate) fn begin_reading<'a, N: Named>(
     rt: &'a HostRuntime,
+    inputs: &[N],
+    is_wanted: bool,
+) -> Progress<'a, HostRuntime> {
+    let total = if is_wanted {
+        total_of(rt, inputs)
+    } else {
+        None
+    };
+    Progress::begin(rt, "read", total, is_wanted)
+}
+
+/// The input of a file, of which this reports how far it is.
+pub(crate) fn open_input<'a>(
+    rt: &HostRuntime,
     path: &str,
-    is_watched: bool,
+    progress: &'a Progress<'a, HostRuntime>,
 ) -> io::Result<Opened<'a>>
     ensures { IfOk result (λ reader. has_failed reader ≡ false) }
 {
     let feed = open_feed(rt, path)?;
-    let progress = Progress::begin(rt, "read", is_watched);
     Ok(Std::new(Watched::new(feed, progress)))
 }
 
 /// The input of a file, of which the first bytes were looked at.
 fn peeked_input<'a, 'b>(
-    rt: &'a HostRuntime,
+    rt: &HostRuntime,
     path: &'b str,
-    is_watched: bool,
+    progress: &'a Progress<'a, HostRuntime>,
 ) -> Result<Reader<'a>, Trial<'b>>
     ensures { IfOk result (λ reader. has_failed (peeked_reader reader) ≡ false) }
 {
-    let opened = match open_input(rt, path, is_watched) {
+    let opened = match open_input(rt, path, progress) {
         Ok(opened) => opened,
         Err(error) => return Err(trial_of(error, Trouble::Unopened, path)),
     };
@@ -80,11 +96,11 @@ fn peeked_input<'a, 'b>(
     }
 }
 
-/// The inputs of these files.
+/// The inputs of these files, of which this reports how far they are.
 pub(crate) fn open_inputs<'a, 'b>(
-    rt: &'a HostRuntime,
+    rt: &HostRuntime,
     files: &[CpuFile<'b>],
-    is_watched: bool,
+    progress: &'a Progress<'a, HostRuntime>,
 ) -> Result<Vec<Input<Reader<'a>>>, Trial<'b>>
     ensures cpus { IfOk result (λ inputs. map (λ input. input.cpu) inputs.items ≡ map (λ file. file.cpu) files.now) }
     ensures sound { IfOk result (λ inputs.
@@ -92,7 +108,7 @@ pub(crate) fn open_inputs<'a, 'b>(
 {
     let mut inputs = Vec::new(rt.alloc());
     for file in files {
-        let reader = peeked_input(rt, file.path, is_watched)?;
+        let reader = peeked_input(rt, file.path, progress)?;
         let pushed = inputs.push(Input {
             cpu: file.cpu,
             reader,
@@ -104,13 +120,17 @@ pub(crate) fn open_inputs<'a, 'b>(
     Ok(inputs)
 }
 
-/// Standard output, which reports how far it is if that is wanted.
-pub(crate) fn open_output(
+/// What reports how much is written, if that is wanted.
+pub(crate) fn begin_writing(rt: &HostRuntime, is_wanted: bool) -> Progress<'_, HostRuntime> {
+    Progress::begin(rt, "written", None, is_wanted)
+}
+
+/// Standard output, of which this reports how far it is.
+pub(crate) fn open_output<'a>(
     rt: &HostRuntime,
-    is_watched: bool,
-) -> Std<Watched<'_, HostRuntime, Stdout>>
+    progress: &'a Progress<'a, HostRuntime>,
+) -> Std<Watched<'a, HostRuntime, Stdout>>
     ensures { has_failed result ≡ false }
 {
-    let progress = Progress::begin(rt, "written", is_watched);
     Std::new(Watched::new(rt.stdout(), progress))
 }

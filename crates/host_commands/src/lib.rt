@@ -2,6 +2,7 @@
 //! of them, and what is said of a file that can't be read.
 #![tactic(auto)]
 
+mod again;
 mod by_page;
 mod captures;
 mod choose;
@@ -11,6 +12,7 @@ mod form;
 mod formats;
 mod inputs;
 mod keep;
+mod length;
 mod message;
 mod named;
 mod progress;

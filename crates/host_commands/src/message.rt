@@ -12,6 +12,8 @@ pub enum Trouble {
     Unopened,
     /// It can't be read to its end.
     Unread,
+    /// It isn't what it was when it was looked at.
+    Changed,
     /// It can't be written to its end.
     Unwritten,
     /// It is a file of trace-cmd whose pages are compressed.
@@ -40,6 +42,7 @@ impl<'a> fmt::Display for FileMessage<'a> {
         match self.trouble {
             Trouble::Unopened => write!(f, "tracering: cannot open {name}"),
             Trouble::Unread => write!(f, "tracering: cannot read {name}"),
+            Trouble::Changed => write!(f, "tracering: {name} changed while it was read"),
             Trouble::Unwritten => write!(f, "tracering: cannot write {name}"),
             Trouble::Compressed => write!(
                 f,

@@ -1,4 +1,5 @@
 //! How far a long reading or writing is.
+use std::cell::Cell;
 use std::io;
 use std::io::{Read, Write};
 use std::rt::Clock;
@@ -12,24 +13,39 @@ fn clear_line<R: Eprint>(rt: &R) {
     let _ = eprint!(rt; "\r\x1b[K");
 }
 
-/// Reports on standard error how many bytes have passed, at most once a second, after the first second. The report is
-/// removed when this is dropped.
+/// How far something is.
+#[derive(Clone, Copy)]
+struct Passed {
+    /// How many bytes have passed.
+    bytes: u64,
+    /// After how many the clock is read again.
+    next: u64,
+    /// When it was last reported, or begun. `None` if nothing is to be reported.
+    told: Option<Instant>,
+    /// Whether something is on the line.
+    is_shown: bool,
+}
+
+/// Reports on standard error how many bytes have passed, and of how many if that is known: at most once a second, after
+/// the first second. The report is removed when this is dropped. What passes through several ends is one sum.
 pub struct Progress<'a, R: Eprint + Clock> {
     rt: &'a R,
     /// What is done with the bytes.
     what: &'static str,
-    /// When it last reported, or began. `None` if nothing is to be reported.
-    told: Option<Instant>,
-    /// Whether something is on the line.
-    is_shown: bool,
-    passed: u64,
-    /// How many bytes have passed when the clock is read next.
-    next: u64,
+    /// How many bytes there are in all, if that is known.
+    total: Option<u64>,
+    passed: Cell<Passed>,
 }
 
 impl<'a, R: Eprint + Clock> Progress<'a, R> {
-    /// Begins now, and reports nothing unless `is_wanted`. `what` is done with the bytes, as in "read".
-    pub fn begin(rt: &'a R, what: &'static str, is_wanted: bool) -> Progress<'a, R> {
+    /// Begins now, and reports nothing unless `is_wanted`. `what` is done with the bytes, as in "read"; `total` is how
+    /// many there are, if that is known.
+    pub fn begin(
+        rt: &'a R,
+        what: &'static str,
+        total: Option<u64>,
+        is_wanted: bool,
+    ) -> Progress<'a, R> {
         let told = if is_wanted {
             Instant::now(rt).ok()
         } else {
@@ -38,41 +54,60 @@ impl<'a, R: Eprint + Clock> Progress<'a, R> {
         Progress {
             rt,
             what,
-            told,
-            is_shown: false,
-            passed: 0,
-            next: MEGABYTE,
+            total,
+            passed: Cell::new(Passed {
+                bytes: 0,
+                next: MEGABYTE,
+                told,
+                is_shown: false,
+            }),
         }
     }
 
     /// `count` bytes more have passed.
-    fn pass(&mut self, count: usize) {
-        self.passed = self.passed.saturating_add(count as u64);
-        if self.passed >= self.next {
-            self.next = self.passed.saturating_add(MEGABYTE);
-            self.look();
+    fn pass(&self, count: usize) {
+        let mut passed = self.passed.get();
+        passed.bytes = passed.bytes.saturating_add(count as u64);
+        if passed.bytes >= passed.next {
+            passed.next = passed.bytes.saturating_add(MEGABYTE);
+            self.look(&mut passed);
         }
+        self.passed.set(passed);
     }
 
     /// Reports how many bytes have passed, if a second is over.
-    fn look(&mut self) {
-        let Some(told) = self.told else {
+    fn look(&self, passed: &mut Passed) {
+        let Some(told) = passed.told else {
             return;
         };
         let Ok(now) = Instant::now(self.rt) else {
             return;
         };
         if now.duration_since(told).as_secs() > 0 {
-            self.told = Some(now);
-            self.is_shown = true;
-            let _ = eprint!(self.rt; "\rtracering: {} MB {}", self.passed / MEGABYTE, self.what);
+            passed.told = Some(now);
+            passed.is_shown = true;
+            self.show(passed.bytes);
         }
     }
 
+    /// Puts a report on the line.
+    fn show(&self, bytes: u64) {
+        let (megabytes, what) = (bytes / MEGABYTE, self.what);
+        let _ = match self.total {
+            Some(total) if bytes <= total => {
+                let total = total / MEGABYTE;
+                eprint!(self.rt; "\rtracering: {megabytes} of {total} MB {what}\x1b[K")
+            }
+            _ => eprint!(self.rt; "\rtracering: {megabytes} MB {what}\x1b[K"),
+        };
+    }
+
     /// Removes the report.
-    fn end(&mut self) {
-        if self.is_shown {
-            self.is_shown = false;
+    fn end(&self) {
+        let mut passed = self.passed.get();
+        if passed.is_shown {
+            passed.is_shown = false;
+            self.passed.set(passed);
             clear_line(self.rt);
         }
     }
@@ -83,12 +118,10 @@ impl<'a, R: Eprint + Clock> Drop for Progress<'a, R> {
         let Progress {
             rt,
             what: _,
-            told: _,
-            is_shown,
-            passed: _,
-            next: _,
+            total: _,
+            passed,
         } = self;
-        if is_shown {
+        if passed.get().is_shown {
             clear_line(rt);
         }
     }
@@ -98,7 +131,7 @@ impl<'a, R: Eprint + Clock> Drop for Progress<'a, R> {
 #[derive(Drop)]
 pub struct Watched<'a, R: Eprint + Clock, T> {
     inner: T,
-    progress: Progress<'a, R>,
+    progress: &'a Progress<'a, R>,
 }
 
 impl<'a, R: Eprint + Clock, T> Watched<'a, R, T> {
@@ -106,7 +139,7 @@ impl<'a, R: Eprint + Clock, T> Watched<'a, R, T> {
     ghost use Rattle.host_commands.specs.Watches.{inner_of};
 
     /// The end `inner`, watched.
-    pub fn new(inner: T, progress: Progress<'a, R>) -> Watched<'a, R, T>
+    pub fn new(inner: T, progress: &'a Progress<'a, R>) -> Watched<'a, R, T>
         ensures { inner_of result ≡ inner }
     {
         Watched { inner, progress }

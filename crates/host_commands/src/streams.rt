@@ -5,7 +5,7 @@ ghost use Rattle.parcel_streams.specs.source.Readers.{peeked_reader, source_of};
 ghost use Rattle.collect_command.specs.streams.Reading.{IsFresh};
 
 use crate::form::form_of;
-use crate::inputs::{Reader, Trial, open_output};
+use crate::inputs::{Reader, Trial, begin_writing, open_output};
 use crate::keep::open_keep;
 use crate::telling::{tell_ending, tell_outcome};
 use capture::files::Input;
@@ -50,7 +50,8 @@ fn list<'b>(
     requires fresh { All (λ reader. IsFresh reader) readers.items }
 {
     let mut readers = readers;
-    let mut output = open_output(rt, is_watched);
+    let writing = begin_writing(rt, is_watched);
+    let mut output = open_output(rt, &writing);
     let mut keep = open_keep(rt, asked.keep)?;
     let outcome = collect_streams(
         rt.alloc(),
@@ -73,7 +74,8 @@ fn print(
     requires fresh { All (λ reader. IsFresh reader) readers.items }
 {
     let mut readers = readers;
-    let mut output = open_output(rt, is_watched);
+    let writing = begin_writing(rt, is_watched);
+    let mut output = open_output(rt, &writing);
     let ending = print_pieces(
         rt.alloc(),
         form_of(asked.json),

@@ -59,6 +59,7 @@ pub(crate) fn tell_ending<N: Named>(
 ) -> u8 {
     match ending {
         Ending::NotRead(input) => tell_input(rt, inputs, Trouble::Unread, input),
+        Ending::Changed(input) => tell_input(rt, inputs, Trouble::Changed, input),
         Ending::Malformed(input) => tell_input(rt, inputs, Trouble::Malformed, input),
         Ending::MalformedFile { input, fault } => tell_input(rt, inputs, trouble_of(fault), input),
         Ending::TooLong(_) => tell_line(rt, INPUT_TOO_LONG),
