@@ -1,6 +1,6 @@
 //! The commands of the program `tracering`, over any sources and sinks.
 pub use capture::files::{
-    Captured, CpuCapture, FileFault, Input, InputFault, Unread, Wanted, read_inputs,
+    Captured, CpuCapture, CutFile, FileFault, Input, InputFault, Unread, Wanted, read_inputs,
 };
 pub use capture_text::{Form, Selection};
 pub use collect_command::recovery::recover_to;

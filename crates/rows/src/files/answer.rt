@@ -4,7 +4,7 @@ use crate::row::NO_REQUEST;
 use crate::words::{hex_bytes, put_bytes};
 use std::alloc::Global;
 use trace_dat::kernel_texts::{EventName, EventNames, common_fields, ring_counters};
-use trace_dat::{Buffer, Fault, Format, ReadError, TraceDat, read_trace_dat};
+use trace_dat::{Buffer, CpuPages, Fault, Format, ReadError, TraceDat, read_trace_dat};
 use trace_model::NoMemory;
 
 /// Puts the number of an event, and its names.
@@ -43,14 +43,31 @@ fn put_formats(out: &mut String, alloc: Global, formats: &[Format<'_>]) -> Resul
     Ok(())
 }
 
+/// Puts a fault, and where it is.
+fn put_fault(out: &mut String, fault: Fault) -> Result<(), NoMemory> {
+    let Fault { cause, at } = fault;
+    write!(out, "fault {cause:?} {at}")?;
+    Ok(())
+}
+
+/// Puts the pages of a CPU, and their fault if the file ends before they do.
+fn put_pages(out: &mut String, alloc: Global, pages: &CpuPages<'_>) -> Result<(), NoMemory> {
+    write!(out, "\n  pages {} ", pages.cpu)?;
+    put_bytes(out, alloc, pages.pages)?;
+    if let Some(fault) = pages.fault {
+        out.push(' ')?;
+        put_fault(out, fault)?;
+    }
+    Ok(())
+}
+
 /// Puts a buffer, and the pages of each CPU.
 fn put_buffer(out: &mut String, alloc: Global, buffer: &Buffer<'_>) -> Result<(), NoMemory> {
     out.push_str("\n  buffer ")?;
     put_bytes(out, alloc, buffer.name)?;
     write!(out, " {}", buffer.page_size)?;
     for cpu in &buffer.cpus {
-        write!(out, "\n  pages {} ", cpu.cpu)?;
-        put_bytes(out, alloc, cpu.pages)?;
+        put_pages(out, alloc, cpu)?;
     }
     Ok(())
 }
@@ -82,9 +99,9 @@ fn put_contents(out: &mut String, alloc: Global, contents: &TraceDat<'_>) -> Res
 fn put_file(out: &mut String, alloc: Global, file: &[u8]) -> Result<(), NoMemory> {
     match read_trace_dat(alloc, file) {
         Ok(contents) => put_contents(out, alloc, &contents),
-        Err(ReadError::Fault(Fault { cause, at })) => {
-            write!(out, "\n  fault {cause:?} {at}")?;
-            Ok(())
+        Err(ReadError::Fault(fault)) => {
+            out.push_str("\n  ")?;
+            put_fault(out, fault)
         }
         Err(ReadError::NoMemory) => Err(NoMemory),
     }
