@@ -11,6 +11,7 @@ their bounds.
     put_unknown(cpu, number), put_damaged(cpu, number, page, byte, fault)    of captures
     put_counters(cpu, counters)                       of captures: the names of counters, and what they say
     put_run(kind, cpu, first, last)                   of a stream: undelivered, unknown, forgotten or hidden
+    put_cut(fault)                                    of captures: a file ends before its pages do
     put_audit(text)                                   of a collector
     close()
 """
@@ -83,6 +84,8 @@ STREAM_RUN_JSON = re.compile(
     rb'\{"stream":"([0-9a-f]{16})","cpu":(\d{1,3}),"' + RUN_KIND + rb'":\[(\d{1,20}),(\d{1,20})\]\}\n'
 )
 DAMAGED = re.compile(rb"damaged (\d{1,3}) (\d{1,20}) page (\d{1,20}) byte (\d{1,20}): (\w+(?: at \d+)?)\n")
+# The last line of a listing, if a file of trace-cmd was cut short.
+CUT = re.compile(rb"trace\.dat: (OutsideFile at \d{1,20})\n")
 AUDIT = re.compile(rb"audit (yes|stray \d+ \d+|lacks \d+ \d+)\n")
 LOG = re.compile(
     rb"\d+ (?:c\d+ (?:refused \w+|taken fill \d+ first \d+ count \d+ missed \d+|empty|moving \d+|asks \d+)"
@@ -179,7 +182,8 @@ class Rank(IntEnum):
     HIDDEN = 5
     DAMAGED = 6
     LOSSES = 7
-    AUDIT = 8
+    CUT = 8
+    AUDIT = 9
 
 
 class Reader:
@@ -474,7 +478,7 @@ class Reader:
         self.check_capture(key[0], key[1])
         self.own_trace()
         before = self.last_losses.get((rank, key[0]))
-        if self.rank == Rank.LOSSES or before is not None and key <= before:
+        if self.rank >= Rank.LOSSES or before is not None and key <= before:
             raise Bad("not in the order in which such lines are printed")
         self.last_losses[rank, key[0]] = key
         self.losses.append((rank, key, more))
@@ -492,6 +496,12 @@ class Reader:
         trace = self.own_trace()
         self.come_to(Rank.LOSSES, (int(cpu),))
         trace.put_counters(int(cpu), dict(zip(COUNTERS, map(int, numbers))))
+
+    def put_cut(self, fault):
+        if not self.is_listing():
+            raise Bad(f"no line of records: trace.dat: {fault.decode()}")
+        self.come_to(Rank.CUT, ())
+        self.trace.put_cut(fault.decode())
 
     def put_audit(self, found):
         if self.collector is None:
@@ -541,6 +551,7 @@ class Reader:
         (LATE_JSON, come_late),
         (LOSSES, put_counters),
         (LOSSES_JSON, put_counters),
+        (CUT, put_cut),
         (AUDIT, put_audit),
     )
 
