@@ -257,6 +257,7 @@ class Nats:
             owed = await self.owed()
             if readers <= owed.keys() and not any(owed[reader] for reader in readers):
                 return
+        print(f"fleet: nothing comes any more, though {owed} is owed: {self.told}", flush=True)
 
     async def trouble(self, rng):
         """One fault, then a wait until all copies are up to date: so two of three nodes have all. Answers its name."""

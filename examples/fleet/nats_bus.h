@@ -162,6 +162,16 @@ static inline jsCtx *jetstream(natsConnection *connection, jsPubAckHandler on_an
     return js;
 }
 
+// Says each few seconds that there is no server. (The library says once that it lost one.)
+static inline void report_away(void)
+{
+    static double next;
+    if (seconds_now() < next || is_stopped)
+        return;
+    next = seconds_now() + 5;
+    report(BUS " is away", text_of("servers"));
+}
+
 static inline bool is_connected(natsConnection *connection)
 {
     if (natsConnection_IsClosed(connection)) {
@@ -169,6 +179,9 @@ static inline bool is_connected(natsConnection *connection)
         (void)natsConnection_GetLastError(connection, &text);
         die("NATS closed the connection for good", text && *text ? text : "it doesn't say why");
     }
-    return natsConnection_Status(connection) == NATS_CONN_STATUS_CONNECTED;
+    bool is_there = natsConnection_Status(connection) == NATS_CONN_STATUS_CONNECTED;
+    if (!is_there)
+        report_away();
+    return is_there;
 }
 #endif
