@@ -12,6 +12,7 @@
 #include <string.h>
 #include <sys/mman.h>
 #include <sys/stat.h>
+#include <time.h>
 #include <unistd.h>
 
 #ifndef MAP_HUGE_2MB
@@ -26,14 +27,32 @@ static void *mapped(size_t len, int protection, int flags, int file)
     return region == MAP_FAILED ? NULL : region;
 }
 
+// Takes away a signal that is pending, unless it was before. All signals are blocked.
+static void take_signal(int number, const sigset_t *pending)
+{
+    sigset_t one;
+    const struct timespec at_once = {0, 0};
+    if (sigismember(pending, number))
+        return;
+    sigemptyset(&one);
+    sigaddset(&one, number);
+    while (sigtimedwait(&one, NULL, &at_once) < 0 && errno == EINTR)
+        continue;
+}
+
 // Allocates the blocks of a file, with all signals blocked: a file system may answer EINTR where one has come, and
-// begin again when it is asked again, so that a timer's signals would hold up a large file for ever.
+// begin again when it is asked again, so that a timer's signals would hold up a large file for ever. (The signal that
+// comes with EFBIG would end the process.)
 static int allocate(int file, size_t len)
 {
-    sigset_t all, before;
+    sigset_t all, before, pending;
     sigfillset(&all);
     (void)pthread_sigmask(SIG_SETMASK, &all, &before);
+    sigemptyset(&pending);
+    (void)sigpending(&pending);
     int fault = posix_fallocate(file, 0, (off_t)len);
+    if (fault == EFBIG)
+        take_signal(SIGXFSZ, &pending);
     (void)pthread_sigmask(SIG_SETMASK, &before, NULL);
     return fault;
 }
