@@ -15,9 +15,7 @@ enum {
 };
 
 struct recorder flight_recorder;
-uint32_t flight_running;
-uint32_t flight_is_dumping;
-uint32_t flight_inside;
+struct wiped flight_wiped;
 _Thread_local __attribute__((tls_model("initial-exec"))) struct mine flight_mine;
 static uint32_t last_running;
 pthread_mutex_t flight_lock = PTHREAD_MUTEX_INITIALIZER;
@@ -28,8 +26,9 @@ static int no_key; // why there is none
 static struct flight_config given_config;
 static char given_path[PATH_MAX];
 static bool is_of_parent;
-// The signals that a thread which forks had blocked.
+// The signals that a thread which forks had blocked, and the recorder that ran then.
 static _Thread_local __attribute__((tls_model("initial-exec"))) sigset_t unforked;
+static _Thread_local __attribute__((tls_model("initial-exec"))) uint32_t forked;
 
 // ---- Events.
 
@@ -177,6 +176,7 @@ int flight_name(const char *name)
 static void before_fork(void)
 {
     block_signals(&unforked);
+    forked = load(&flight_running);
 }
 
 static void after_fork(void)
@@ -189,7 +189,7 @@ static void start_child(void)
 {
     forget_slot();
     flight_mine.thread = 0;
-    is_of_parent |= load(&flight_running) != 0;
+    is_of_parent |= forked != 0;
     __atomic_store_n(&flight_running, 0, __ATOMIC_SEQ_CST);
     __atomic_store_n(&flight_is_dumping, 0, __ATOMIC_SEQ_CST);
     __atomic_store_n(&flight_inside, 0, __ATOMIC_SEQ_CST);
@@ -203,6 +203,8 @@ static void start_child(void)
 static void start_process(void)
 {
     no_key = pthread_key_create(&key, leave);
+    // (Kernels from 4.14 on. With older ones only fork itself is seen.)
+    (void)madvise(&flight_wiped, sizeof flight_wiped, MADV_WIPEONFORK);
     (void)pthread_atfork(before_fork, after_fork, start_child);
 }
 

@@ -112,12 +112,25 @@ struct recorder {
 };
 
 extern struct recorder flight_recorder;
-// Which recorder runs, by its number, or 0.
-extern uint32_t flight_running;
-// Whether a dump is made.
-extern uint32_t flight_is_dumping;
-// How many threads use their slots otherwise than in a TRACE or a dump, which flight_stop waits for.
-extern uint32_t flight_inside;
+
+// What is 0 in each forked child, also in one that is made by _Fork or clone, which call none of the handlers of
+// pthread_atfork: the kernel wipes this memory in it, which is a page of its own. So such a child has no recorder, and
+// doesn't write to its parent's rings.
+#if defined(__aarch64__)
+#define LARGEST_PAGE (1 << 16)
+#else
+#define LARGEST_PAGE (1 << 12)
+#endif
+struct wiped {
+    uint32_t running;    // which recorder runs, by its number, or 0
+    uint32_t is_dumping; // whether a dump is made
+    uint32_t inside;     // how many threads use their slots otherwise than in a TRACE or a dump: flight_stop waits for
+                         // them
+} __attribute__((aligned(LARGEST_PAGE)));
+extern struct wiped flight_wiped;
+#define flight_running (flight_wiped.running)
+#define flight_is_dumping (flight_wiped.is_dumping)
+#define flight_inside (flight_wiped.inside)
 // What starts, stops and switches holds this.
 extern pthread_mutex_t flight_lock;
 

@@ -58,7 +58,7 @@
 // what was written back. flight_stop gives the file checksums, by which `show` finds what was changed since; that of a
 // process that was killed has none. The file has room for the sites of some 10,000 TRACE; the arguments of further ones
 // are shown as bytes. Of a forked child nothing is in its parent's file. No process may make the file shorter: a dump
-// answers EIO then, but a TRACE whose page is gone ends the process by SIGBUS.
+// answers EIO then, but a TRACE whose page is gone ends the process by SIGBUS, and so does flight_stop.
 //
 // Arguments. Integers, enumerations, floating numbers, pointers and texts, 8 at most. A `char *` is copied if its
 // conversion is %s: to its end, its precision or 255 bytes, whichever comes first. For %p its address is recorded, as
@@ -74,7 +74,8 @@
 // dlopen), or all of them with the shared library.
 //
 // fork. The child has no recorder: its TRACE does nothing, and flight_dump answers ENODEV, until it calls
-// flight_start_in_child, for a recorder such as its parent's, or flight_start. In each path that is given to a call
+// flight_start_in_child, for a recorder such as its parent's, or flight_start. (So it is in a child that _Fork or clone
+// made, from Linux 4.14 on; but that can't call flight_start_in_child.) In each path that is given to a call
 // here %p stands for the process's number, so that workers that are forked have files of their own.
 //
 // Each function answers 0 or an error number; EINVAL if a pointer is null (flight_start's may be).
@@ -126,9 +127,9 @@ struct flight_config {
 // and its blocks are allocated. It may not be called in handlers.
 // EALREADY: it runs already. EINVAL: a number is out of its range (a ring has 67 megabytes at most: 1,024 pages of
 // 65,520 bytes), this machine has no such clock, or `now` is null with FLIGHT_CALLER or given without it. EEXIST: what
-// is at the path of `file` is no regular file. ENOMEM. And what open and others answer. If there is no start, there is
-// no new file, but the former one may be PATH~. (LeakSanitizer doesn't look into all of this memory: unless flight_stop
-// is called, it reports the rings as lost.)
+// is at the path of `file` is no regular file. EFBIG: the file is longer than RLIMIT_FSIZE allows (SIGXFSZ isn't sent).
+// ENOMEM. And what open and others answer. If there is no start, there is no new file, but the former one may be PATH~.
+// (LeakSanitizer doesn't look into all of this memory: unless flight_stop is called, it reports the rings as lost.)
 int flight_start(const struct flight_config *config);
 
 // In a forked child: starts a recorder with all that its parent's was started with. In the path of `file` there has to

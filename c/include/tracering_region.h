@@ -101,13 +101,13 @@ static inline int32_t tracering_new_in(struct tracering_writer *w, struct tracer
 // full. If there is a file of this name, it is named PATH~ first, and what had that name is gone: so what one run
 // leaves is there until the second start after it. Nothing looks whether a process still has the file mapped: processes
 // that run at once, a forked child and its parent too, need paths of their own. What is there and is no regular file is
-// left alone (EEXIST). EINVAL: `len` is 0. ENOSPC and others: there is no new file then, but the former one may be
-// PATH~ already.
+// left alone (EEXIST). EINVAL: `len` is 0. EFBIG: `len` is more than RLIMIT_FSIZE allows (SIGXFSZ isn't sent). ENOSPC
+// and others: there is no new file then, but the former one may be PATH~ already.
 void *tracering_region_file(const char *path, size_t len);
 
 // A new object of POSIX shared memory, of mode 0600; `name` begins with a slash. On Linux it is the file /dev/shm/NAME,
 // for `tracering recover` too; it stays until shm_unlink or the machine's end. EEXIST: there is one of this name, which
-// is left alone: recover what it has, and call shm_unlink.
+// is left alone: recover what it has, and call shm_unlink. EFBIG: as of a file.
 void *tracering_region_shared(const char *name, size_t len);
 
 // Memory without a name, in huge pages of 2 MB if the machine has some set aside (`is_huge`, which may be null, says

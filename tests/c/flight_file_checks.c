@@ -17,6 +17,7 @@
 #include <sys/prctl.h>
 #include <sys/resource.h>
 #include <sys/stat.h>
+#include <sys/syscall.h>
 #include <sys/wait.h>
 #include <unistd.h>
 
@@ -241,6 +242,7 @@ static void refusals_body(void)
 {
     char folder[250];
     struct rlimit limit = {100000, 100000};
+    sigset_t pending;
     snprintf(folder, sizeof folder, "%s.folder", path);
     (void)unlink(path);
     (void)unlink(aside);
@@ -248,9 +250,10 @@ static void refusals_body(void)
     want(start_with(folder, 0) == EEXIST && start_with("/no/such/folder/file", 0) == ENOENT, "a path that can't be", 0);
     want(!start_with("", 0) && !flight_stop(), "an empty path", 0);
     want(start_with(path, 65537) == EINVAL && access(path, F_OK), "a number out of its range", 0);
-    want(signal(SIGXFSZ, SIG_IGN) != SIG_ERR, "no action", 0);
     want(!setrlimit(RLIMIT_FSIZE, &limit) && start_with(path, 0) == EFBIG && access(path, F_OK), "a file too long", 0);
     want(!rmdir(folder), "no folder", 0);
+    // (The signal that the kernel sends with it would have ended the process.)
+    want(!sigpending(&pending) && !sigismember(&pending, SIGXFSZ), "a signal that is pending", 0);
 }
 
 static void refusals(void)
@@ -451,6 +454,36 @@ static void forks(void)
     want_text(0, "event 70 of it");
 }
 
+// Children of which pthread_atfork's handlers know nothing: they record while their parent does.
+static void unannounced_body(void)
+{
+    int status;
+    start(path);
+    record(0, 100);
+    for (int each = 1; each < 10; each++) {
+        pid_t made = (pid_t)syscall(SYS_clone, SIGCHLD, 0, 0, 0, 0);
+        want(made >= 0, "no process", 0);
+        if (!made) {
+            record(5000, 6000);
+            _exit(flight_dump(dump_path) != ENODEV);
+        }
+        record(100 * each, 100 * each + 100);
+        want(waitpid(made, &status, 0) == made && !status, "a child's end", (uint64_t)status);
+    }
+    (void)raise(SIGKILL);
+}
+
+// Nor have such children a part in the file.
+static void unannounced(void)
+{
+    (void)run(unannounced_body);
+    list(path);
+    want(listed.count + lost() == 1000 && listed.losses[LOSS_OVERWRITTEN] == lost(), "the parent's file", listed.count);
+    want_text(listed.count - 1, "event 999 of it");
+    for (size_t each = 1; each < listed.count; each++)
+        want(atoi(listed.texts[each] + 6) == atoi(listed.texts[each - 1] + 6) + 1, "another event", each);
+}
+
 static pid_t child = -1;
 static rlim_t most_data = RLIM_INFINITY; // of the child
 static int wait_pipe[2];
@@ -595,7 +628,7 @@ static void crash(void)
 int main(int argc, char **argv)
 {
     static void (*const cases[])(void) = {begin_again, cancelled, refusals, dumps, own_aside, counts, long_events,
-        flips, full, forks, amid, signalled, crash};
+        flips, full, forks, unannounced, amid, signalled, crash};
     want(argc == 2, "usage: flight_file_checks FOLDER", 0);
     struct rlimit none = {0, 0};
     (void)setrlimit(RLIMIT_CORE, &none);

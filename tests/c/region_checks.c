@@ -15,6 +15,7 @@
 #include <stdlib.h>
 #include <string.h>
 #include <sys/mman.h>
+#include <sys/resource.h>
 #include <sys/stat.h>
 #include <unistd.h>
 
@@ -459,6 +460,31 @@ static void files(void)
     CHECK(!tracering_region_open("/dev/null", &found) && errno == EINVAL);
 }
 
+// A limit of files' lengths, whose signal would end the process. One that is pending from before stays.
+static void limited(void)
+{
+    struct rlimit before, limit;
+    sigset_t signals;
+    size_t len = tracering_region_size(PAGES, SIZE);
+    sigemptyset(&signals);
+    sigaddset(&signals, SIGXFSZ);
+    CHECK(!getrlimit(RLIMIT_FSIZE, &before));
+    limit = (struct rlimit){1000, before.rlim_max};
+    CHECK(!setrlimit(RLIMIT_FSIZE, &limit));
+    unlink("limited");
+    for (int is_pending = 0; is_pending < 2; is_pending++) {
+        CHECK(!is_pending || (!sigprocmask(SIG_BLOCK, &signals, NULL) && !raise(SIGXFSZ)));
+        CHECK(!tracering_region_file("limited", len) && errno == EFBIG && !is_there("limited"));
+        CHECK(!tracering_region_shared("/region_checks.limited", len) && errno == EFBIG);
+        CHECK(!is_there("/dev/shm/region_checks.limited"));
+        sigset_t now;
+        CHECK(!sigpending(&now) && sigismember(&now, SIGXFSZ) == is_pending);
+    }
+    int number;
+    CHECK(!sigwait(&signals, &number) && number == SIGXFSZ && !sigprocmask(SIG_UNBLOCK, &signals, NULL));
+    CHECK(!setrlimit(RLIMIT_FSIZE, &before));
+}
+
 static void memory(void)
 {
     char name[64], path[80];
@@ -492,6 +518,7 @@ int main(int argc, char **argv)
     no_entry();
     threads();
     files();
+    limited();
     memory();
     return faults != 0;
 }
