@@ -2,7 +2,8 @@
 
 The pages are those of a kept file of trace-cmd, over and over, with times that go on. They lie in such a file, and raw
 in a file for each CPU. Instructions are counted of a file of 4 MB, with names and with fields, and of the kept one.
-Pages of one CPU are also written to pipes, as those of eight, and followed.
+Raw files of 1 and 4 GiB are listed page by page, and held, if there is memory for that. Pages of one CPU are written to
+pipes, as those of eight, and followed. All this takes some 6 GB of the disk for a while.
 """
 
 import gzip
@@ -24,6 +25,12 @@ CPUS, PAGE, CPU_BYTES, COUNTED_BYTES, GAP = 2, 4096, 64 << 20, 2 << 20, 1000
 # listing with names takes.
 MOST_TIME, MOST_MEMORY, MOST_FIELDS = 1 / 3, 3, 1.2
 
+# Large raw files: the bytes of each CPU, and the numbers of CPUs. How often the time of a listing that holds them they
+# may take at most, and how many MB; and how much memory is wanted for one that holds them, by their size.
+LARGE_BYTES, LARGE_CPUS, MOST_OF_HELD, MOST_PAGED, HELD_ROOM = 512 << 20, (2, 8), 1.0, 16, 1.5
+# A file that can't be read twice: beside it all others are held.
+HOLDING = "/dev/null"
+
 # What is followed: so many CPUs, and the bytes that all of them get in a second. So many seconds more than that it may
 # take at most to write them, and then to print what is left.
 FOLLOWED_CPUS, RATE, MOST_DELAY = 8, 100_000_000, 2
@@ -37,7 +44,7 @@ FORMS = {"": [], ", `--names`": ["--names"], ", `--fields`": ["--fields"]}
 def kept_pages(file, cpu):
     """The pages of a kept file, each with the time from its own to its last record's, and how many records it has."""
     [(_, _, cpus)] = [buffer for buffer in dat_reading(file).buffers if not buffer[0]]
-    data = dict(cpus)[cpu]
+    [data] = [pages for number, pages, _ in cpus if number == cpu]
     for at in range(0, len(data), PAGE):
         page = data[at : at + PAGE]
         time, size, _, records = reading(page)
@@ -60,7 +67,7 @@ def trace_dat(file, captures):
     file += bytes(-len(file) % PAGE)
     [(_, _, cpus)] = [buffer for buffer in dat_reading(file).buffers if not buffer[0]]
     end = len(file)
-    for (cpu, pages), made in zip(cpus, captures):
+    for (cpu, pages, _), made in zip(cpus, captures):
         old = struct.pack("<IQQ", cpu, file.index(pages), len(pages))
         if file.count(old) != 1:
             raise Failure("the kept file of trace-cmd names its pages another way")
@@ -84,6 +91,71 @@ def counted(path, file, length):
         ratio = f"{instructions / names:.2f}"
         limit = MOST_FIELDS if instructions == fields else ""
         yield tables.line([f"{what}{said}", f"{instructions / records:,.0f}", ratio, limit])
+
+
+def summed(words):
+    """The seconds of the processor and the most memory of a listing, and the checksum and length of what it prints."""
+    timing = ["/usr/bin/time", "--quiet", "-f", "%U %S %M", tracering(), "collect", *words]
+    lister = subprocess.Popen(timing, stdout=subprocess.PIPE, stderr=subprocess.PIPE, text=True)
+    summer = subprocess.Popen(["cksum"], stdin=lister.stdout, stdout=subprocess.PIPE, text=True)
+    lister.stdout.close()
+    printed, _ = summer.communicate()
+    said = lister.stderr.read()
+    if lister.wait():
+        raise Failure(f"{' '.join(map(str, words))} ends with status {lister.returncode}\n{said}")
+    user, system, most = said.split()[-3:]
+    return float(user) + float(system), int(most) * 1024, printed.split()
+
+
+def free_memory():
+    with open("/proc/meminfo") as text:
+        [count] = [line.split()[1] for line in text if line.startswith("MemAvailable:")]
+    return int(count) * 1024
+
+
+def large_files(folder, file):
+    """Raw files of the most CPUs, each with the pages of a kept one's CPU."""
+    files = [folder / f"large{cpu}.raw" for cpu in range(max(LARGE_CPUS))]
+    for kept in range(CPUS):
+        pages, _ = capture(file, kept, LARGE_BYTES // PAGE)
+        for large in files[kept::CPUS]:
+            large.write_bytes(pages)
+    os.sync()
+    return files
+
+
+def compared(files):
+    """The rows of these files, listed page by page, and held if there is memory for that."""
+    size = len(files) * LARGE_BYTES
+    what = f"{size >> 30} GiB of {len(files)} CPUs"
+    words = [f"{cpu}={large}" for cpu, large in enumerate(files)]
+    seconds, memory, printed = summed(words)
+    if memory > MOST_PAGED << 20:
+        tables.OVER.append(f"{what}: memory")
+    if free_memory() < HELD_ROOM * size:
+        yield tables.line([what, f"{seconds:.2f}", "", "", f"{memory / 2**20:,.1f}", MOST_PAGED])
+        yield tables.line([f"{what}, held: there is no memory for it", "", "", "", "", ""])
+        return
+    held, room, held_printed = summed([*words, f"{len(files)}={HOLDING}"])
+    if printed != held_printed or room < size:
+        raise Failure(f"{what}: {printed} are printed, and {held_printed} by a listing that takes {room} bytes")
+    if seconds > MOST_OF_HELD * held:
+        tables.OVER.append(f"{what}: time")
+    cells = [f"{seconds:.2f}", f"{seconds / held:.2f}", MOST_OF_HELD, f"{memory / 2**20:,.1f}", MOST_PAGED]
+    yield tables.line([what, *cells])
+    yield tables.line([f"{what}, held", f"{held:.2f}", "", "", f"{room / 2**20:,.0f}", ""])
+
+
+def large(folder, file):
+    """The rows of large raw files."""
+    files = large_files(folder, file)
+    yield "Raw files that are listed page by page, and the same ones held; seconds of the processor, most memory in MB."
+    yield ""
+    yield from tables.head("What", "Seconds", "of those held", "Limit", "Memory", "Limit")
+    for count_of in LARGE_CPUS:
+        yield from compared(files[:count_of])
+    for path in files:
+        path.unlink()
 
 
 def write_slowly(path, data, begin):
@@ -164,5 +236,7 @@ def run(folder):
     yield from tables.head("What", "Instructions", "of those with names", "Limit")
     for length in COUNTED_BYTES // PAGE, 0:
         yield from counted(folder / "counted.dat", file, length)
+    yield ""
+    yield from large(folder, file)
     yield ""
     yield from followed(folder, *made[0])
