@@ -167,13 +167,19 @@ def parts_of(dat, buffer, length):
             continue
         if not 4096 <= page_size <= 65536:
             raise Refused(f"trace.dat: BadPage {page_size}")
-        for cpu, pages in cpus:
+        for cpu, pages, _ in cpus:
             if cpu >= CPUS:
                 raise Refused(f"trace.dat: BadCpu {cpu}")
             parts.append((cpu, page_size, pages))
     if sum(len(pages) for _, _, pages in parts) > length:
         raise Refused("trace.dat: Overlap")
     return parts
+
+
+def cut_of(dat, buffer):
+    """The fault of the first range of this buffer that a file of trace-cmd ends before, if it was cut short there."""
+    faults = (fault for name, _, cpus in dat.buffers if name == buffer for _, _, fault in cpus if fault)
+    return next(faults, None)
 
 
 def settled(cpu, parts, counters, is_raw):
@@ -194,12 +200,14 @@ def settled(cpu, parts, counters, is_raw):
 
 class Files:
     """What files have: the CPUs of a buffer, in pages of this size if they are raw, the counters of these, if there is
-    one file alone, and texts of the kernel: formats of events, and lists of processes and of symbols. Of instances
-    those that aren't listed are known by their names."""
+    one file alone that wasn't cut short, and texts of the kernel: formats of events, and lists of processes and of
+    symbols. Of instances those that aren't listed are known by their names. `cut` is the line of the first file that
+    was cut short, or None."""
 
     def __init__(self, files, page, buffer):
         self.buffer, self.is_alone, self.machine, self.has_buffer = buffer, len(files) == 1, None, False
         self.cpus, self.counters, self.formats, self.tasks, self.symbols, self.others = {}, {}, [], [], [], []
+        self.cut = None
         for cpu, file in files:
             if buffer or resembles_dat(file):
                 self.add_dat(file)
@@ -221,7 +229,10 @@ class Files:
         self.formats += dat.formats
         self.tasks += dat.tasks
         self.symbols += dat.symbols
-        if self.is_alone:
+        cut = cut_of(dat, self.buffer)
+        if cut and not self.cut:
+            self.cut = b"trace.dat: %b at %d\n" % (cut[0].encode(), cut[1])
+        if self.is_alone and not cut:
             self.counters = counters_of(texts_of(self.buffer, dat.counters))
         self.add_parts(parts, False)
 
@@ -407,7 +418,7 @@ class Collected:
         lines = Lines(json, known if names or has_fields or tasks is not None else None)
         records = sorted(each for cpu in order for each in cpu.records)
         self.output = b"".join(lines.of(record) for record in records if selection.has(record))
-        self.output += lines_below(order, json, selection) + loss_sums(found, json, selection)
+        self.output += lines_below(order, json, selection) + loss_sums(found, json, selection) + (found.cut or b"")
         lacking = [b"no event is named by " + event] if event is not None and not selection.events else []
         lacking += known.malformed() if has_fields else []
         lacking += [b"records with a field that is not whole: %d" % lines.cut] * bool(lines.cut)
@@ -415,7 +426,7 @@ class Collected:
         others = b" ".join(shown(name).encode() for name in found.others)
         instances = [b"instances that are not listed: %d %s" % (len(found.others), others)] if found.others else []
         self.errors = b"".join(b"tracering: %s\n" % each for each in [*missing, *instances, *lacking])
-        self.status = int(bool(missing or lacking) or any(cpu.damaged for cpu in order))
+        self.status = int(bool(missing or lacking or found.cut) or any(cpu.damaged for cpu in order))
 
 
 def lines_below(order, json, selection):

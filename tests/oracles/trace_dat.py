@@ -10,8 +10,9 @@ class Fault(Exception):
 
 @dataclass
 class Contents:
-    """What a file holds: formats of events, each with its system; trace buffers; texts of counters, of processes and of
-    symbols; and what the machine is."""
+    """What a file holds: formats of events, each with its system; trace buffers, each with its name, the size of its
+    pages, and for each CPU its number, its pages and their fault; texts of counters, of processes and of symbols; and
+    what the machine is."""
 
     formats: list
     buffers: list = field(default_factory=list)
@@ -69,12 +70,11 @@ class Bytes:
         return Bytes(self.file, offset, len(self.file))
 
     def range(self):
+        """The bytes that the file has of a range, and the range's fault if it ends before the range does."""
         here = self.at
-        there = self.pointed()
-        size = self.number(8)
-        if size > there.end - there.at:
-            raise Fault("OutsideFile", here)
-        return self.file[there.at : there.at + size]
+        offset, size = self.number(8), self.number(8)
+        fault = ("OutsideFile", here) if offset + size > len(self.file) else None
+        return self.file[offset : offset + size], fault
 
 
 def formats(part, system):
@@ -106,7 +106,7 @@ def section(part, kind):
 
 def ranges(part, name, page_size, count):
     part.expect(b"flyrecord\0", "Misplaced")
-    return name, page_size, [(cpu, part.range()) for cpu in range(count)]
+    return name, page_size, [(cpu, *part.range()) for cpu in range(count)]
 
 
 def version_six(part, page_size):
@@ -156,7 +156,7 @@ def stated_buffer(part):
     cpus = []
     for _ in range(count):
         cpu = part.number(4)
-        cpus.append((cpu, part.range()))
+        cpus.append((cpu, *part.range()))
     return name, page_size, cpus
 
 
@@ -223,7 +223,8 @@ def answer(file):
     lines += [f"  event {kind} {spelled(events[kind][0])} {spelled(events[kind][1])}" for kind in sorted(events)]
     for name, page_size, cpus in found.buffers:
         lines.append(f"  buffer {spelled(name)} {page_size}")
-        lines += [f"  pages {cpu} {spelled(pages)}" for cpu, pages in cpus]
+        for cpu, pages, fault in cpus:
+            lines.append(f"  pages {cpu} {spelled(pages)}" + (" fault %s %d" % fault if fault else ""))
     for text in found.counters:
         stated = number(value(text, b"CPU: "), 1 << 64), number(value(text, b"overrun: "), 1 << 64)
         lines.append(f"  counters {spelled(text)} " + ("none" if None in stated else "%d %d" % stated))

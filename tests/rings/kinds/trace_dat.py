@@ -31,7 +31,7 @@ def answers_to(program, files):
     answered = ("\n".join([line, *lines, ""]) for line, lines in zip(asked, wanted))
     expected = f"{ROW}\n" + "".join(answered)
     if done.stdout.decode() == expected:
-        return [line.split()[1 if "fault" in line else 0] for lines in wanted for line in lines]
+        return [line.split()[-2 if "fault" in line else 0] for lines in wanted for line in lines]
     for line, lines in zip(asked, wanted):
         text = f"{ROW}\n{line}\n"
         got = subprocess.run([program], input=text.encode(), stdout=subprocess.PIPE, check=False).stdout
