@@ -469,14 +469,16 @@ static void limited(void)
     sigemptyset(&signals);
     sigaddset(&signals, SIGXFSZ);
     CHECK(!getrlimit(RLIMIT_FSIZE, &before));
-    limit = (struct rlimit){1000, before.rlim_max};
+    limit = (struct rlimit){len - 1, before.rlim_max};
     CHECK(!setrlimit(RLIMIT_FSIZE, &limit));
+    char name[64], path[80];
+    snprintf(name, sizeof name, "/region_checks.limited.%d", (int)getpid());
+    snprintf(path, sizeof path, "/dev/shm%s", name);
     unlink("limited");
     for (int is_pending = 0; is_pending < 2; is_pending++) {
         CHECK(!is_pending || (!sigprocmask(SIG_BLOCK, &signals, NULL) && !raise(SIGXFSZ)));
         CHECK(!tracering_region_file("limited", len) && errno == EFBIG && !is_there("limited"));
-        CHECK(!tracering_region_shared("/region_checks.limited", len) && errno == EFBIG);
-        CHECK(!is_there("/dev/shm/region_checks.limited"));
+        CHECK(!tracering_region_shared(name, len) && errno == EFBIG && !is_there(path));
         sigset_t now;
         CHECK(!sigpending(&now) && sigismember(&now, SIGXFSZ) == is_pending);
     }
