@@ -21,7 +21,7 @@ use std::fs;
 use std::fs::File;
 use std::io::{ErrorKind, Seek};
 use time_merge::LineSource;
-use trace_model::{CpuId, MAX_CPUS};
+use trace_model::{CpuId, MAX_CPUS, NoMemory};
 
 /// A raw file that is read twice. It stays the same file, whatever its path leads to meanwhile.
 #[derive(Drop)]
@@ -43,7 +43,7 @@ impl<'b> Named for PagedFile<'b> {
 /// What a file is read from for the first time, and for the second.
 type First<'a> = Std<Watched<'a, HostRuntime, &'a File>>;
 
-type Second<'a> = Std<Watched<'a, HostRuntime, Again<'a, &'a File>>>;
+type Second<'a> = Std<Again<'a>>;
 
 /// The files by rising CPU, if each is of a CPU of its own.
 fn files_of_cpus<'b>(
@@ -142,7 +142,7 @@ fn open_sources<'a>(
     page: usize,
     files: &'a [PagedFile<'_>],
     progress: &'a Progress<'a, HostRuntime>,
-) -> Result<Vec<PageLines<Second<'a>>>, Trial<'static>>
+) -> Result<Vec<PageLines<Second<'a>>>, NoMemory>
     requires page { 48 ≤ page }
 {
     let mut sources = Vec::new(rt.alloc());
@@ -151,14 +151,9 @@ fn open_sources<'a>(
         if cpu.0 >= MAX_CPUS {
             break;
         }
-        let again = Again::new(&file.file, file.length, &file.has_failed);
-        let reader = Std::new(Watched::new(again, progress));
-        let Ok(source) = PageLines::open(rt.alloc(), cpu, page, Missed::Unknown, reader) else {
-            return Err(Trial::NoMemory);
-        };
-        if sources.push(source).is_err() {
-            return Err(Trial::NoMemory);
-        }
+        let again = Again::new(&file.file, file.length, &file.has_failed, progress);
+        let source = PageLines::open(rt.alloc(), cpu, page, Missed::Unknown, Std::new(again))?;
+        sources.push(source)?;
     }
     Ok(sources)
 }
@@ -186,7 +181,9 @@ fn list<'b>(
     let formats = lent(rt, &given.formats)?;
     let collecting = collecting_of(asked, &formats, &given);
     let reading = Progress::begin(rt, "read", Some(length_of_all(files)), is_watched);
-    let sources = open_sources(rt, collecting.page, files, &reading)?;
+    let Ok(sources) = open_sources(rt, collecting.page, files, &reading) else {
+        return Err(Trial::NoMemory);
+    };
     // How far it is, the reading says.
     let writing = begin_writing(rt, false);
     let mut output = open_output(rt, &writing);

@@ -109,13 +109,10 @@ pub(crate) fn open_inputs<'a, 'b>(
     let mut inputs = Vec::new(rt.alloc());
     for file in files {
         let reader = peeked_input(rt, file.path, progress)?;
-        let pushed = inputs.push(Input {
-            cpu: file.cpu,
-            reader,
-        });
-        if pushed.is_err() {
+        let cpu = file.cpu;
+        let Ok(()) = inputs.push(Input { cpu, reader }) else {
             return Err(Trial::NoMemory);
-        }
+        };
     }
     Ok(inputs)
 }

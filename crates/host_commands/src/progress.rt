@@ -75,6 +75,14 @@ impl<'a, R: Eprint + Clock> Progress<'a, R> {
         self.passed.set(passed);
     }
 
+    /// As many bytes more have passed as a read gave. At the end the report is removed.
+    pub(crate) fn note(&self, count: &io::Result<usize>) {
+        match count {
+            Ok(0) | Err(_) => self.end(),
+            Ok(count) => self.pass(*count),
+        }
+    }
+
     /// Reports how many bytes have passed, if a second is over.
     fn look(&self, passed: &mut Passed) {
         let Some(told) = passed.told else {
@@ -153,11 +161,7 @@ impl<'a, R: Eprint + Clock, T: Read> Read for Watched<'a, R, T> {
 
     fn read(&mut self, buf: &mut [u8]) -> io::Result<usize> {
         let result = self.inner.read(buf);
-        match &result {
-            Ok(0) => self.progress.end(),
-            Ok(count) => self.progress.pass(*count),
-            Err(_) => self.progress.end(),
-        }
+        self.progress.note(&result);
         result
     }
 }
