@@ -3,6 +3,8 @@
 import random
 import re
 import signal
+import struct
+import subprocess
 import sys
 import time
 from pathlib import Path
@@ -11,7 +13,7 @@ HERE = Path(__file__).resolve().parent
 TOP = HERE.parent.parent
 sys.path.insert(0, str(TOP / "tests"))
 
-from children import HOST, LONG, Child, Link, NatsServer, check, until
+from children import ENDS_WITH_US, HOST, LONG, Child, Link, NatsServer, check, until
 from cluster import files_of
 from oracles import fleet as pieces_of
 
@@ -42,6 +44,17 @@ def records_in(data):
         for cpu, records in found
         for (_, number), (moment, payload) in records.items()
     ]
+
+
+def numbers_of(told, kind):
+    """The missing or the unknown numbers of a CPU."""
+    return {number for first, end in told.runs(kind) for number in range(first, end)}
+
+
+def noted_in(state):
+    """The number of each CPU of a stream below which a publisher may have sent what it read, by its state."""
+    entries = struct.iter_unpack("<4Q", state.read_bytes())
+    return {(stream, cpu): number for stream, cpu, number, made in entries if made}
 
 
 def log_bytes(folder):
@@ -116,6 +129,16 @@ class Place:
         until(lambda: server.owed(f"copy-{name}") == 0, "the collector has all", child)
         self.stopped(child)
         return child.said(), log_bytes(folder)
+
+    def told(self, log="log"):
+        """What a log says of each CPU of each stream. `tracering collect` has to list just that."""
+        files = files_of(self.folder / log)
+        found = pieces_of.told_of(pieces_in(log_bytes(self.folder / log)))
+        if program := self.programs.get("tracering"):
+            done = subprocess.run([*ENDS_WITH_US, program, "collect", *files], capture_output=True, check=False)
+            lines = done.stdout.decode().split("\n")[:-1]
+            check(done.returncode == 0 and lines == pieces_of.listing(found, False), f"{log} is listed otherwise")
+        return found
 
     def stream(self, server, host=7, seconds=1):
         """Has a publisher write for a while, and answers the pieces that a collector got of it."""

@@ -13,10 +13,11 @@ from functools import partial
 from itertools import accumulate
 from pathlib import Path
 
+import live_kernel
 import said_scenes
 from children import ENDS_WITH_US, HOST, LONG, MockBrokers, check, until
 from cluster import NOWHERE, files_of
-from place import HERE, TOP, Server, datas_in, holds_soon, log_bytes, made, pieces_in, records_in
+from place import HERE, TOP, Server, datas_in, holds_soon, log_bytes, made, noted_in, numbers_of, pieces_in, records_in
 from oracles import fleet as pieces_of
 from oracles.collect import page_reading
 from oracles.image import Fault
@@ -349,11 +350,6 @@ def time_of_log(place):
 # ---- Publishers
 
 
-def told_of(log):
-    """What a collector's log says of each CPU."""
-    return {place[1]: told for place, told in pieces_of.told_of(pieces_in(log)).items()}
-
-
 def numbers_left(ring, stream):
     """The numbers of the records that a ring has, by a reader of regions that shares nothing with the publisher."""
     try:
@@ -390,9 +386,9 @@ def regions(place):
         place.run(f"last{stream}", "nats_publisher", *words, "--once")
         numbers = numbers_left(folder / "ring.0", stream)
         check(numbers, "the ring that is left can't be read")
-        said, log = place.collect(server, log=f"log{stream}", name=f"r{stream}")
+        said, _ = place.collect(server, log=f"log{stream}", name=f"r{stream}")
         check(" refused 0 " in said, f"what the publishers state contradicts itself: {said}")
-        found = pieces_of.told_of(pieces_in(log))
+        found = place.told(f"log{stream}")
         for cpu in (0, 1):
             told = found[stream, cpu]
             for number, (_, payload) in told.records.items():
@@ -420,7 +416,7 @@ def regions_replaced(place):
         until(lambda: log_bytes(log).count(end) == 2, f"the ends of stream {stream} are there", publisher, collector)
     place.stopped(publisher)
     place.stopped(collector)
-    found = pieces_of.told_of(pieces_in(log_bytes(log)))
+    found = place.told()
     check({*found} == {(stream, cpu) for stream in (1, 2, 3) for cpu in (0, 1)}, f"{[*found]} are there")
     for key, told in found.items():
         check(told.end == told.expected > 200 and not told.runs("unknown"), f"{key} isn't there whole")
@@ -436,7 +432,8 @@ def recorder(place):
     subprocess.run([program], cwd=place.folder, check=False)
     words = ["--region", place.folder / "killed.flight", "--once", "--state", place.folder / "state"]
     place.run("publisher", "nats_publisher", *server.words, *words)
-    found = told_of(place.collect(server)[1])
+    place.collect(server)
+    found = place.told()
     # (Four threads with 1,000 events each. One that begins late may have the rings of one that ended.)
     check(sum(told.expected for told in found.values()) == 4000, f"{len(found)} rings are there")
     check(all(told.records and not told.runs("unknown") for told in found.values()), "what the recorder had isn't sent")
@@ -489,10 +486,6 @@ class Kernel:
         return records, missing, unknown, number
 
 
-def numbers_of(told, kind):
-    return {number for first, end in told.runs(kind) for number in range(first, end)}
-
-
 def kernel(place):
     """A kernel's pages, with stated and unstated losses, damage, stamps above 2^59, and pages of 8 KiB."""
     server, sources, publishers = Server(place.folder), {}, []
@@ -510,7 +503,8 @@ def kernel(place):
         publishers.append(place.counted(f"publisher_{capture}", "nats_publisher", *words)[0])
     for publisher in publishers:
         place.stopped(publisher)
-    found = pieces_of.told_of(pieces_in(place.collect(server)[1]))
+    place.collect(server)
+    found = place.told()
     check(found.keys() == {(stream, cpu) for stream in sources for cpu in (0, 1)}, f"{[*found]} are there")
     for (stream, cpu), told in found.items():
         records, missing, unknown, end = sources[stream].told(cpu)
@@ -519,12 +513,6 @@ def kernel(place):
         check(told.records == records, f"{capture}: the records of CPU {cpu} are others")
         check(numbers_of(told, "missing") == missing, f"{capture}: missing numbers of CPU {cpu} are others")
         check(numbers_of(told, "unknown") == unknown, f"{capture}: unknown numbers of CPU {cpu} are others")
-
-
-def noted_in(state):
-    """The number of each CPU of a stream below which a publisher may have sent what it read, by its state."""
-    entries = struct.iter_unpack("<4Q", state.read_bytes())
-    return {(stream, cpu): number for stream, cpu, number, made in entries if made}
 
 
 def kernel_killed(place):
@@ -555,7 +543,8 @@ def kernel_killed(place):
         source.file(cpu).write_bytes(b"")
     source.give({cpu: slice(read[cpu], None) for cpu in source.cpus})
     place.stopped(place.counted("next", "nats_publisher", *words, "--incarnation", 2)[0])
-    found, lost = pieces_of.told_of(pieces_in(place.collect(server)[1])), 0
+    place.collect(server)
+    found, lost = place.told(), 0
     for cpu in source.cpus:
         told, wanted = found[9 << 32 | 1, cpu], source.told(cpu, slice(read[cpu]))
         missing, unknown = numbers_of(told, "missing"), numbers_of(told, "unknown")
@@ -571,5 +560,5 @@ def kernel_killed(place):
 
 
 COLLECTING = (marks, versions, quarantine_full, quarantine_full_kafka, damage, rotation, time_of_log)
-PUBLISHING = (regions, regions_replaced, recorder, kernel, kernel_killed)
+PUBLISHING = (regions, regions_replaced, recorder, kernel, kernel_killed, live_kernel.live_kernel)
 SCENES = {scene.__name__: scene for scene in (*COLLECTING, *PUBLISHING, *said_scenes.SAID)}
