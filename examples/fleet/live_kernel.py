@@ -17,13 +17,13 @@ TRACEFS = Path("/sys/kernel/tracing")
 CLONE_NEWNS = 0x20000
 # How large a ring is wanted, and how many of the records below a page has at most.
 KILOBYTES, OF_A_PAGE = 16, 92
-# How wide a number is in a record's text, on the first CPU and on the second one: a page of 4,080 bytes has 92 records of
-# 44 bytes, and room to say how many were overwritten before it, or 85 of 48 bytes, and none.
+# How wide a number is in a record's text, on the first CPU and on the second one: a page of 4,080 bytes has 92 records
+# of 44 bytes, and room to say how many were overwritten before it, or 85 of 48 bytes, and none.
 WIDTHS = 4, 8
 
 
 def is_tracefs_here():
-    """Whether there is a tracefs: this machine's, or one that this process alone sees. (It has the scene for itself.)"""
+    """Whether there is a tracefs: this machine's, or one that this process, which has the scene for itself, sees."""
     if (TRACEFS / "instances").is_dir():
         return True
     if ctypes.CDLL(None).unshare(CLONE_NEWNS):
@@ -96,9 +96,7 @@ def live_kernel(place):
 
 
 def written_and_read(place, kernel):
-    """Has the CPUs write, and publishers read that. Answers what a collector has, and what was noted of a publisher that
-    was killed.
-    """
+    """Has the CPUs write, and publishers read that. Answers what a collector has, and what a killed one noted."""
     server, state = Server(place.folder), place.folder / "state"
     words = [*server.words, "--kernel", kernel.folder, "--state", state, "--host", 9]
     publisher, count = place.counted("publisher", "nats_publisher", *words, "--incarnation", 1)

@@ -1,5 +1,6 @@
 """What the short scenes of `test` share: their folders, the programs, and servers of NATS."""
 
+import os
 import random
 import re
 import signal
@@ -11,6 +12,7 @@ from pathlib import Path
 
 HERE = Path(__file__).resolve().parent
 TOP = HERE.parent.parent
+ARCHIVE = Path(os.environ.get("FLEET_LIBRARY") or TOP / "out") / "libtracering.a"
 sys.path.insert(0, str(TOP / "tests"))
 
 from children import ENDS_WITH_US, HOST, LONG, Child, Link, NatsServer, check, until

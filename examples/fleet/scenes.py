@@ -17,7 +17,8 @@ import live_kernel
 import said_scenes
 from children import ENDS_WITH_US, HOST, LONG, MockBrokers, check, until
 from cluster import NOWHERE, files_of
-from place import HERE, TOP, Server, datas_in, holds_soon, log_bytes, made, noted_in, numbers_of, pieces_in, records_in
+from place import ARCHIVE, HERE, TOP, Server, datas_in, holds_soon, log_bytes, made
+from place import noted_in, numbers_of, pieces_in, records_in
 from oracles import fleet as pieces_of
 from oracles.collect import page_reading
 from oracles.image import Fault
@@ -426,8 +427,7 @@ def recorder(place):
     """A recorder's file, whose process was killed."""
     server = Server(place.folder)
     program = place.folder / "killed"
-    archive = Path(os.environ.get("FLEET_LIBRARY") or TOP / "out") / "libtracering.a"
-    subprocess.run(["cc", "-O2", "-std=c11", f"-I{TOP / 'c/include'}", TOP / "examples/flight/killed.c", archive,
+    subprocess.run(["cc", "-O2", "-std=c11", f"-I{TOP / 'c/include'}", TOP / "examples/flight/killed.c", ARCHIVE,
         "-lpthread", "-o", program], check=True)
     subprocess.run([program], cwd=place.folder, check=False)
     words = ["--region", place.folder / "killed.flight", "--once", "--state", place.folder / "state"]
