@@ -10,6 +10,7 @@ import signal
 import socket
 import subprocess
 import time
+from pathlib import Path
 
 HOST = "127.0.0.1"
 # How many seconds something may take, whatever else the machine does.
@@ -81,6 +82,19 @@ class Child:
     def kill(self):
         self.signal(signal.SIGKILL)
         self.process.wait()
+
+    def is_frozen(self):
+        """Whether each of its threads is stopped."""
+        try:
+            threads = [*Path(f"/proc/{self.process.pid}/task").iterdir()]
+            return all((thread / "stat").read_text().rpartition(")")[2].split()[0] == "T" for thread in threads)
+        except OSError:
+            return False
+
+    def freeze(self):
+        """Stops it. (The thread that gets the signal may wait for a processor, and the others go on until then.)"""
+        self.signal(signal.SIGSTOP)
+        until(self.is_frozen, f"{self.name} is frozen", self)
 
     async def frozen(self, seconds):
         self.signal(signal.SIGSTOP)

@@ -106,7 +106,7 @@ def written_and_read(place, kernel):
     for _ in range(5):
         kernel.write(60)
         until(kernel.is_read, "the publisher reads what there is", publisher)
-    publisher.signal(signal.SIGSTOP)
+    publisher.freeze()
     kernel.write(2000)
     overwritten = [kernel.stat(cpu, "overrun") for cpu in kernel.written]
     check(min(overwritten) > 1000, f"the kernel overwrites {overwritten} records")
@@ -119,7 +119,7 @@ def written_and_read(place, kernel):
 
     # What this one reads now doesn't come to the bus.
     before = noted()
-    server.child.signal(signal.SIGSTOP)
+    server.child.freeze()
     kernel.write(100)
     holds_soon(lambda: all(noted()[cpu] > before[cpu] for cpu in before))
     publisher.kill()

@@ -526,7 +526,7 @@ def kernel_killed(place):
         publisher)
     # (A publisher that gets no processor for seconds finds that the server is away, and then reads no page.)
     for at in range(15, 40):
-        server.child.signal(signal.SIGSTOP)
+        server.child.freeze()
         before = noted_in(state)
         source.give({cpu: slice(at, at + 1) for cpu in source.cpus})
         if holds_soon(lambda: noted_in(state) != before):
