@@ -23,6 +23,7 @@ pub mod CpuParts
 mod CpuLists
 mod Answers
 mod EachLoop
+mod OtherNames
 mod LossSums
 mod TrueLosses
 mod Overruns

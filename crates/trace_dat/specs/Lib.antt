@@ -1,4 +1,6 @@
 pub mod Parts
+pub mod Windows
+pub mod Seen
 pub mod Fields
 pub mod Contents
 pub mod Formats
