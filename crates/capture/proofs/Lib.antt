@@ -23,7 +23,6 @@ pub mod CpuParts
 mod CpuLists
 mod Answers
 mod EachLoop
-mod OtherNames
 mod LossSums
 mod TrueLosses
 mod Overruns

@@ -3,11 +3,10 @@ use Rattle.std.proofs.Common.{◌≡◌, ℕ, suc, ◌-◌, ◌+◌, ◌≤◌, 
 use Rattle.std.proofs.Common.{refl, sym, ap, subst, ◌∙◌, append_assoc, arith}
 use Rattle.std.specs.Prelude.{⊤, IfSome}
 use Rattle.trace_dat.specs.declared.fault.Fault.{Fault}
-use Rattle.trace_dat.specs.declared.fault.WindowError.{WindowError}
-use Rattle.trace_dat.specs.declared.fault.WindowError.TheVariants as errors
+use Rattle.trace_dat.specs.declared.fault.ReadError.{ReadError}
+use Rattle.trace_dat.specs.declared.fault.ReadError.TheVariants as errors
 use Rattle.trace_dat.specs.Parts.{FilePart}
-use Rattle.trace_dat.specs.Windows.{KnownFile}
-use Rattle.trace_dat.specs.Fields.{Reading, ◌>>=◌, FailsIn, with_front, with_list}
+use Rattle.trace_dat.specs.Fields.{Reading, ◌>>=◌, Fails, with_front, with_list}
 use Rattle.trace_dat.specs.Entries.{FileOption}
 use Rattle.trace_dat.specs.Sections.{Place, link_at, chain_from, options_of_chain, chained_options_at}
 use Rattle.trace_dat.proofs.Loops.{same_value}
@@ -64,13 +63,12 @@ failed_so fault = Err fault
 same_fault : (d f : Fault) → failed_so d ≡ failed_so f → d ≡ f
 same_fault d f e = cc
 
-link_fails : (known : KnownFile) (file : List ℕ) (count : ℕ) (before : List FileOption) (e : WindowError)
-    (first : Reading (List FileOption × Option Place)) → FailsIn known e (with_front before first)
-    → FailsIn known e (with_list before (first >>= rest_of file count))
-link_fails known file count before errors.NoMemory first h = tt
-link_fails known file count before (errors.Fault f) (Ok x) h = absurd cc
-link_fails known file count before (errors.Fault f) (Err d) h = ap (λ e. Err e) (same_fault d f h)
-link_fails known file count before (errors.Unread u) first h = h
+link_fails : (file : List ℕ) (count : ℕ) (before : List FileOption) (e : ReadError)
+    (first : Reading (List FileOption × Option Place)) → Fails e (with_front before first)
+    → Fails e (with_list before (first >>= rest_of file count))
+link_fails file count before errors.NoMemory first h = tt
+link_fails file count before (errors.Fault f) (Ok x) h = absurd cc
+link_fails file count before (errors.Fault f) (Err d) h = ap (λ e. Err e) (same_fault d f h)
 
 first_known : (file : List ℕ) (count less : ℕ) (place : Place) → count ≡ suc less
     → options_of_chain file count place ≡ (link_at file place >>= rest_of file less)
@@ -100,12 +98,12 @@ chain_goes_on file before more place next total read onward within so_far =
     )
 
 -- a section that can't be read ends the reading
-pub chain_fails : (known : KnownFile) (file : List ℕ) (before : List FileOption) (place : Place) (e : WindowError)
-    (total : Reading (List FileOption)) → FailsIn known e (with_front before (link_at file place))
-    → IsChainedTo file before (Some place) total → FailsIn known e total
-chain_fails known file before place e total fails so_far =
+pub chain_fails : (file : List ℕ) (before : List FileOption) (place : Place) (e : ReadError)
+    (total : Reading (List FileOption)) → Fails e (with_front before (link_at file place))
+    → IsChainedTo file before (Some place) total → Fails e total
+chain_fails file before place e total fails so_far =
     let k : so_far.0 ≡ suc (so_far.0 - 1) = omega (arith, so_far.1.0, so_far.1.1) in
-    let one : FailsIn known e (with_list before (options_of_chain file so_far.0 place)) =
+    let one : Fails e (with_list before (options_of_chain file so_far.0 place)) =
     rw (first_known file so_far.0 (so_far.0 - 1) place k)
-    (link_fails known file (so_far.0 - 1) before e (link_at file place) fails) in
-    subst (λ r. FailsIn known e r) so_far.2 one
+    (link_fails file (so_far.0 - 1) before e (link_at file place) fails) in
+    subst (λ r. Fails e r) so_far.2 one

@@ -2,10 +2,9 @@
 use Rattle.std.proofs.Common.{◌≡◌, ℕ, ◌+◌, ◌≤◌, ◌<◌, List, [], ◌∷◌, ◌++◌, length, get_or, drop, map, Ok, Err, refl, sym}
 use Rattle.std.proofs.Common.{ap, subst, ◌∙◌, append_assoc}
 use Rattle.std.proofs.lemmas.List.{append-nil, drop_more, drop_all}
-use Rattle.trace_dat.specs.declared.fault.WindowError.{WindowError}
-use Rattle.trace_dat.specs.declared.fault.WindowError.TheVariants as errors
-use Rattle.trace_dat.specs.Windows.{KnownFile}
-use Rattle.trace_dat.specs.Fields.{Reading, ◌>>=◌, FailsIn, each_of, with_list}
+use Rattle.trace_dat.specs.declared.fault.ReadError.{ReadError}
+use Rattle.trace_dat.specs.declared.fault.ReadError.TheVariants as errors
+use Rattle.trace_dat.specs.Fields.{Reading, ◌>>=◌, Fails, each_of, with_list}
 use Rattle.trace_dat.proofs.Loops.{same_value}
 
 -- the lists of the others, after the first
@@ -20,12 +19,11 @@ list_moves before more (Ok x) (Ok xs) e =
 list_moves before more (Ok x) (Err f) e = refl
 list_moves before more (Err f) others e = absurd cc
 
-list_fails : {A : Type 0} (known : KnownFile) (before : List A) (e : WindowError) (first others : Reading (List A))
-    → FailsIn known e (with_list before first) → FailsIn known e (with_list before (first >>= then_others others))
-list_fails known before errors.NoMemory first others h = tt
-list_fails known before (errors.Fault f) (Ok x) others h = absurd cc
-list_fails known before (errors.Fault f) (Err d) others h = h
-list_fails known before (errors.Unread u) first others h = h
+list_fails : {A : Type 0} (before : List A) (e : ReadError) (first others : Reading (List A))
+    → Fails e (with_list before first) → Fails e (with_list before (first >>= then_others others))
+list_fails before errors.NoMemory first others h = tt
+list_fails before (errors.Fault f) (Ok x) others h = absurd cc
+list_fails before (errors.Fault f) (Err d) others h = h
 
 -- what is left, if the next thing is known
 next_known : {X Y A : Type 0} (see : X → Y) (of : Y → Reading (List A)) (xs : List X) (i : ℕ) (x : X)
@@ -50,15 +48,15 @@ each_goes_on see of before more xs i x total lt is read so_far =
     sym one ∙ so_far
 
 -- a list that can't be read ends the reading
-pub each_fails : {X Y A : Type 0} (known : KnownFile) (see : X → Y) (of : Y → Reading (List A)) (before : List A)
-    (xs : List X) (i : ℕ) (x : X) (e : WindowError) (total : Reading (List A)) → i < length xs → x ≡ get_or xs i x
-    → FailsIn known e (with_list before (of (see x)))
-    → with_list before (each_of of (map see (drop i xs))) ≡ total → FailsIn known e total
-each_fails known see of before xs i x e total lt is fails so_far =
-    let one : FailsIn known e (with_list before (each_of of (map see (drop i xs)))) =
+pub each_fails : {X Y A : Type 0} (see : X → Y) (of : Y → Reading (List A)) (before : List A) (xs : List X)
+    (i : ℕ) (x : X) (e : ReadError) (total : Reading (List A)) → i < length xs → x ≡ get_or xs i x
+    → Fails e (with_list before (of (see x)))
+    → with_list before (each_of of (map see (drop i xs))) ≡ total → Fails e total
+each_fails see of before xs i x e total lt is fails so_far =
+    let one : Fails e (with_list before (each_of of (map see (drop i xs)))) =
     rw (next_known see of xs i x lt is)
-    (list_fails known before e (of (see x)) (each_of of (map see (drop (i + 1) xs))) fails) in
-    subst (λ r. FailsIn known e r) so_far one
+    (list_fails before e (of (see x)) (each_of of (map see (drop (i + 1) xs))) fails) in
+    subst (λ r. Fails e r) so_far one
 
 -- all lists were read
 pub each_is_done : {X Y A : Type 0} (see : X → Y) (of : Y → Reading (List A)) (before : List A) (xs : List X)

@@ -1,12 +1,6 @@
-pub mod Ranges
-pub mod WindowLemmas
-pub mod Texts
-pub mod WholeFile
 pub mod Loops
 pub mod OptionLoop
 pub mod EachLoop
-pub mod Lacking
-pub mod AllFormats
 pub mod ChainLoop
 pub mod Spelled
 pub mod SpelledFile

@@ -2,11 +2,10 @@
 use Rattle.std.proofs.Common.{◌≡◌, ℕ, suc, ◌-◌, ◌+◌, ◌≤◌, ◌<◌, List, ◌++◌, Ok, Err, refl, sym, ap, subst, ◌∙◌}
 use Rattle.std.proofs.Common.{append_assoc, arith}
 use Rattle.std.proofs.lemmas.List.{append-nil}
-use Rattle.trace_dat.specs.declared.fault.WindowError.{WindowError}
-use Rattle.trace_dat.specs.declared.fault.WindowError.TheVariants as errors
+use Rattle.trace_dat.specs.declared.fault.ReadError.{ReadError}
+use Rattle.trace_dat.specs.declared.fault.ReadError.TheVariants as errors
 use Rattle.trace_dat.specs.Parts.{FilePart}
-use Rattle.trace_dat.specs.Windows.{KnownFile}
-use Rattle.trace_dat.specs.Fields.{Reading, ◌>>=◌, FailsIn, all_at, with_front}
+use Rattle.trace_dat.specs.Fields.{Reading, ◌>>=◌, Fails, all_at, with_front}
 
 -- the fields from the second on, after the first
 abbrev then_all : {A : Type 0} → (FilePart → Reading (List A × FilePart)) → List A × FilePart
@@ -34,13 +33,12 @@ front_moves before (Ok x) others more after e =
     rw (sym (ap (λ p. p.0) both), sym (ap (λ p. p.1) both)) (regroup before x.0 (others x.1))
 front_moves before (Err f) others more after e = absurd cc
 
-front_fails : {A : Type 0} (known : KnownFile) (before : List A) (e : WindowError) (first : Reading (List A × FilePart))
-    (others : FilePart → Reading (List A × FilePart)) → FailsIn known e (with_front before first)
-    → FailsIn known e (with_front before (first >>= then_all others))
-front_fails known before errors.NoMemory first others h = tt
-front_fails known before (errors.Fault f) (Ok x) others h = absurd cc
-front_fails known before (errors.Fault f) (Err d) others h = h
-front_fails known before (errors.Unread u) first others h = h
+front_fails : {A : Type 0} (before : List A) (e : ReadError) (first : Reading (List A × FilePart))
+    (others : FilePart → Reading (List A × FilePart)) → Fails e (with_front before first)
+    → Fails e (with_front before (first >>= then_all others))
+front_fails before errors.NoMemory first others h = tt
+front_fails before (errors.Fault f) (Ok x) others h = absurd cc
+front_fails before (errors.Fault f) (Err d) others h = h
 
 -- one field more was read
 pub goes_on : {A : Type 0} (field : ℕ → FilePart → Reading (List A × FilePart)) (before more : List A) (count i : ℕ)
@@ -57,16 +55,16 @@ goes_on field before more count i part after total lt read so_far =
     sym one ∙ so_far
 
 -- a field that can't be read ends the reading
-pub ends : {A : Type 0} (known : KnownFile) (field : ℕ → FilePart → Reading (List A × FilePart)) (before : List A)
-    (count i : ℕ) (part : FilePart) (e : WindowError) (total : Reading (List A × FilePart)) → i < count
-    → FailsIn known e (with_front before (field i part))
-    → with_front before (all_at field i (count - i) part) ≡ total → FailsIn known e total
+pub ends : {A : Type 0} (field : ℕ → FilePart → Reading (List A × FilePart)) (before : List A) (count i : ℕ)
+    (part : FilePart) (e : ReadError) (total : Reading (List A × FilePart)) → i < count
+    → Fails e (with_front before (field i part))
+    → with_front before (all_at field i (count - i) part) ≡ total → Fails e total
 unfolding all_at
-ends known field before count i part e total lt fails so_far =
+ends field before count i part e total lt fails so_far =
     let k : count - i ≡ suc (count - (i + 1)) = omega arith in
-    let one : FailsIn known e (with_front before (all_at field i (count - i) part)) =
-    rw k (front_fails known before e (field i part) (λ p. all_at field (i + 1) (count - (i + 1)) p) fails) in
-    subst (λ r. FailsIn known e r) so_far one
+    let one : Fails e (with_front before (all_at field i (count - i) part)) =
+    rw k (front_fails before e (field i part) (λ p. all_at field (i + 1) (count - (i + 1)) p) fails) in
+    subst (λ r. Fails e r) so_far one
 
 -- all fields were read
 pub is_done : {A : Type 0} (field : ℕ → FilePart → Reading (List A × FilePart)) (before : List A) (count i : ℕ)

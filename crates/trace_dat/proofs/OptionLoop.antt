@@ -2,11 +2,10 @@
 use Rattle.std.proofs.Common.{◌≡◌, ℕ, suc, ◌-◌, ◌+◌, ◌<◌, List, [], ◌∷◌, ◌++◌, length, Option, Some, None, Ok, refl}
 use Rattle.std.proofs.Common.{sym, ap, subst, ◌∙◌, arith}
 use Rattle.std.proofs.lemmas.List.{append-nil}
-use Rattle.trace_dat.specs.declared.fault.WindowError.{WindowError}
-use Rattle.trace_dat.specs.declared.fault.WindowError.TheVariants as errors
+use Rattle.trace_dat.specs.declared.fault.ReadError.{ReadError}
+use Rattle.trace_dat.specs.declared.fault.ReadError.TheVariants as errors
 use Rattle.trace_dat.specs.Parts.{FilePart}
-use Rattle.trace_dat.specs.Windows.{KnownFile}
-use Rattle.trace_dat.specs.Fields.{Reading, ◌>>=◌, FailsIn, with_front}
+use Rattle.trace_dat.specs.Fields.{Reading, ◌>>=◌, Fails, with_front}
 use Rattle.trace_dat.specs.Entries.{FileOption, option_at, option_then, options_among, options_at}
 use Rattle.trace_dat.proofs.Loops.{regroup}
 
@@ -50,20 +49,18 @@ options_end before part after total read so_far =
     rw read (ap (λ xs. Ok (xs, after)) (append-nil before)) in
     sym so_far.2 ∙ from_first before so_far.0 (so_far.0 - 1) part (omega (arith, so_far.1)) ∙ one
 
-first_fails : (known : KnownFile) (before : List FileOption) (e : WindowError) (first : Reading
-    (Option FileOption × FilePart))
-    (others : Option FileOption × FilePart → Reading (List FileOption × FilePart)) → FailsIn known e first
-    → FailsIn known e (with_front before (first >>= others))
-first_fails known before errors.NoMemory first others h = tt
-first_fails known before (errors.Fault f) first others h = rw h refl
-first_fails known before (errors.Unread u) first others h = h
+first_fails : (before : List FileOption) (e : ReadError) (first : Reading (Option FileOption × FilePart))
+    (others : Option FileOption × FilePart → Reading (List FileOption × FilePart)) → Fails e first
+    → Fails e (with_front before (first >>= others))
+first_fails before errors.NoMemory first others h = tt
+first_fails before (errors.Fault f) first others h = rw h refl
 
 -- an option that can't be read ends the reading
-pub option_fails : (known : KnownFile) (before : List FileOption) (part : FilePart) (e : WindowError)
-    (total : Reading (List FileOption × FilePart)) → FailsIn known e (option_at part)
-    → IsReadTo before part total → FailsIn known e total
-option_fails known before part e total fails so_far =
-    let one : FailsIn known e (with_front before (options_among so_far.0 part)) =
+pub option_fails : (before : List FileOption) (part : FilePart) (e : ReadError)
+    (total : Reading (List FileOption × FilePart)) → Fails e (option_at part) → IsReadTo before part total
+    → Fails e total
+option_fails before part e total fails so_far =
+    let one : Fails e (with_front before (options_among so_far.0 part)) =
     rw (from_first before so_far.0 (so_far.0 - 1) part (omega (arith, so_far.1)))
-    (first_fails known before e (option_at part) (rest_of (so_far.0 - 1)) fails) in
-    subst (λ r. FailsIn known e r) so_far.2 one
+    (first_fails before e (option_at part) (rest_of (so_far.0 - 1)) fails) in
+    subst (λ r. Fails e r) so_far.2 one

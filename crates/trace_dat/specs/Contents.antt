@@ -1,5 +1,5 @@
 -- What a file of trace-cmd holds, as contracts see it.
-use Rattle.std.specs.Prelude.{ℕ, List, map, take, drop, Option}
+use Rattle.std.specs.Prelude.{ℕ, List, map, Option}
 use Rattle.std.specs.Option.{option_map}
 use Rattle.trace_dat.specs.declared.fault.Fault.{Fault}
 use Rattle.trace_dat.specs.declared.contents.Format.{Format}
@@ -38,25 +38,20 @@ pub record Contents : Type 0 where
 abbrev pub format_seen : Format → EventFormat
 format_seen format = record { system = format.system.now; text = format.text.now }
 
--- the pages of a CPU with their bytes, which are those of the file
-abbrev pub recorded_seen : List ℕ → CpuPages → Recorded
-recorded_seen file pages = record {
-  cpu = pages.cpu;
-  pages = take pages.length (drop pages.at file);
-  fault = pages.fault;
-}
+abbrev pub recorded_seen : CpuPages → Recorded
+recorded_seen pages = record { cpu = pages.cpu; pages = pages.pages.now; fault = pages.fault }
 
-abbrev pub buffer_seen : List ℕ → Buffer → TraceBuffer
-buffer_seen file buffer = record {
+abbrev pub buffer_seen : Buffer → TraceBuffer
+buffer_seen buffer = record {
   name = buffer.name.now;
   page_size = buffer.page_size;
-  cpus = map (recorded_seen file) buffer.cpus.items;
+  cpus = map recorded_seen buffer.cpus.items;
 }
 
-abbrev pub contents_seen : List ℕ → TraceDat → Contents
-contents_seen file dat = record {
+abbrev pub contents_seen : TraceDat → Contents
+contents_seen dat = record {
   formats = map format_seen dat.formats.items;
-  buffers = map (buffer_seen file) dat.buffers.items;
+  buffers = map buffer_seen dat.buffers.items;
   counters = map (λ text. text.now) dat.counters.items;
   symbols = map (λ text. text.now) dat.symbols.items;
   tasks = map (λ text. text.now) dat.tasks.items;

@@ -4,9 +4,7 @@ use Rattle.std.specs.Int.{w16, w32}
 use Rattle.trace_dat.specs.declared.fault.Cause.TheVariants.{Cut}
 use Rattle.trace_dat.specs.declared.entries.TheConstants.{DONE}
 use Rattle.trace_dat.specs.declared.entries.Entry.{Entry}
-use Rattle.trace_dat.specs.declared.known_file.TheFile.{Ghosts}
-use Rattle.trace_dat.specs.Parts.{FilePart}
-use Rattle.trace_dat.specs.Seen.{seen}
+use Rattle.trace_dat.specs.Parts.{FilePart, seen}
 use Rattle.trace_dat.specs.Fields.{Reading, ◌>>=◌, fault_at, number_at, block_at}
 
 -- an option: what it is, and the bytes that belong to it
@@ -15,8 +13,8 @@ pub record FileOption : Type 0 where
   pub body : FilePart
 
 -- an option without its place in memory
-abbrev pub option_seen : {X : Type 0} {of : Ghosts X} → Entry X of → FileOption
-option_seen {X} {of} entry = record { id = entry.id; body = seen entry.body }
+abbrev pub option_seen : Entry → FileOption
+option_seen entry = record { id = entry.id; body = seen entry.body }
 
 -- an option with this identifier: its body is a block
 unfoldable pub body_at : ℕ → FilePart → Reading (Option FileOption × FilePart)

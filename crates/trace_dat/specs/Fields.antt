@@ -8,10 +8,7 @@ use Rattle.trace_dat.specs.declared.fault.Cause.{Cause}
 use Rattle.trace_dat.specs.declared.fault.Cause.TheVariants.{Cut, OutsideFile}
 use Rattle.trace_dat.specs.declared.fault.ReadError.{ReadError}
 use Rattle.trace_dat.specs.declared.fault.ReadError.TheVariants as errors
-use Rattle.trace_dat.specs.declared.fault.WindowError.{WindowError}
-use Rattle.trace_dat.specs.declared.fault.WindowError.TheVariants as window_errors
 use Rattle.trace_dat.specs.Parts.{FilePart, FileExtent}
-use Rattle.trace_dat.specs.Windows.{KnownFile, IsUnread}
 
 -- what is read, or the first fault
 abbrev pub Reading : Type 0 → Type 0
@@ -32,17 +29,6 @@ Fails (errors.Fault fault) reading = reading ≡ Err fault
 abbrev pub Gives : {X A : Type 0} → (X → A) → Result X ReadError → Reading A → Type 0
 Gives view (Ok x) reading = reading ≡ Ok (view x)
 Gives view (Err e) reading = Fails e reading
-
--- an error that a reader of a file answers by its windows: as above, or bytes that no window has
-abbrev pub FailsIn : {A : Type 0} → KnownFile → WindowError → Reading A → Type 0
-FailsIn file window_errors.NoMemory reading = ⊤
-FailsIn file (window_errors.Fault fault) reading = reading ≡ Err fault
-FailsIn file (window_errors.Unread unread) reading = IsUnread file unread
-
--- A reader by windows answers what the reading is, each value as `view` shows it, or that bytes are to be read first.
-abbrev pub GivesIn : {X A : Type 0} → KnownFile → (X → A) → Result X WindowError → Reading A → Type 0
-GivesIn file view (Ok x) reading = reading ≡ Ok (view x)
-GivesIn file view (Err e) reading = FailsIn file e reading
 
 -- the fault of this cause at the front of a part
 abbrev pub fault_at : {A : Type 0} → Cause → FilePart → Reading A

@@ -1,6 +1,4 @@
 pub mod Parts
-pub mod Windows
-pub mod Seen
 pub mod Fields
 pub mod Contents
 pub mod Formats

@@ -4,10 +4,8 @@ use Rattle.std.specs.Prelude.{if◌then◌else◌}
 use Rattle.std.specs.Int.{w16, w32, w64, to_le_bytes}
 use Rattle.trace_dat.specs.declared.fault.Cause.TheVariants.{Misplaced, Compressed, Backward}
 use Rattle.trace_dat.specs.declared.entries.TheConstants.{OPTIONS, RING_FORMATS, FORMATS}
-use Rattle.trace_dat.specs.declared.known_file.TheFile.{Ghosts}
 use Rattle.trace_dat.specs.declared.sections.Next.{Next}
-use Rattle.trace_dat.specs.Parts.{FilePart}
-use Rattle.trace_dat.specs.Seen.{seen}
+use Rattle.trace_dat.specs.Parts.{FilePart, seen}
 use Rattle.trace_dat.specs.Fields.{Reading, ◌>>=◌, fault_at, number_at, block_at, expected_at, pointed_at}
 use Rattle.trace_dat.specs.Contents.{EventFormat}
 use Rattle.trace_dat.specs.Formats.{ring_system, formats_at, systems_at}
@@ -34,8 +32,8 @@ pub record Place : Type 0 where
   pub pointer : FilePart
 
 -- a place without its address in memory
-abbrev pub place_seen : {X : Type 0} {of : Ghosts X} → Next X of → Place
-place_seen {X} {of} next = record { least = next.least; pointer = seen next.pointer }
+abbrev pub place_seen : Next → Place
+place_seen next = record { least = next.least; pointer = seen next.pointer }
 
 -- a section of options; after the identifier that ends them, a block has the next pointer
 unfoldable pub linked_at : FilePart → Reading (List FileOption × Option Place)

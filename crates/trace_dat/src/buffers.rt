@@ -1,7 +1,7 @@
 //! The pages of trace buffers, CPU by CPU, in either version's form.
-ghost use Rattle.std.specs.Prelude.{◌++◌, map, flat_map, Ok};
-ghost use Rattle.trace_dat.specs.Seen.{seen};
-ghost use Rattle.trace_dat.specs.Fields.{GivesIn, with_front, with_list, all_at, each_of};
+ghost use Rattle.std.specs.Prelude.{◌≡◌, map, flat_map, IfOk};
+ghost use Rattle.trace_dat.specs.Parts.{seen};
+ghost use Rattle.trace_dat.specs.Fields.{Gives, with_front, with_list, all_at, each_of};
 ghost use Rattle.trace_dat.specs.Contents.{recorded_seen, buffer_seen};
 ghost use Rattle.trace_dat.specs.Entries.{option_seen};
 ghost use Rattle.trace_dat.specs.Buffers.{pages_at, numbered_pages_at, buffer_at, instance_at, instance_of};
@@ -9,10 +9,9 @@ ghost use Rattle.trace_dat.specs.Buffers.{stated_buffer_at, buffer_of, counters_
 
 use crate::contents::{Buffer, CpuPages};
 use crate::entries::{BUFFER, COUNTERS, Entry};
-use crate::fault::{Cause, WindowError};
-use crate::known_file::TheFile;
+use crate::fault::{Cause, ReadError};
 use crate::part::Part;
-use std::alloc::Global;
+use std::alloc::{AllocError, Global};
 
 /// The word before the ranges of the CPUs' pages, in version 6.
 const RANGES_WORD: &[u8] = b"flyrecord\0";
@@ -28,19 +27,19 @@ pub(crate) struct Shape {
 
 /// Puts the pages of a CPU, whose range is at the front of a part, to the others, and gives what is after it.
 #[tactic(auto, unfolding(crate::specs::Buffers::pages_at))]
-fn put_pages<'w, 'a, F: TheFile>(
-    cpus: &mut Vec<CpuPages>,
+fn put_pages<'a>(
+    cpus: &mut Vec<CpuPages<'a>>,
+    file: &'a [u8],
     cpu: u32,
-    part: Part<'w, 'a, F>,
-) -> Result<Part<'w, 'a, F>, WindowError>
-    ensures { GivesIn F.file (λ behind. (map (recorded_seen F.file.bytes) cpus.new.items, seen behind)) result
-        (with_front (map (recorded_seen F.file.bytes) cpus.old.items) (pages_at F.file.bytes cpu (seen part.entry))) }
+    part: Part<'a>,
+) -> Result<Part<'a>, ReadError>
+    ensures { Gives (λ behind. (map recorded_seen cpus.new.items, seen behind)) result
+        (with_front (map recorded_seen cpus.old.items) (pages_at file.now cpu (seen part.entry))) }
 {
-    let (extent, behind) = part.range()?;
+    let (extent, behind) = part.range(file)?;
     cpus.push(CpuPages {
         cpu,
-        at: extent.at,
-        length: extent.len,
+        pages: extent.bytes,
         fault: extent.fault,
     })?;
     Ok(behind)
@@ -49,67 +48,70 @@ fn put_pages<'w, 'a, F: TheFile>(
 /// Puts the pages of a CPU, whose number and range are at the front of a part, to the others, and gives what is after
 /// them.
 #[tactic(auto, unfolding(crate::specs::Buffers::numbered_pages_at))]
-fn put_numbered_pages<'w, 'a, F: TheFile>(
-    cpus: &mut Vec<CpuPages>,
-    part: Part<'w, 'a, F>,
-) -> Result<Part<'w, 'a, F>, WindowError>
-    ensures { GivesIn F.file (λ behind. (map (recorded_seen F.file.bytes) cpus.new.items, seen behind)) result
-        (with_front (map (recorded_seen F.file.bytes) cpus.old.items) (numbered_pages_at F.file.bytes
-        (seen part.entry))) }
+fn put_numbered_pages<'a>(
+    cpus: &mut Vec<CpuPages<'a>>,
+    file: &'a [u8],
+    part: Part<'a>,
+) -> Result<Part<'a>, ReadError>
+    ensures { Gives (λ behind. (map recorded_seen cpus.new.items, seen behind)) result
+        (with_front (map recorded_seen cpus.old.items) (numbered_pages_at file.now (seen part.entry))) }
 {
     let (cpu, behind) = part.number32()?;
-    put_pages(cpus, cpu, behind)
+    put_pages(cpus, file, cpu, behind)
 }
 
 /// The pages of a number of CPUs, numbered from 0, whose ranges are at the front of a part, and what is after them.
-fn pages_in_order<'w, 'a, F: TheFile>(
+fn pages_in_order<'a>(
     alloc: Global,
+    file: &'a [u8],
     count: u32,
-    part: Part<'w, 'a, F>,
-) -> Result<(Vec<CpuPages>, Part<'w, 'a, F>), WindowError>
-    ensures { GivesIn F.file (λ x. (map (recorded_seen F.file.bytes) x.0.items, seen x.1)) result
-        (all_at (pages_at F.file.bytes) 0 count (seen part.entry)) }
+    part: Part<'a>,
+) -> Result<(Vec<CpuPages<'a>>, Part<'a>), ReadError>
+    ensures { Gives (λ x. (map recorded_seen x.0.items, seen x.1)) result
+        (all_at (pages_at file.now) 0 count (seen part.entry)) }
 {
     let mut cpus = Vec::new(alloc);
     let mut rest = part;
     for cpu in 0..count {
-        rest = put_pages(&mut cpus, cpu, rest)?;
+        rest = put_pages(&mut cpus, file, cpu, rest)?;
     }
     Ok((cpus, rest))
 }
 
 /// The pages of a number of CPUs, whose numbers and ranges are at the front of a part, and what is after them.
-fn numbered_pages<'w, 'a, F: TheFile>(
+fn numbered_pages<'a>(
     alloc: Global,
+    file: &'a [u8],
     count: u32,
-    part: Part<'w, 'a, F>,
-) -> Result<(Vec<CpuPages>, Part<'w, 'a, F>), WindowError>
-    ensures { GivesIn F.file (λ x. (map (recorded_seen F.file.bytes) x.0.items, seen x.1)) result
-        (all_at (λ _. numbered_pages_at F.file.bytes) 0 count (seen part.entry)) }
+    part: Part<'a>,
+) -> Result<(Vec<CpuPages<'a>>, Part<'a>), ReadError>
+    ensures { Gives (λ x. (map recorded_seen x.0.items, seen x.1)) result
+        (all_at (λ _. numbered_pages_at file.now) 0 count (seen part.entry)) }
 {
     let mut cpus = Vec::new(alloc);
     let mut rest = part;
     for _ in 0..count {
-        rest = put_numbered_pages(&mut cpus, rest)?;
+        rest = put_numbered_pages(&mut cpus, file, rest)?;
     }
     Ok((cpus, rest))
 }
 
 /// Puts the buffer of a number of CPUs at the front of a part to the others.
 #[tactic(auto, unfolding(crate::specs::Buffers::buffer_at))]
-pub(crate) fn put_buffer<'w, 'a, F: TheFile>(
+pub(crate) fn put_buffer<'a>(
     buffers: &mut Vec<Buffer<'a>>,
     alloc: Global,
+    file: &'a [u8],
     shape: Shape,
     name: &'a [u8],
-    part: Part<'w, 'a, F>,
-) -> Result<(), WindowError>
-    ensures { GivesIn F.file (λ _. map (buffer_seen F.file.bytes) buffers.new.items) result
-        (with_list (map (buffer_seen F.file.bytes) buffers.old.items)
-        (buffer_at F.file.bytes shape.page_size shape.cpus name.now (seen part.entry))) }
+    part: Part<'a>,
+) -> Result<(), ReadError>
+    ensures { Gives (λ _. map buffer_seen buffers.new.items) result
+        (with_list (map buffer_seen buffers.old.items)
+        (buffer_at file.now shape.page_size shape.cpus name.now (seen part.entry))) }
 {
     let ranges = part.expected(RANGES_WORD, Cause::Misplaced)?;
-    let (cpus, _) = pages_in_order(alloc, shape.cpus, ranges)?;
+    let (cpus, _) = pages_in_order(alloc, file, shape.cpus, ranges)?;
     buffers.push(Buffer {
         name,
         page_size: shape.page_size,
@@ -120,58 +122,60 @@ pub(crate) fn put_buffer<'w, 'a, F: TheFile>(
 
 /// Puts the instance that an option of version 6 names, if it does so, to the other buffers.
 #[tactic(auto, unfolding(crate::specs::Buffers::instance_of, crate::specs::Buffers::instance_at))]
-fn put_instance<'w, 'a, F: TheFile>(
+fn put_instance<'a>(
     buffers: &mut Vec<Buffer<'a>>,
     alloc: Global,
+    file: &'a [u8],
     shape: Shape,
-    option: Entry<'w, 'a, F>,
-) -> Result<(), WindowError>
-    ensures { GivesIn F.file (λ _. map (buffer_seen F.file.bytes) buffers.new.items) result
-        (with_list (map (buffer_seen F.file.bytes) buffers.old.items)
-        (instance_of F.file.bytes shape.page_size shape.cpus (option_seen option.entry))) }
+    option: Entry<'a>,
+) -> Result<(), ReadError>
+    ensures { Gives (λ _. map buffer_seen buffers.new.items) result
+        (with_list (map buffer_seen buffers.old.items)
+        (instance_of file.now shape.page_size shape.cpus (option_seen option.entry))) }
 {
     if option.id != BUFFER {
         return Ok(());
     }
-    let (buffer, behind) = option.body.pointed()?;
+    let (buffer, behind) = option.body.pointed(file)?;
     let (name, _) = behind.text()?;
-    put_buffer(buffers, alloc, shape, name, buffer)
+    put_buffer(buffers, alloc, file, shape, name, buffer)
 }
 
 /// Puts the instances that options of version 6 name to the other buffers.
-pub(crate) fn put_instances<'w, 'a, F: TheFile>(
+pub(crate) fn put_instances<'a>(
     buffers: &mut Vec<Buffer<'a>>,
     alloc: Global,
+    file: &'a [u8],
     shape: Shape,
-    options: &[Entry<'w, 'a, F>],
-) -> Result<(), WindowError>
-    ensures { GivesIn F.file (λ _. map (buffer_seen F.file.bytes) buffers.new.items) result
-        (with_list (map (buffer_seen F.file.bytes) buffers.old.items)
-        (each_of (instance_of F.file.bytes shape.page_size shape.cpus) (map option_seen options.now))) }
+    options: &[Entry<'a>],
+) -> Result<(), ReadError>
+    ensures { Gives (λ _. map buffer_seen buffers.new.items) result
+        (with_list (map buffer_seen buffers.old.items)
+        (each_of (instance_of file.now shape.page_size shape.cpus) (map option_seen options.now))) }
 {
     for option in options {
-        put_instance(buffers, alloc, shape, *option)?;
+        put_instance(buffers, alloc, file, shape, *option)?;
     }
     Ok(())
 }
 
 /// Puts the buffer at the front of a part, which states it as version 7 does, to the others.
 #[tactic(auto, unfolding(crate::specs::Buffers::stated_buffer_at))]
-fn put_stated_buffer<'w, 'a, F: TheFile>(
+fn put_stated_buffer<'a>(
     buffers: &mut Vec<Buffer<'a>>,
     alloc: Global,
-    part: Part<'w, 'a, F>,
-) -> Result<(), WindowError>
-    ensures { GivesIn F.file (λ _. map (buffer_seen F.file.bytes) buffers.new.items) result
-        (with_list (map (buffer_seen F.file.bytes) buffers.old.items) (stated_buffer_at F.file.bytes
-        (seen part.entry))) }
+    file: &'a [u8],
+    part: Part<'a>,
+) -> Result<(), ReadError>
+    ensures { Gives (λ _. map buffer_seen buffers.new.items) result
+        (with_list (map buffer_seen buffers.old.items) (stated_buffer_at file.now (seen part.entry))) }
 {
-    let (_, behind) = part.pointed()?;
+    let (_, behind) = part.pointed(file)?;
     let (name, behind) = behind.text()?;
     let (_clock, behind) = behind.text()?;
     let (page_size, behind) = behind.number32()?;
     let (count, behind) = behind.number32()?;
-    let (cpus, _) = numbered_pages(alloc, count, behind)?;
+    let (cpus, _) = numbered_pages(alloc, file, count, behind)?;
     buffers.push(Buffer {
         name,
         page_size,
@@ -182,64 +186,51 @@ fn put_stated_buffer<'w, 'a, F: TheFile>(
 
 /// Puts the buffer that an option of version 7 states, if it does so, to the others.
 #[tactic(auto, unfolding(crate::specs::Buffers::buffer_of))]
-fn put_buffer_of<'w, 'a, F: TheFile>(
+fn put_buffer_of<'a>(
     buffers: &mut Vec<Buffer<'a>>,
     alloc: Global,
-    option: Entry<'w, 'a, F>,
-) -> Result<(), WindowError>
-    ensures { GivesIn F.file (λ _. map (buffer_seen F.file.bytes) buffers.new.items) result
-        (with_list (map (buffer_seen F.file.bytes) buffers.old.items) (buffer_of F.file.bytes
-        (option_seen option.entry))) }
+    file: &'a [u8],
+    option: Entry<'a>,
+) -> Result<(), ReadError>
+    ensures { Gives (λ _. map buffer_seen buffers.new.items) result
+        (with_list (map buffer_seen buffers.old.items) (buffer_of file.now (option_seen option.entry))) }
 {
     if option.id != BUFFER {
         return Ok(());
     }
-    put_stated_buffer(buffers, alloc, option.body)
+    put_stated_buffer(buffers, alloc, file, option.body)
 }
 
 /// Puts the buffers that options of version 7 state to the others.
-pub(crate) fn put_buffers<'w, 'a, F: TheFile>(
+pub(crate) fn put_buffers<'a>(
     buffers: &mut Vec<Buffer<'a>>,
     alloc: Global,
-    options: &[Entry<'w, 'a, F>],
-) -> Result<(), WindowError>
-    ensures { GivesIn F.file (λ _. map (buffer_seen F.file.bytes) buffers.new.items) result
-        (with_list (map (buffer_seen F.file.bytes) buffers.old.items)
-        (each_of (buffer_of F.file.bytes) (map option_seen options.now))) }
+    file: &'a [u8],
+    options: &[Entry<'a>],
+) -> Result<(), ReadError>
+    ensures { Gives (λ _. map buffer_seen buffers.new.items) result
+        (with_list (map buffer_seen buffers.old.items)
+        (each_of (buffer_of file.now) (map option_seen options.now))) }
 {
     for option in options {
-        put_buffer_of(buffers, alloc, *option)?;
+        put_buffer_of(buffers, alloc, file, *option)?;
     }
-    Ok(())
-}
-
-/// Puts the counters that an option holds, if it does so, to the others.
-fn put_counters<'w, 'a, F: TheFile>(
-    counters: &mut Vec<&'a [u8]>,
-    option: Entry<'w, 'a, F>,
-) -> Result<(), WindowError>
-    ensures { GivesIn F.file (λ _. map (λ text. text.now) counters.new.items) result
-        (Ok (map (λ text. text.now) counters.old.items ++ counters_of (option_seen option.entry))) }
-{
-    if option.id != COUNTERS {
-        return Ok(());
-    }
-    let text = option.body.bytes()?;
-    counters.push(text)?;
     Ok(())
 }
 
 /// The counters that the options hold.
-pub(crate) fn counters<'w, 'a, F: TheFile>(
+pub(crate) fn counters<'a>(
     alloc: Global,
-    options: &[Entry<'w, 'a, F>],
-) -> Result<Vec<&'a [u8]>, WindowError>
-    ensures { GivesIn F.file (λ counters. map (λ text. text.now) counters.items) result
-        (Ok (flat_map counters_of (map option_seen options.now))) }
+    options: &[Entry<'a>],
+) -> Result<Vec<&'a [u8]>, AllocError>
+    ensures { IfOk result (λ counters.
+        map (λ text. text.now) counters.items ≡ flat_map counters_of (map option_seen options.now)) }
 {
     let mut counters = Vec::new(alloc);
     for option in options {
-        put_counters(&mut counters, *option)?;
+        if option.id == COUNTERS {
+            counters.push(option.body.bytes)?;
+        }
     }
     Ok(counters)
 }

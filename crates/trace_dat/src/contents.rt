@@ -1,5 +1,4 @@
 //! What a file of trace-cmd holds.
-ghost use Rattle.std.specs.Prelude.{◌≡◌};
 
 use crate::fault::Fault;
 
@@ -12,33 +11,15 @@ pub struct Format<'a> {
     pub text: &'a [u8],
 }
 
-/// Where in a file there is what was recorded of a CPU's ring: its pages, one after the other, of which the file has
-/// these bytes. They may end within a page.
+/// What was recorded of a CPU's ring.
 #[derive(Clone, Copy, Debug)]
-pub struct CpuPages {
+pub struct CpuPages<'a> {
     /// The number of the CPU.
     pub cpu: u32,
-    /// The offset of the first of the bytes in the file.
-    pub at: usize,
-    /// How many bytes they are.
-    pub length: usize,
+    /// Its pages, one after the other: those of their bytes that the file has, which may end within a page.
+    pub pages: &'a [u8],
     /// What is wrong if the file ends before the pages do: `OutsideFile`, where their range is stated.
     pub fault: Option<Fault>,
-}
-
-impl CpuPages {
-    ghost use Rattle.trace_dat.specs.Contents.{recorded_seen};
-
-    /// The bytes of the pages, of the file that has them.
-    pub fn bytes_of<'a>(&self, file: &'a [u8]) -> &'a [u8]
-        ensures { result.now ≡ (recorded_seen file.now self.now).pages }
-    {
-        if file.len() < self.at {
-            return &[];
-        }
-        let there = &file[self.at..];
-        &there[..self.length.min(there.len())]
-    }
 }
 
 /// A trace buffer: the main one, whose name is empty, or an instance.
@@ -49,7 +30,7 @@ pub struct Buffer<'a> {
     /// The size of a page, in bytes.
     pub page_size: u32,
     /// The pages of each CPU, in the order of the file.
-    pub cpus: Vec<CpuPages>,
+    pub cpus: Vec<CpuPages<'a>>,
 }
 
 /// What a file of trace-cmd holds.

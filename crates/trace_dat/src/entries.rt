@@ -1,12 +1,11 @@
 //! Options: what a file has beside its texts and pages.
-ghost use Rattle.std.specs.Prelude.{◌<◌, map, IfOk};
+ghost use Rattle.std.specs.Prelude.{◌<◌, length, map, IfOk};
 ghost use Rattle.std.specs.Option.{option_map};
-ghost use Rattle.trace_dat.specs.Seen.{seen};
-ghost use Rattle.trace_dat.specs.Fields.{GivesIn, with_front};
+ghost use Rattle.trace_dat.specs.Parts.{seen};
+ghost use Rattle.trace_dat.specs.Fields.{Gives, with_front};
 ghost use Rattle.trace_dat.specs.Entries.{option_seen, body_at, option_at, options_at};
 
-use crate::fault::WindowError;
-use crate::known_file::TheFile;
+use crate::fault::ReadError;
 use crate::part::Part;
 
 /// The identifier that ends the options.
@@ -29,21 +28,19 @@ pub const TASKS: u16 = 21;
 pub const OPTIONS: u16 = 0;
 
 /// An option.
-#[derive_where(Clone, Copy)]
-pub(crate) struct Entry<'w, 'a, F: TheFile> {
+#[derive(Clone, Copy)]
+pub(crate) struct Entry<'a> {
     /// What it is.
     pub(crate) id: u16,
     /// The bytes that belong to it.
-    pub(crate) body: Part<'w, 'a, F>,
+    pub(crate) body: Part<'a>,
 }
 
 /// The option at the front of a part, and what is after it; None where the options end.
 #[tactic(auto, unfolding(crate::specs::Entries::option_at, crate::specs::Entries::body_at))]
-fn next_option<'w, 'a, F: TheFile>(
-    part: Part<'w, 'a, F>,
-) -> Result<(Option<Entry<'w, 'a, F>>, Part<'w, 'a, F>), WindowError>
-    ensures gives { GivesIn F.file (λ x. (option_map option_seen x.0, seen x.1)) result (option_at (seen part.entry)) }
-    ensures shorter { IfOk result (λ x. x.1.len < part.entry.len) }
+fn next_option<'a>(part: Part<'a>) -> Result<(Option<Entry<'a>>, Part<'a>), ReadError>
+    ensures gives { Gives (λ x. (option_map option_seen x.0, seen x.1)) result (option_at (seen part.entry)) }
+    ensures shorter { IfOk result (λ x. length x.1.bytes.now < length part.entry.bytes.now) }
 {
     let (id, behind) = part.number16()?;
     if id == DONE {
@@ -55,11 +52,11 @@ fn next_option<'w, 'a, F: TheFile>(
 }
 
 /// Puts the options at the front of a part to the others, and gives what is after the identifier that ends them.
-pub(crate) fn put_options<'w, 'a, F: TheFile>(
-    options: &mut Vec<Entry<'w, 'a, F>>,
-    part: Part<'w, 'a, F>,
-) -> Result<Part<'w, 'a, F>, WindowError>
-    ensures { GivesIn F.file (λ behind. (map option_seen options.new.items, seen behind)) result
+pub(crate) fn put_options<'a>(
+    options: &mut Vec<Entry<'a>>,
+    part: Part<'a>,
+) -> Result<Part<'a>, ReadError>
+    ensures { Gives (λ behind. (map option_seen options.new.items, seen behind)) result
         (with_front (map option_seen options.old.items) (options_at (seen part.entry))) }
 {
     let mut rest = part;

@@ -2,7 +2,6 @@
 
 ghost use Rattle.std.specs.Prelude.{◌≡◌};
 ghost use Rattle.trace_dat.specs.declared.fault.ReadError.TheVariants.{NoMemory};
-ghost use Rattle.trace_dat.specs.declared.fault.WindowError.TheVariants.{NoMemory as MemoryIs};
 
 use std::alloc::{AllocError, AllocFailed};
 
@@ -36,15 +35,6 @@ pub struct Fault {
     pub at: usize,
 }
 
-/// Bytes of a file that have to be read first, into one window.
-#[derive(Clone, Copy, Debug, PartialEq, Eq)]
-pub struct Unread {
-    /// The offset of the first of them in the file, in bytes.
-    pub at: usize,
-    /// How many they are at least. The file has so many.
-    pub least: usize,
-}
-
 /// Why a file wasn't read.
 #[derive(Debug, Drop)]
 pub enum ReadError {
@@ -67,32 +57,5 @@ impl<T: Drop> From<AllocFailed<T>> for ReadError {
 
     fn from(_error: AllocFailed<T>) -> ReadError {
         ReadError::NoMemory
-    }
-}
-
-/// Why a file wasn't read by its windows.
-#[derive(Debug, Drop)]
-pub enum WindowError {
-    /// An allocation was refused.
-    NoMemory,
-    /// The file has a fault.
-    Fault(Fault),
-    /// No window has all of these bytes.
-    Unread(Unread),
-}
-
-impl From<AllocError> for WindowError {
-    ghost from_gives = { λ _ e. e ≡ MemoryIs };
-
-    fn from(_error: AllocError) -> WindowError {
-        WindowError::NoMemory
-    }
-}
-
-impl<T: Drop> From<AllocFailed<T>> for WindowError {
-    ghost from_gives = { λ _ e. e ≡ MemoryIs };
-
-    fn from(_error: AllocFailed<T>) -> WindowError {
-        WindowError::NoMemory
     }
 }

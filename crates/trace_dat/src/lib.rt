@@ -7,15 +7,12 @@ mod entries;
 mod fault;
 mod formats;
 pub mod kernel_texts;
-mod known_file;
 pub mod laws;
 mod part;
 mod read;
 mod sections;
 mod traced_kernel;
-mod windows;
 
 pub use contents::{Buffer, CpuPages, Format, TraceDat};
-pub use fault::{Cause, Fault, ReadError, Unread, WindowError};
-pub use read::{read_trace_dat, read_windows, resembles_trace_dat};
-pub use windows::{Window, Windows};
+pub use fault::{Cause, Fault, ReadError};
+pub use read::{read_trace_dat, resembles_trace_dat};

@@ -1,8 +1,7 @@
 //! A whole file, in either version.
-ghost use Rattle.std.specs.Prelude.{◌≡◌, ◌<◌, ◌^◌, ℕ, List, [], ◌∷◌, length, map, IfOk};
-ghost use Rattle.trace_dat.specs.Seen.{seen};
-ghost use Rattle.trace_dat.specs.Fields.{Gives, GivesIn};
-ghost use Rattle.trace_dat.specs.Windows.{AreOf, HaveBytesOf, window_seen, known_by};
+ghost use Rattle.std.specs.Prelude.{◌≡◌, [], ◌∷◌, map, IfOk};
+ghost use Rattle.trace_dat.specs.Parts.{seen};
+ghost use Rattle.trace_dat.specs.Fields.{Gives};
 ghost use Rattle.trace_dat.specs.Contents.{format_seen, contents_seen};
 ghost use Rattle.trace_dat.specs.Entries.{option_seen};
 ghost use Rattle.trace_dat.specs.Versions.{titled_at, all_formats_at, stated_options_at, version_six};
@@ -11,15 +10,12 @@ ghost use Rattle.trace_dat.specs.Versions.{version_seven, version_at, places_dif
 use crate::buffers::{Shape, counters, put_buffer, put_buffers, put_instances};
 use crate::contents::{Format, TraceDat};
 use crate::entries::{Entry, put_options};
-use crate::fault::{Cause, ReadError, WindowError};
+use crate::fault::{Cause, ReadError};
 use crate::formats::{RING_SYSTEM, put_formats, put_systems};
-use crate::known_file::TheFile;
 use crate::part::Part;
 use crate::sections::{chained_options, formats};
 use crate::traced_kernel::{NameList, list_texts, machine, name_lists};
-use crate::windows::{Window, Windows};
 use std::alloc::{AllocError, Global};
-use std::marker::{Brand, PhantomData};
 
 /// The versions of the file.
 #[derive(Clone, Copy, Debug, PartialEq, Eq)]
@@ -45,11 +41,8 @@ const PLAIN: &[u8] = b"none\0";
 
 /// What is after a title, which should be at the front, and its block.
 #[tactic(auto, unfolding(crate::specs::Versions::titled_at))]
-fn behind_titled<'w, 'a, F: TheFile>(
-    part: Part<'w, 'a, F>,
-    title: &[u8],
-) -> Result<Part<'w, 'a, F>, WindowError>
-    ensures { GivesIn F.file seen result (titled_at title.now (seen part.entry)) }
+fn behind_titled<'a>(part: Part<'a>, title: &[u8]) -> Result<Part<'a>, ReadError>
+    ensures { Gives seen result (titled_at title.now (seen part.entry)) }
 {
     let text = part.expected(title, Cause::Misplaced)?;
     let (_, behind) = text.block64()?;
@@ -58,11 +51,8 @@ fn behind_titled<'w, 'a, F: TheFile>(
 
 /// The formats of all events, and what is after them.
 #[tactic(auto, unfolding(crate::specs::Versions::all_formats_at))]
-fn all_formats<'w, 'a, F: TheFile>(
-    alloc: Global,
-    part: Part<'w, 'a, F>,
-) -> Result<(Vec<Format<'a>>, Part<'w, 'a, F>), WindowError>
-    ensures { GivesIn F.file (λ x. (map format_seen x.0.items, seen x.1)) result (all_formats_at (seen part.entry)) }
+fn all_formats<'a>(alloc: Global, part: Part<'a>) -> Result<(Vec<Format<'a>>, Part<'a>), ReadError>
+    ensures { Gives (λ x. (map format_seen x.0.items, seen x.1)) result (all_formats_at (seen part.entry)) }
 {
     let page = behind_titled(part, PAGE_TITLE)?;
     let record = behind_titled(page, RECORD_TITLE)?;
@@ -74,15 +64,14 @@ fn all_formats<'w, 'a, F: TheFile>(
 
 /// The options, if their word is at the front, and what is after them.
 #[tactic(auto, unfolding(crate::specs::Versions::stated_options_at))]
-fn stated_options<'w, 'a, F: TheFile>(
+fn stated_options<'a>(
     alloc: Global,
-    part: Part<'w, 'a, F>,
-) -> Result<(Vec<Entry<'w, 'a, F>>, Part<'w, 'a, F>), WindowError>
-    ensures { GivesIn F.file (λ x. (map option_seen x.0.items, seen x.1)) result (stated_options_at (seen part.entry)) }
+    part: Part<'a>,
+) -> Result<(Vec<Entry<'a>>, Part<'a>), ReadError>
+    ensures { Gives (λ x. (map option_seen x.0.items, seen x.1)) result (stated_options_at (seen part.entry)) }
 {
     let mut options = Vec::new(alloc);
-    let is_stated = part.begins(OPTIONS_WORD)?;
-    if !is_stated {
+    if !part.begins(OPTIONS_WORD) {
         return Ok((options, part));
     }
     let behind = put_options(&mut options, part.behind(OPTIONS_WORD.len()))?;
@@ -100,13 +89,13 @@ fn only<'a>(alloc: Global, text: &'a [u8]) -> Result<Vec<&'a [u8]>, AllocError>
 
 /// What a file of version 6 holds, from after the size of its pages on.
 #[tactic(auto, unfolding(crate::specs::Versions::version_six))]
-fn read_six<'w, 'a, F: TheFile>(
+fn read_six<'a>(
     alloc: Global,
+    file: &'a [u8],
     page_size: u32,
-    part: Part<'w, 'a, F>,
-) -> Result<TraceDat<'a>, WindowError>
-    ensures { GivesIn F.file (contents_seen F.file.bytes) result (version_six F.file.bytes page_size
-        (seen part.entry)) }
+    part: Part<'a>,
+) -> Result<TraceDat<'a>, ReadError>
+    ensures { Gives contents_seen result (version_six file.now page_size (seen part.entry)) }
 {
     let (formats, behind) = all_formats(alloc, part)?;
     let ((symbols, tasks), behind) = name_lists(behind)?;
@@ -114,60 +103,51 @@ fn read_six<'w, 'a, F: TheFile>(
     let (options, behind) = stated_options(alloc, behind)?;
     let shape = Shape { page_size, cpus };
     let mut buffers = Vec::new(alloc);
-    put_buffer(&mut buffers, alloc, shape, &[], behind)?;
-    put_instances(&mut buffers, alloc, shape, &options)?;
+    put_buffer(&mut buffers, alloc, file, shape, &[], behind)?;
+    put_instances(&mut buffers, alloc, file, shape, &options)?;
     let counters = counters(alloc, &options)?;
-    let machine = machine(&options)?;
     Ok(TraceDat {
         formats,
         buffers,
         counters,
         symbols: only(alloc, symbols)?,
         tasks: only(alloc, tasks)?,
-        machine,
+        machine: machine(&options),
     })
 }
 
 /// What a file of version 7 holds, from after the size of its pages on.
 #[tactic(auto, unfolding(crate::specs::Versions::version_seven))]
-fn read_seven<'w, 'a, F: TheFile>(
-    alloc: Global,
-    part: Part<'w, 'a, F>,
-) -> Result<TraceDat<'a>, WindowError>
-    ensures { GivesIn F.file (contents_seen F.file.bytes) result (version_seven F.file.bytes (seen part.entry)) }
+fn read_seven<'a>(alloc: Global, file: &'a [u8], part: Part<'a>) -> Result<TraceDat<'a>, ReadError>
+    ensures { Gives contents_seen result (version_seven file.now (seen part.entry)) }
 {
     let plain = part.expected(PLAIN, Cause::Compressed)?;
     let (_release, pointer) = plain.text()?;
-    let options = chained_options(alloc, pointer)?;
-    let formats = formats(alloc, &options)?;
+    let options = chained_options(alloc, file, pointer)?;
+    let formats = formats(alloc, file, &options)?;
     let mut buffers = Vec::new(alloc);
-    put_buffers(&mut buffers, alloc, &options)?;
-    let symbols = list_texts(alloc, NameList::Symbols, &options)?;
-    let tasks = list_texts(alloc, NameList::Tasks, &options)?;
+    put_buffers(&mut buffers, alloc, file, &options)?;
+    let symbols = list_texts(alloc, file, NameList::Symbols, &options)?;
+    let tasks = list_texts(alloc, file, NameList::Tasks, &options)?;
     let counters = counters(alloc, &options)?;
-    let machine = machine(&options)?;
     Ok(TraceDat {
         formats,
         buffers,
         counters,
         symbols,
         tasks,
-        machine,
+        machine: machine(&options),
     })
 }
 
 /// The version at the front of a part, and what is after it.
 #[tactic(auto, unfolding(crate::specs::Versions::version_at))]
-fn version_of<'w, 'a, F: TheFile>(
-    part: Part<'w, 'a, F>,
-) -> Result<(Version, Part<'w, 'a, F>), WindowError>
-    ensures { GivesIn F.file (λ x. (x.0, seen x.1)) result (version_at (seen part.entry)) }
+fn version_of<'a>(part: Part<'a>) -> Result<(Version, Part<'a>), ReadError>
+    ensures { Gives (λ x. (x.0, seen x.1)) result (version_at (seen part.entry)) }
 {
-    let is_six = part.begins(b"6\0")?;
-    let is_seven = part.begins(b"7\0")?;
-    if is_six {
+    if part.begins(b"6\0") {
         Ok((Version::Six, part.behind(2)))
-    } else if is_seven {
+    } else if part.begins(b"7\0") {
         Ok((Version::Seven, part.behind(2)))
     } else {
         Err(part.fault(Cause::BadVersion))
@@ -195,74 +175,18 @@ pub fn resembles_trace_dat(file: &[u8]) -> bool
     places_differing(file, MAGIC) < 2
 }
 
-/// What a file of trace-cmd holds, from its beginning on.
+/// What a file of trace-cmd holds, in version 6 or 7.
 #[tactic(auto, unfolding(crate::specs::Versions::reading_of))]
-fn read_whole<'w, 'a, F: TheFile>(
-    alloc: Global,
-    whole: Part<'w, 'a, F>,
-) -> Result<TraceDat<'a>, WindowError>
-    requires { seen whole ≡ record { at = 0; bytes = F.file.bytes } }
-    ensures { GivesIn F.file (contents_seen F.file.bytes) result (reading_of F.file.bytes) }
+pub fn read_trace_dat(alloc: Global, file: &[u8]) -> Result<TraceDat<'_>, ReadError>
+    ensures { Gives contents_seen result (reading_of file.now) }
 {
+    let whole = Part { at: 0, bytes: file };
     let behind = whole.expected(MAGIC, Cause::NotTraceDat)?;
     let (version, behind) = version_of(behind)?;
     let behind = behind.expected(MACHINE, Cause::OtherMachine)?;
     let (page_size, behind) = behind.number32()?;
     match version {
-        Version::Six => read_six(alloc, page_size, behind),
-        Version::Seven => read_seven(alloc, behind),
-    }
-}
-
-/// What the file of which these are the windows holds.
-#[tactic(auto, using(crate::proofs::Ranges::whole_range))]
-fn read_known<'w, 'a, F: TheFile>(
-    alloc: Global,
-    windows: Windows<'w, 'a>,
-) -> Result<TraceDat<'a>, WindowError>
-    requires known { map window_seen windows.windows.now ≡ F.file.windows }
-    requires right { HaveBytesOf F.file.bytes F.file.windows }
-    requires whole { length F.file.bytes ≡ windows.length }
-    requires bounded { windows.length < 2 ^ 63 }
-    ensures { GivesIn F.file (contents_seen F.file.bytes) result (reading_of F.file.bytes) }
-{
-    let whole: Part<'w, 'a, F> = Part {
-        windows,
-        at: 0,
-        len: windows.length,
-        of: PhantomData,
-    };
-    read_whole(alloc, whole)
-}
-
-/// What a file of trace-cmd holds, in version 6 or 7, of which these are windows: bytes that are in memory. If more are
-/// wanted, the answer is `Unread`, and says which. They are never those of pages, of which only the places are
-/// answered. So reading goes on with a window more, until it answers what is read of the whole file.
-pub fn read_windows<'a>(
-    alloc: Global,
-    windows: Windows<'_, 'a>,
-) -> Result<TraceDat<'a>, WindowError>
-    ghost file: { List ℕ }
-    requires of { AreOf windows file }
-    requires bounded { windows.length < 2 ^ 63 }
-    ensures { GivesIn (known_by windows.entry file) (contents_seen file) result (reading_of file) }
-{
-    read_known::<Brand>(alloc, windows)
-}
-
-/// What a file of trace-cmd holds, in version 6 or 7.
-pub fn read_trace_dat(alloc: Global, file: &[u8]) -> Result<TraceDat<'_>, ReadError>
-    ensures { Gives (contents_seen file.now) result (reading_of file.now) }
-{
-    let whole = [Window { at: 0, bytes: file }];
-    let windows = Windows {
-        windows: &whole,
-        length: file.len(),
-    };
-    match read_windows(alloc, windows) {
-        Ok(dat) => Ok(dat),
-        Err(WindowError::NoMemory) => Err(ReadError::NoMemory),
-        Err(WindowError::Fault(fault)) => Err(ReadError::Fault(fault)),
-        Err(WindowError::Unread(_)) => unreachable!(),
+        Version::Six => read_six(alloc, file, page_size, behind),
+        Version::Seven => read_seven(alloc, file, behind),
     }
 }

@@ -1,5 +1,5 @@
 //! Files of trace-cmd that were cut short.
-ghost use Rattle.std.specs.Prelude.{◌≡◌, ℕ, List, map, IfOk};
+ghost use Rattle.std.specs.Prelude.{◌≡◌, map, IfOk};
 ghost use Rattle.std.specs.Option.{option_map, option_or};
 ghost use Rattle.trace_dat.specs.Contents.{recorded_seen, buffer_seen};
 ghost use Rattle.capture.specs.files.Files.{cut_among, cut_at, cut_in, texts_unless};
@@ -10,8 +10,8 @@ use trace_dat::kernel_texts::counters_of;
 use trace_dat::{Buffer, CpuPages, Fault};
 
 /// The first fault of the ranges of these CPUs, if the file ends before one of them does.
-fn cut_among(cpus: &[CpuPages]) -> Option<Fault>
-    ensures { (file : List ℕ) → result ≡ cut_among (map (recorded_seen file) cpus.now) }
+fn cut_among(cpus: &[CpuPages<'_>]) -> Option<Fault>
+    ensures { result ≡ cut_among (map recorded_seen cpus.now) }
 {
     for recorded in cpus {
         if recorded.fault.is_some() {
@@ -23,7 +23,7 @@ fn cut_among(cpus: &[CpuPages]) -> Option<Fault>
 
 /// The first such fault of the buffers of this name.
 pub(crate) fn cut_in(name: &[u8], buffers: &[Buffer<'_>]) -> Option<Fault>
-    ensures { (file : List ℕ) → result ≡ cut_in name.now (map (buffer_seen file) buffers.now) }
+    ensures { result ≡ cut_in name.now (map buffer_seen buffers.now) }
 {
     for buffer in buffers {
         if buffer.name == name {

@@ -42,7 +42,7 @@ pub(crate) enum Losses {
 
 /// What a file holds.
 fn parsed(alloc: Global, file: &[u8]) -> Result<TraceDat<'_>, InputFault>
-    ensures { Gives (contents_seen file.now) result (formatted (reading_of file.now)) }
+    ensures { Gives contents_seen result (formatted (reading_of file.now)) }
 {
     match read_trace_dat(alloc, file) {
         Ok(dat) => Ok(dat),
@@ -65,11 +65,10 @@ fn add_texts(
     ensures cpus { captured.new.cpus ≡ captured.old.cpus }
     ensures names { (known : List EventFormat) → HasEvents captured.old.names known
         → OnOk result (HasEvents captured.new.names (known ++ map format_seen dat.now.formats.items)) }
-    ensures others { (file : List ℕ) → OnOk result (texts_held captured.new.others.items
-        ≡ texts_held captured.old.others.items
-        ++ names_of_others name.now (map (buffer_seen file) dat.now.buffers.items)) }
-    ensures found { (file : List ℕ) → OnOk result (captured.new.found
-        ≡ captured.old.found || has_named name.now (map (buffer_seen file) dat.now.buffers.items)) }
+    ensures others { OnOk result (texts_held captured.new.others.items
+        ≡ texts_held captured.old.others.items ++ names_of_others name.now (map buffer_seen dat.now.buffers.items)) }
+    ensures found { OnOk result (captured.new.found
+        ≡ captured.old.found || has_named name.now (map buffer_seen dat.now.buffers.items)) }
     ensures wanted { captured.new.wanted ≡ captured.old.wanted }
     ensures tasks { (known : List (List ℕ)) → HasTasks captured.old.tasks known
         → OnOk result (HasTasks captured.new.tasks (if captured.old.wanted.tasks
@@ -141,7 +140,7 @@ pub(crate) fn add_dat(
         IsFileFault losses page name.now files (record { cpu = cpu; bytes = file.now }) fault) }
 {
     let dat = parsed(alloc, file)?;
-    let parts = parts_of(alloc, &dat, name, file)?;
+    let parts = parts_of(alloc, &dat, name, file.len())?;
     if !is_same_machine(&captured.machine, dat.machine) {
         return Err(InputFault::File(FileFault::OtherHost));
     }

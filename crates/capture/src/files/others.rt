@@ -1,5 +1,5 @@
 //! The trace buffers of a file of trace-cmd that aren't listed.
-ghost use Rattle.std.specs.Prelude.{◌≡◌, ℕ, List, ◌++◌, map, OnOk};
+ghost use Rattle.std.specs.Prelude.{◌≡◌, List, ◌++◌, map, OnOk};
 ghost use Rattle.trace_dat.specs.Contents.{buffer_seen};
 ghost use Rattle.capture.specs.files.Files.{is_other, names_of_others, has_named};
 ghost use Rattle.capture.specs.files.Captures.{texts_held};
@@ -9,7 +9,7 @@ use trace_dat::Buffer;
 
 /// Whether a buffer is an instance, and isn't listed.
 fn is_other(name: &[u8], buffer: &Buffer<'_>) -> bool
-    ensures { (file : List ℕ) → result ≡ is_other name.now (buffer_seen file buffer.now) }
+    ensures { result ≡ is_other name.now (buffer_seen buffer.now) }
 {
     !buffer.name.is_empty() && buffer.name != name
 }
@@ -21,8 +21,8 @@ pub(crate) fn add_others(
     name: &[u8],
     buffers: &[Buffer<'_>],
 ) -> Result<(), AllocError>
-    ensures { (file : List ℕ) → OnOk result (texts_held others.new.items
-        ≡ texts_held others.old.items ++ names_of_others name.now (map (buffer_seen file) buffers.now)) }
+    ensures { OnOk result (texts_held others.new.items
+        ≡ texts_held others.old.items ++ names_of_others name.now (map buffer_seen buffers.now)) }
 {
     for buffer in buffers {
         if is_other(name, buffer) {
@@ -34,7 +34,7 @@ pub(crate) fn add_others(
 
 /// Whether one of buffers has this name.
 pub(crate) fn has_named(name: &[u8], buffers: &[Buffer<'_>]) -> bool
-    ensures { (file : List ℕ) → result ≡ has_named name.now (map (buffer_seen file) buffers.now) }
+    ensures { result ≡ has_named name.now (map buffer_seen buffers.now) }
 {
     for buffer in buffers {
         if buffer.name == name {

@@ -19,11 +19,10 @@ const MAX_PAGE: u32 = 65536;
 fn put_part<'a>(
     parts: &mut Vec<CpuPart<'a>>,
     size: PageSize,
-    file: &'a [u8],
-    pages: &CpuPages,
+    pages: &CpuPages<'a>,
 ) -> Result<(), InputFault>
     ensures { Gives (λ _. map part_seen parts.new.items) result
-        (with_list (map part_seen parts.old.items) (part_of size.bytes (recorded_seen file.now pages.now))) }
+        (with_list (map part_seen parts.old.items) (part_of size.bytes (recorded_seen pages.now))) }
 {
     if pages.cpu >= MAX_CPUS {
         return Err(InputFault::File(FileFault::BadCpu(pages.cpu)));
@@ -31,7 +30,7 @@ fn put_part<'a>(
     parts.push(CpuPart {
         cpu: CpuId(pages.cpu),
         size,
-        pages: pages.bytes_of(file),
+        pages: pages.pages,
     })?;
     Ok(())
 }
@@ -40,27 +39,21 @@ fn put_part<'a>(
 fn put_parts<'a>(
     parts: &mut Vec<CpuPart<'a>>,
     size: PageSize,
-    file: &'a [u8],
-    cpus: &[CpuPages],
+    cpus: &[CpuPages<'a>],
 ) -> Result<(), InputFault>
     ensures { Gives (λ _. map part_seen parts.new.items) result
-        (with_list (map part_seen parts.old.items)
-        (each_of (part_of size.bytes) (map (recorded_seen file.now) cpus.now))) }
+        (with_list (map part_seen parts.old.items) (each_of (part_of size.bytes) (map recorded_seen cpus.now))) }
 {
     for recorded in cpus {
-        put_part(parts, size, file, recorded)?;
+        put_part(parts, size, recorded)?;
     }
     Ok(())
 }
 
 /// Puts the parts of a buffer that is listed to the others.
-fn put_listed<'a>(
-    parts: &mut Vec<CpuPart<'a>>,
-    file: &'a [u8],
-    buffer: &Buffer<'a>,
-) -> Result<(), InputFault>
+fn put_listed<'a>(parts: &mut Vec<CpuPart<'a>>, buffer: &Buffer<'a>) -> Result<(), InputFault>
     ensures { Gives (λ _. map part_seen parts.new.items) result
-        (with_list (map part_seen parts.old.items) (parts_of_listed (buffer_seen file.now buffer.now))) }
+        (with_list (map part_seen parts.old.items) (parts_of_listed (buffer_seen buffer.now))) }
 {
     if buffer.page_size < MIN_PAGE || MAX_PAGE < buffer.page_size {
         return Err(InputFault::File(FileFault::BadPage(buffer.page_size)));
@@ -68,38 +61,36 @@ fn put_listed<'a>(
     let size = PageSize {
         bytes: buffer.page_size,
     };
-    put_parts(parts, size, file, buffer.cpus.as_slice())
+    put_parts(parts, size, buffer.cpus.as_slice())
 }
 
 /// Puts the parts of a buffer to the others, if it has this name.
 fn put_buffer<'a>(
     parts: &mut Vec<CpuPart<'a>>,
     name: &[u8],
-    file: &'a [u8],
     buffer: &Buffer<'a>,
 ) -> Result<(), InputFault>
     ensures { Gives (λ _. map part_seen parts.new.items) result
-        (with_list (map part_seen parts.old.items) (parts_of_buffer name.now (buffer_seen file.now buffer.now))) }
+        (with_list (map part_seen parts.old.items) (parts_of_buffer name.now (buffer_seen buffer.now))) }
 {
     if buffer.name != name {
         return Ok(());
     }
-    put_listed(parts, file, buffer)
+    put_listed(parts, buffer)
 }
 
 /// Puts the parts of the buffer of this name, or of all that have it, to the others.
 fn put_buffers<'a>(
     parts: &mut Vec<CpuPart<'a>>,
     name: &[u8],
-    file: &'a [u8],
     buffers: &[Buffer<'a>],
 ) -> Result<(), InputFault>
     ensures { Gives (λ _. map part_seen parts.new.items) result
         (with_list (map part_seen parts.old.items)
-        (each_of (parts_of_buffer name.now) (map (buffer_seen file.now) buffers.now))) }
+        (each_of (parts_of_buffer name.now) (map buffer_seen buffers.now))) }
 {
     for buffer in buffers {
-        put_buffer(parts, name, file, buffer)?;
+        put_buffer(parts, name, buffer)?;
     }
     Ok(())
 }
@@ -119,19 +110,18 @@ fn check_length(len: usize, parts: &[CpuPart<'_>]) -> Result<(), FileFault>
     Ok(())
 }
 
-/// The parts of what a file, all of which is in memory, holds in the buffer of this name.
+/// The parts of what a file of this length holds in the buffer of this name.
 pub(crate) fn parts_of<'a>(
     alloc: Global,
     dat: &TraceDat<'a>,
     name: &[u8],
-    file: &'a [u8],
+    len: usize,
 ) -> Result<Vec<CpuPart<'a>>, InputFault>
-    ensures { Gives (λ parts. map part_seen parts.items) result
-        (parts_in name.now (length file.now) (contents_seen file.now dat.now)) }
+    ensures { Gives (λ parts. map part_seen parts.items) result (parts_in name.now len (contents_seen dat.now)) }
 {
     let mut parts = Vec::new(alloc);
-    put_buffers(&mut parts, name, file, dat.buffers.as_slice())?;
-    match check_length(file.len(), parts.as_slice()) {
+    put_buffers(&mut parts, name, dat.buffers.as_slice())?;
+    match check_length(len, parts.as_slice()) {
         Ok(()) => Ok(parts),
         Err(fault) => Err(InputFault::File(fault)),
     }

@@ -51,14 +51,9 @@ fn put_fault(out: &mut String, fault: Fault) -> Result<(), NoMemory> {
 }
 
 /// Puts the pages of a CPU, and their fault if the file ends before they do.
-fn put_pages(
-    out: &mut String,
-    alloc: Global,
-    file: &[u8],
-    pages: &CpuPages,
-) -> Result<(), NoMemory> {
+fn put_pages(out: &mut String, alloc: Global, pages: &CpuPages<'_>) -> Result<(), NoMemory> {
     write!(out, "\n  pages {} ", pages.cpu)?;
-    put_bytes(out, alloc, pages.bytes_of(file))?;
+    put_bytes(out, alloc, pages.pages)?;
     if let Some(fault) = pages.fault {
         out.push(' ')?;
         put_fault(out, fault)?;
@@ -67,17 +62,12 @@ fn put_pages(
 }
 
 /// Puts a buffer, and the pages of each CPU.
-fn put_buffer(
-    out: &mut String,
-    alloc: Global,
-    file: &[u8],
-    buffer: &Buffer<'_>,
-) -> Result<(), NoMemory> {
+fn put_buffer(out: &mut String, alloc: Global, buffer: &Buffer<'_>) -> Result<(), NoMemory> {
     out.push_str("\n  buffer ")?;
     put_bytes(out, alloc, buffer.name)?;
     write!(out, " {}", buffer.page_size)?;
     for cpu in &buffer.cpus {
-        put_pages(out, alloc, file, cpu)?;
+        put_pages(out, alloc, cpu)?;
     }
     Ok(())
 }
@@ -93,16 +83,11 @@ fn put_counters(out: &mut String, alloc: Global, text: &[u8]) -> Result<(), NoMe
     Ok(())
 }
 
-/// Puts what a file holds, of which these are the contents.
-fn put_contents(
-    out: &mut String,
-    alloc: Global,
-    file: &[u8],
-    contents: &TraceDat<'_>,
-) -> Result<(), NoMemory> {
+/// Puts what a file holds.
+fn put_contents(out: &mut String, alloc: Global, contents: &TraceDat<'_>) -> Result<(), NoMemory> {
     put_formats(out, alloc, &contents.formats)?;
     for buffer in &contents.buffers {
-        put_buffer(out, alloc, file, buffer)?;
+        put_buffer(out, alloc, buffer)?;
     }
     for text in &contents.counters {
         put_counters(out, alloc, text)?;
@@ -113,7 +98,7 @@ fn put_contents(
 /// Puts what a file holds, or its first fault.
 fn put_file(out: &mut String, alloc: Global, file: &[u8]) -> Result<(), NoMemory> {
     match read_trace_dat(alloc, file) {
-        Ok(contents) => put_contents(out, alloc, file, &contents),
+        Ok(contents) => put_contents(out, alloc, &contents),
         Err(ReadError::Fault(fault)) => {
             out.push_str("\n  ")?;
             put_fault(out, fault)

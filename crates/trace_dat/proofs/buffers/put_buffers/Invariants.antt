@@ -6,8 +6,7 @@ use Rattle.trace_dat.specs.Buffers.{buffer_of}
 use Rattle.trace_dat.proofs.buffers.put_buffers.Given as goal
 
 abbrev pub invariant-loop-option : goal.invariant-loop-option
-invariant-loop-option g l =
-    with_list (map (buffer_seen g.F.TheFile.file.bytes) l.buffers.items)
-    (each_of (buffer_of g.F.TheFile.file.bytes) (map option_seen (drop l.option-index l.options)))
-    ≡ with_list (map (buffer_seen g.F.TheFile.file.bytes) l.fn.buffers.items) (each_of
-    (buffer_of g.F.TheFile.file.bytes) (map option_seen l.options))
+invariant-loop-option l =
+    with_list (map buffer_seen l.buffers.items)
+    (each_of (buffer_of l.file) (map option_seen (drop l.option-index l.options)))
+    ≡ with_list (map buffer_seen l.fn.buffers.items) (each_of (buffer_of l.file) (map option_seen l.options))

@@ -6,9 +6,8 @@ use Rattle.trace_dat.specs.Buffers.{instance_of}
 use Rattle.trace_dat.proofs.buffers.put_instances.Given as goal
 
 abbrev pub invariant-loop-option : goal.invariant-loop-option
-invariant-loop-option g l =
-    with_list (map (buffer_seen g.F.TheFile.file.bytes) l.buffers.items)
-    (each_of (instance_of g.F.TheFile.file.bytes l.shape.page_size l.shape.cpus) (map option_seen
-    (drop l.option-index l.options)))
-    ≡ with_list (map (buffer_seen g.F.TheFile.file.bytes) l.fn.buffers.items)
-    (each_of (instance_of g.F.TheFile.file.bytes l.shape.page_size l.shape.cpus) (map option_seen l.options))
+invariant-loop-option l =
+    with_list (map buffer_seen l.buffers.items)
+    (each_of (instance_of l.file l.shape.page_size l.shape.cpus) (map option_seen (drop l.option-index l.options)))
+    ≡ with_list (map buffer_seen l.fn.buffers.items)
+    (each_of (instance_of l.file l.shape.page_size l.shape.cpus) (map option_seen l.options))

@@ -6,7 +6,7 @@ use Rattle.trace_dat.specs.Sections.{formats_of}
 use Rattle.trace_dat.proofs.sections.formats.Given as goal
 
 abbrev pub invariant-loop-option : goal.invariant-loop-option
-invariant-loop-option g l =
+invariant-loop-option l =
     with_list (map format_seen l.formats.items)
-    (each_of (formats_of g.F.TheFile.file.bytes) (map option_seen (drop l.option-index l.options)))
-    ≡ each_of (formats_of g.F.TheFile.file.bytes) (map option_seen l.options)
+    (each_of (formats_of l.file) (map option_seen (drop l.option-index l.options)))
+    ≡ each_of (formats_of l.file) (map option_seen l.options)

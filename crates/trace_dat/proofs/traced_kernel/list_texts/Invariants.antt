@@ -5,7 +5,7 @@ use Rattle.trace_dat.specs.TracedKernel.{list_of}
 use Rattle.trace_dat.proofs.traced_kernel.list_texts.Given as goal
 
 abbrev pub invariant-loop-option : goal.invariant-loop-option
-invariant-loop-option g l =
+invariant-loop-option l =
     with_list (map (λ text. text.now) l.texts.items)
-    (each_of (list_of l.list g.F.TheFile.file.bytes) (map option_seen (drop l.option-index l.options)))
-    ≡ each_of (list_of l.list g.F.TheFile.file.bytes) (map option_seen l.options)
+    (each_of (list_of l.list l.file) (map option_seen (drop l.option-index l.options)))
+    ≡ each_of (list_of l.list l.file) (map option_seen l.options)

@@ -42,13 +42,13 @@ pub returns-in_err-add_parts-clause-fault : goal.returns-in_err-add_parts-clause
 returns-in_err-add_parts-clause-fault c = λ page cpu files alone was.
     let name : List ℕ = c.args.name.now in
     let file : File = record { cpu = cpu; bytes = c.args.file.now } in
-    let contents : Contents = contents_seen c.args.file.now c.in_ok-dat.dat in
     let own : List ModelPart = map part_seen c.in_ok-parts.parts.items in
     let is =
-    parts-of-dat page name file contents own c.requires.dat c.in_ok-dat.ensures c.in_ok-parts.ensures in
+    parts-of-dat page name file (contents_seen c.in_ok-dat.dat) own c.requires.dat c.in_ok-dat.ensures
+    c.in_ok-parts.ensures in
     let same =
     ap₂ is_same_machine (sym was.machine_is)
-    (held-dat (λ (contents : Contents). contents.machine) None file contents c.in_ok-dat.ensures)
+    (held-dat (λ (contents : Contents). contents.machine) None file (contents_seen c.in_ok-dat.dat) c.in_ok-dat.ensures)
     ∙ sym c.is_same_machine.ensures
     ∙ (let here : c.is_same_machine.result ≡ true = grind (arith, common_steps) in here) in
     let read : AreCpusRead unknown was.parts c.as_mut_slice-cpus.result.now =
@@ -81,22 +81,21 @@ pub returns-in_err-settle_by-clause-fault : goal.returns-in_err-settle_by-clause
 returns-in_err-settle_by-clause-fault c = λ page cpu files alone was.
     let name : List ℕ = c.args.name.now in
     let file : File = record { cpu = cpu; bytes = c.args.file.now } in
-    let contents : Contents = contents_seen c.args.file.now c.in_ok-dat.dat in
     let own : List ModelPart = map part_seen c.in_ok-parts.parts.items in
     let is =
-    parts-of-dat page name file contents own c.requires.dat c.in_ok-dat.ensures c.in_ok-parts.ensures in
+    parts-of-dat page name file (contents_seen c.in_ok-dat.dat) own c.requires.dat c.in_ok-dat.ensures
+    c.in_ok-parts.ensures in
     let same =
     ap₂ is_same_machine (sym was.machine_is)
-    (held-dat (λ (contents : Contents). contents.machine) None file contents c.in_ok-dat.ensures)
+    (held-dat (λ (contents : Contents). contents.machine) None file (contents_seen c.in_ok-dat.dat) c.in_ok-dat.ensures)
     ∙ sym c.is_same_machine.ensures
     ∙ (let here : c.is_same_machine.result ≡ true = grind (arith, common_steps) in here) in
+    let contents : Contents = contents_seen c.in_ok-dat.dat in
     let texts : map (λ text. text.now) c.as_slice-4.result.now ≡ counters_of name file =
     ap (map (λ text. text.now)) c.as_slice-4.ensures.value ∙ c.in_ok-counters.ensures
     ∙ ap (λ (ts : List (Bor (List ℕ))). texts_unless c.cut_in-cut.result name (map (λ text. text.now) ts))
     c.as_slice.ensures.value
-    ∙ ap (λ (cut : Option Fault). texts_unless cut name contents.counters)
-    (c.cut_in-cut.ensures c.args.file.now
-    ∙ ap (λ (bs : List Buffer). cut_in name (map (buffer_seen c.args.file.now) bs)) c.deref.ensures.value)
+    ∙ ap (λ (cut : Option Fault). texts_unless cut name contents.counters) (c.cut_in-cut.ensures ∙ ap (λ (bs : List Buffer). cut_in name (map buffer_seen bs)) c.deref.ensures.value)
     ∙ sym
     (held-dat (λ (contents : Contents). texts_unless (cut_in name contents.buffers) name contents.counters) [] file
     contents c.in_ok-dat.ensures) in
@@ -121,40 +120,39 @@ pub returns-clause-read : goal.returns-clause-read
 returns-clause-read c = λ page cpu files alone count was.
     let name : List ℕ = c.args.name.now in
     let file : File = record { cpu = cpu; bytes = c.args.file.now } in
-    let contents : Contents = contents_seen c.args.file.now c.in_ok-dat.dat in
     let own : List ModelPart = map part_seen c.in_ok-parts.parts.items in
     let is =
-    parts-of-dat page name file contents own c.requires.dat c.in_ok-dat.ensures c.in_ok-parts.ensures in
+    parts-of-dat page name file (contents_seen c.in_ok-dat.dat) own c.requires.dat c.in_ok-dat.ensures
+    c.in_ok-parts.ensures in
     let same =
     ap₂ is_same_machine (sym was.machine_is)
-    (held-dat (λ (contents : Contents). contents.machine) None file contents c.in_ok-dat.ensures)
+    (held-dat (λ (contents : Contents). contents.machine) None file (contents_seen c.in_ok-dat.dat) c.in_ok-dat.ensures)
     ∙ sym c.is_same_machine.ensures
     ∙ (let here : c.is_same_machine.result ≡ true = grind (arith, common_steps) in here) in
+    let contents : Contents = contents_seen c.in_ok-dat.dat in
     let texts : map (λ text. text.now) c.as_slice-4.result.now ≡ counters_of name file =
     ap (map (λ text. text.now)) c.as_slice-4.ensures.value ∙ c.in_ok-counters.ensures
     ∙ ap (λ (ts : List (Bor (List ℕ))). texts_unless c.cut_in-cut.result name (map (λ text. text.now) ts))
     c.as_slice.ensures.value
-    ∙ ap (λ (cut : Option Fault). texts_unless cut name contents.counters)
-    (c.cut_in-cut.ensures c.args.file.now
-    ∙ ap (λ (bs : List Buffer). cut_in name (map (buffer_seen c.args.file.now) bs)) c.deref.ensures.value)
+    ∙ ap (λ (cut : Option Fault). texts_unless cut name contents.counters) (c.cut_in-cut.ensures ∙ ap (λ (bs : List Buffer). cut_in name (map buffer_seen bs)) c.deref.ensures.value)
     ∙ sym
     (held-dat (λ (contents : Contents). texts_unless (cut_in name contents.buffers) name contents.counters) [] file
     contents c.in_ok-dat.ensures) in
     let formats =
-    held-dat (λ (contents : Contents). contents.formats) [] file contents c.in_ok-dat.ensures in
+    held-dat (λ (contents : Contents). contents.formats) [] file (contents_seen c.in_ok-dat.dat) c.in_ok-dat.ensures in
     let others =
-    held-dat (λ (contents : Contents). names_of_others name contents.buffers) [] file contents
+    held-dat (λ (contents : Contents). names_of_others name contents.buffers) [] file (contents_seen c.in_ok-dat.dat)
     c.in_ok-dat.ensures in
     let wanted : Wanted = c.args.captured.now.wanted in
     let tasks =
-    held-dat (λ (contents : Contents). contents.tasks) [] file contents c.in_ok-dat.ensures in
+    held-dat (λ (contents : Contents). contents.tasks) [] file (contents_seen c.in_ok-dat.dat) c.in_ok-dat.ensures in
     let symbols =
-    held-dat (λ (contents : Contents). contents.symbols) [] file contents c.in_ok-dat.ensures in
+    held-dat (λ (contents : Contents). contents.symbols) [] file (contents_seen c.in_ok-dat.dat) c.in_ok-dat.ensures in
     let machine =
-    held-dat (λ (contents : Contents). contents.machine) None file contents
+    held-dat (λ (contents : Contents). contents.machine) None file (contents_seen c.in_ok-dat.dat)
     c.in_ok-dat.ensures in
     let found =
-    held-dat (λ (contents : Contents). has_named name contents.buffers) false file contents
+    held-dat (λ (contents : Contents). has_named name contents.buffers) false file (contents_seen c.in_ok-dat.dat)
     c.in_ok-dat.ensures in
     let read : AreCpusRead unknown was.parts c.as_mut_slice-cpus.result.now =
     subst (AreCpusRead unknown was.parts) (sym c.as_mut_slice-cpus.ensures.value)
@@ -181,9 +179,9 @@ returns-clause-read c = λ page cpu files alone count was.
     c.as_slice-3.ensures.value (c.in_ok-settle_by.ensures.settled settled))))
     (subst (λ (fs : List EventFormat). HasEvents c.add_texts.new.captured.names (all_formats files ++ fs)) (sym formats)
     (c.in_ok-add_texts.ensures.names (all_formats files) was.names_are))
-    (c.in_ok-add_texts.ensures.others c.args.file.now
+    (c.in_ok-add_texts.ensures.others
     ∙ ap (λ (ns : List (List ℕ)). texts_held c.args.captured.now.others.items ++ ns) (sym others))
-    (c.in_ok-add_texts.ensures.found c.args.file.now ∙ ap (λ (b : Bool). c.args.captured.now.found || b) (sym found))
+    (c.in_ok-add_texts.ensures.found ∙ ap (λ (b : Bool). c.args.captured.now.found || b) (sym found))
     c.add_texts.ensures.wanted
     (subst (λ (ts : List (List ℕ)). HasTasks c.add_texts.new.captured.tasks
     (if wanted.tasks then if_wanted wanted.tasks (all_lines tasks_of files) ++ lines_of ts
@@ -198,9 +196,8 @@ returns-clause-read c = λ page cpu files alone count was.
     count
     (c.in_ok-add_texts.ensures.cut
     ∙ ap (λ (cut : Option Fault). option_or c.args.captured.now.cut (option_map (cut_at c.args.index) cut))
-    (c.cut_in-cut.ensures c.args.file.now
-    ∙ ap (λ (bs : List Buffer). cut_in name (map (buffer_seen c.args.file.now) bs)) c.deref.ensures.value
+    (c.cut_in-cut.ensures ∙ ap (λ (bs : List Buffer). cut_in name (map buffer_seen bs)) c.deref.ensures.value
     ∙ sym
-    (held-dat (λ (contents : Contents). cut_in name contents.buffers) None file contents
+    (held-dat (λ (contents : Contents). cut_in name contents.buffers) None file (contents_seen c.in_ok-dat.dat)
     c.in_ok-dat.ensures)))
     same

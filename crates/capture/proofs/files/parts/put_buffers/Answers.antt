@@ -9,7 +9,7 @@ use Rattle.capture.proofs.files.parts.put_buffers.Goals as goal
 pub returns-in_err-put_buffer : goal.returns-in_err-put_buffer
 returns-in_err-put_buffer c =
     let p = err_from_is_err_and c.from_residual.result c.from_residual.ensures.1 in
-    rw (p.1, p.2) (each_fails (buffer_seen c.args.file.now) (parts_of_buffer c.args.name.now)
+    rw (p.1, p.2) (each_fails buffer_seen (parts_of_buffer c.args.name.now)
     (map part_seen c.loop-buffer.parts.items) c.args.buffers.now
     c.loop-buffer.buffer-index c.buffer-item.result c.in_err-put_buffer.field-0.0 _ c.loop-buffer-test.true
     c.buffer-item.is
@@ -17,7 +17,7 @@ returns-in_err-put_buffer c =
 
 pub loop-buffer-preserved : goal.loop-buffer-preserved
 loop-buffer-preserved c =
-    each_goes_on (buffer_seen c.args.file.now) (parts_of_buffer c.args.name.now)
+    each_goes_on buffer_seen (parts_of_buffer c.args.name.now)
     (map part_seen c.loop-buffer.parts.items) _ c.args.buffers.now
     c.loop-buffer.buffer-index c.buffer-item.result _ c.loop-buffer-test.true c.buffer-item.is
     c.in_ok-put_buffer.ensures
@@ -25,6 +25,6 @@ loop-buffer-preserved c =
 
 pub returns : goal.returns
 returns c =
-    each_is_done (buffer_seen c.args.file.now) (parts_of_buffer c.args.name.now)
+    each_is_done buffer_seen (parts_of_buffer c.args.name.now)
     (map part_seen c.loop-buffer.parts.items) c.args.buffers.now
     c.loop-buffer.buffer-index _ c.loop-buffer-test.false c.loop-buffer.invariant

@@ -6,6 +6,6 @@ use Rattle.capture.proofs.files.parts.put_buffers.Given as goal
 
 abbrev pub invariant-loop-buffer : goal.invariant-loop-buffer
 invariant-loop-buffer l =
-    with_list (map part_seen l.parts.items) (each_of (parts_of_buffer l.name) (map (buffer_seen l.file)
+    with_list (map part_seen l.parts.items) (each_of (parts_of_buffer l.name) (map buffer_seen
     (drop l.buffer-index l.buffers)))
-    ≡ with_list (map part_seen l.fn.parts.items) (each_of (parts_of_buffer l.name) (map (buffer_seen l.file) l.buffers))
+    ≡ with_list (map part_seen l.fn.parts.items) (each_of (parts_of_buffer l.name) (map buffer_seen l.buffers))

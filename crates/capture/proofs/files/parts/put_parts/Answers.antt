@@ -10,20 +10,19 @@ pub returns-in_err-put_part : goal.returns-in_err-put_part
 returns-in_err-put_part c =
     let p = err_from_is_err_and c.from_residual.result c.from_residual.ensures.1 in
     rw (p.1, p.2)
-    (each_fails_at (recorded_seen c.args.file.now) (part_of c.args.size.bytes)
-    (map part_seen c.loop-recorded.parts.items) c.args.cpus.now
+    (each_fails_at recorded_seen (part_of c.args.size.bytes) (map part_seen c.loop-recorded.parts.items)
+    c.args.cpus.now
     c.loop-recorded.recorded-index _ c.in_err-put_part.field-0.0 _ c.loop-recorded-test.true
     c.in_err-put_part.ensures c.loop-recorded.invariant)
 
 pub loop-recorded-preserved : goal.loop-recorded-preserved
 loop-recorded-preserved c =
-    each_goes_on_at (recorded_seen c.args.file.now) (part_of c.args.size.bytes)
-    (map part_seen c.loop-recorded.parts.items) _ c.args.cpus.now
+    each_goes_on_at recorded_seen (part_of c.args.size.bytes) (map part_seen c.loop-recorded.parts.items) _
+    c.args.cpus.now
     c.loop-recorded.recorded-index _ _ c.loop-recorded-test.true c.in_ok-put_part.ensures
     c.loop-recorded.invariant
 
 pub returns : goal.returns
 returns c =
-    each_is_done (recorded_seen c.args.file.now) (part_of c.args.size.bytes)
-    (map part_seen c.loop-recorded.parts.items) c.args.cpus.now
+    each_is_done recorded_seen (part_of c.args.size.bytes) (map part_seen c.loop-recorded.parts.items) c.args.cpus.now
     c.loop-recorded.recorded-index _ c.loop-recorded-test.false c.loop-recorded.invariant

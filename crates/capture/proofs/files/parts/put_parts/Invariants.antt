@@ -7,5 +7,5 @@ use Rattle.capture.proofs.files.parts.put_parts.Given as goal
 abbrev pub invariant-loop-recorded : goal.invariant-loop-recorded
 invariant-loop-recorded l =
     with_list (map part_seen l.parts.items)
-    (each_of (part_of l.size.bytes) (map (recorded_seen l.file) (drop l.recorded-index l.cpus)))
-    ≡ with_list (map part_seen l.fn.parts.items) (each_of (part_of l.size.bytes) (map (recorded_seen l.file) l.cpus))
+    (each_of (part_of l.size.bytes) (map recorded_seen (drop l.recorded-index l.cpus)))
+    ≡ with_list (map part_seen l.fn.parts.items) (each_of (part_of l.size.bytes) (map recorded_seen l.cpus))
